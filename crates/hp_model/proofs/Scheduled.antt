@@ -1,0 +1,73 @@
+-- The entries that the schedule makes are a run.
+use Rattle.std.proofs.Common.{◌≡◌, ℕ, zero, suc, true, ◌+◌, List, [], ◌∷◌, ◌++◌, Option, Some, None, option_and_then, IsSome, refl, sym, ap, subst, ◌∙◌, arith}
+use Rattle.std.proofs.lemmas.Option.{same_Some}
+use Rattle.std.proofs.lemmas.Bool.Decides.{nat_tests}
+use Rattle.hp_model.specs.declared.platforms.Platform.{Platform}
+use Rattle.hp_model.specs.declared.accesses.Answer.{Answer}
+use Rattle.hp_model.specs.declared.accesses.Answer.TheVariants.{Quiet, Value}
+use Rattle.hp_model.specs.declared.entries.Actor.{Actor}
+use Rattle.hp_model.specs.declared.entries.Event.{Event}
+use Rattle.hp_model.specs.declared.entries.Entry.{Entry}
+use Rattle.hp_model.specs.declared.files.File.{File}
+use Rattle.hp_model.specs.Step.{State, After, step}
+use Rattle.hp_model.specs.Runs.{same_answer, same_address, address_of, accept, run_on, run_from, run}
+use Rattle.hp_model.specs.Schedule.{Scene, Made, makes_none, both_make, made_by, event_of, entry_of, act, act_all, actors_of, turns_from, scheduled, scene_start}
+
+pub same_answer-refl : (a : Answer) → same_answer a a ≡ true
+same_answer-refl Quiet = refl
+same_answer-refl (Value v) = grind (arith, nat_tests)
+
+pub same_address-refl : (x : Option ℕ) → same_address x x ≡ true
+same_address-refl None = refl
+same_address-refl (Some v) = grind (arith, nat_tests)
+
+-- a run of two parts, where the first part leads to t
+pub run_from-append : (p : Platform) (es fs : List Entry) (s t : State) →
+    run_from p s es ≡ Some t → run_from p s (es ++ fs) ≡ run_from p t fs
+unfolding run_from
+run_from-append p [] fs s t e = ap (λ u. run_from p u fs) (same_Some s t e)
+run_from-append p (x ∷ es) fs s t e = onward (run_on p s x) (λ u. run_from-append p es fs u t) e
+  where
+    onward : (n : Option State) → ((u : State) → run_from p u es ≡ Some t → run_from p u (es ++ fs) ≡ run_from p t fs) →
+        option_and_then (λ u. run_from p u es) n ≡ Some t → option_and_then (λ u. run_from p u (es ++ fs)) n ≡ run_from p t fs
+    onward None more e = cc
+    onward (Some u) more e = more u e
+
+-- a part of the schedule is a run from the state of its scene to that of the scene after it
+pub record IsRun (p : Platform) (w : Scene) (m : Made) : Type 0 where
+  pub runs : run_from p w.state m.entries ≡ Some m.scene.state
+
+accept-own : (s : State) (a : After) (w : Scene) (e : Event) → accept (entry_of w e a) (address_of w.state e) a ≡ Some a.state
+accept-own s a w e = rw (same_answer-refl, same_address-refl) refl
+
+IsRun-act : (p : Platform) (w : Scene) (a : Actor) → IsRun p w (act p w a)
+unfolding act run_from run_on
+IsRun-act p w a = by_step (step p w.state (event_of w a)) refl
+  where
+    by_step : (n : Option After) → step p w.state (event_of w a) ≡ n → IsRun p w (made_by w a n)
+    by_step None e = record { runs = refl }
+    by_step (Some after) e = record { runs = rw (e, accept-own w.state after w (event_of w a)) refl }
+
+IsRun-both : (p : Platform) (w : Scene) (m n : Made) → IsRun p w m → IsRun p m.scene n → IsRun p w (both_make m n)
+IsRun-both p w m n first second = record { runs = run_from-append p m.entries n.entries w.state m.scene.state first.runs ∙ second.runs }
+
+IsRun-none : (p : Platform) (w : Scene) → IsRun p w (makes_none w)
+unfolding run_from
+IsRun-none p w = record { runs = refl }
+
+IsRun-all : (p : Platform) (actors : List Actor) (w : Scene) → IsRun p w (act_all p w actors)
+unfolding act_all
+IsRun-all p [] w = IsRun-none p w
+IsRun-all p (a ∷ as') w = IsRun-both p w (act p w a) (act_all p (act p w a).scene as') (IsRun-act p w a) (IsRun-all p as' (act p w a).scene)
+
+IsRun-turns : (f : File) (n turn : ℕ) (w : Scene) → IsRun f.platform w (turns_from f n turn w)
+unfolding turns_from
+IsRun-turns f zero turn w = IsRun-none f.platform w
+IsRun-turns f (suc n) turn w =
+    IsRun-both f.platform w (act_all f.platform w (actors_of f turn)) (turns_from f n (turn + 1) (act_all f.platform w (actors_of f turn)).scene)
+    (IsRun-all f.platform (actors_of f turn) w) (IsRun-turns f n (turn + 1) (act_all f.platform w (actors_of f turn)).scene)
+
+-- the machine makes each entry of the schedule, one after another
+pub scheduled_runs : (f : File) → IsSome (run f.platform (scheduled f))
+unfolding run scheduled
+scheduled_runs f = subst (λ (r : Option State). IsSome r) (sym (IsRun-turns f f.platform.turns 0 (scene_start f)).runs) refl

@@ -1,0 +1,59 @@
+-- Runs: entries, one step each, with the answer and the instruction address that the step has.
+use Rattle.std.specs.Prelude.{ℕ, Bool, true, false, ◌&&◌, ◌==◌, List, [], ◌∷◌, Option, Some, None, option_and_then, if◌then◌else◌}
+use Rattle.hp_model.specs.declared.platforms.Platform.{Platform}
+use Rattle.hp_model.specs.declared.processors.Mode.{Mode}
+use Rattle.hp_model.specs.declared.processors.Mode.TheVariants.{Wait, Running, Halted, Smm}
+use Rattle.hp_model.specs.declared.processors.Cpu.{Cpu}
+use Rattle.hp_model.specs.declared.accesses.Answer.{Answer}
+use Rattle.hp_model.specs.declared.accesses.Answer.TheVariants.{Quiet, Value}
+use Rattle.hp_model.specs.declared.entries.Event.{Event}
+use Rattle.hp_model.specs.declared.entries.Event.TheVariants.{Insert, Remove, Do, TakeSmi, TakeInit, Resume, Tell}
+use Rattle.hp_model.specs.declared.entries.Entry.{Entry}
+use Rattle.hp_model.specs.Step.{State, After, at, step, start}
+
+abbrev pub same_answer : Answer → Answer → Bool
+same_answer Quiet Quiet = true
+same_answer Quiet (Value v) = false
+same_answer (Value v) Quiet = false
+same_answer (Value v) (Value w) = v == w
+
+abbrev pub same_address : Option ℕ → Option ℕ → Bool
+same_address None None = true
+same_address None (Some y) = false
+same_address (Some x) None = false
+same_address (Some x) (Some y) = x == y
+
+-- the instruction address in SMM
+abbrev pub address_in : Mode → Option ℕ
+address_in Wait = None
+address_in (Running page) = None
+address_in (Halted page) = None
+address_in (Smm address) = Some address
+
+abbrev pub smm_address : Cpu → Option ℕ
+smm_address c = if c.present then address_in c.mode else None
+
+-- the instruction address that the actor has before the step; the actor of a told outcome is processor 0
+abbrev pub address_of : State → Event → Option ℕ
+address_of s (Insert k) = None
+address_of s (Remove k) = None
+address_of s (Do k a) = smm_address (at s k)
+address_of s (TakeSmi k) = smm_address (at s k)
+address_of s (TakeInit k) = smm_address (at s k)
+address_of s (Resume k) = smm_address (at s k)
+address_of s (Tell o) = smm_address (at s 0)
+
+-- the entry has the step's answer and address
+abbrev pub accept : Entry → Option ℕ → After → Option State
+accept e address a = if same_answer a.answer e.answer && same_address address e.at then Some a.state else None
+
+unfoldable pub run_on : Platform → State → Entry → Option State
+run_on p s e = option_and_then (accept e (address_of s e.event)) (step p s e.event)
+
+unfoldable pub run_from : Platform → State → List Entry → Option State
+run_from p s [] = Some s
+run_from p s (e ∷ es) = option_and_then (λ t. run_from p t es) (run_on p s e)
+
+-- the state that the entries lead to; none where they are no run
+unfoldable pub run : Platform → List Entry → Option State
+run p es = run_from p (start p) es

@@ -1,0 +1,113 @@
+-- The schedule of `run` (own rules): whose turn it is, and what it does.
+use Rattle.std.specs.Prelude.{ℕ, zero, suc, Bool, ◌&&◌, ◌==◌, nat_le, ◌+◌, ◌%◌, List, [], ◌∷◌, ◌++◌, map, filter, Option, Some, None, slice_index_or, slice_set, if◌then◌else◌}
+use Rattle.std.specs.List.{list_any}
+use Rattle.hp_model.specs.declared.platforms.Platform.{Platform}
+use Rattle.hp_model.specs.declared.accesses.Access.{Access}
+use Rattle.hp_model.specs.declared.accesses.Access.TheVariants.{Halt}
+use Rattle.hp_model.specs.declared.entries.Actor.{Actor}
+use Rattle.hp_model.specs.declared.entries.Actor.TheVariants as actor
+use Rattle.hp_model.specs.declared.entries.Event.{Event}
+use Rattle.hp_model.specs.declared.entries.Event.TheVariants as event
+use Rattle.hp_model.specs.declared.entries.Entry.{Entry}
+use Rattle.hp_model.specs.declared.files.Stall.{Stall}
+use Rattle.hp_model.specs.declared.files.VoiceKind.{VoiceKind}
+use Rattle.hp_model.specs.declared.files.VoiceKind.TheVariants.{Script, Os, Pen, Seeded, Handed}
+use Rattle.hp_model.specs.declared.files.File.{File}
+use Rattle.hp_model.specs.Platform.{count_of}
+use Rattle.hp_model.specs.Step.{State, After, step, start}
+use Rattle.hp_model.specs.Runs.{address_of}
+
+-- what a processor still says: the steps of its script that are left, and halts after them.
+-- The other kinds aren't built yet: their files are refused, or they halt.
+pub data Voice : Type 0 where
+  script : List Access → Voice
+
+abbrev pub voice_of : VoiceKind → Voice
+voice_of (Script steps) = script steps
+voice_of Os = script []
+voice_of Pen = script []
+voice_of (Seeded seed) = script []
+voice_of Handed = script []
+
+-- the access that a voice says, and what is left of it
+pub record Said : Type 0 where
+  pub access : Access
+  pub voice : Voice
+
+abbrev pub says : Voice → Said
+says (script []) = record { access = Halt; voice = script [] }
+says (script (a ∷ as')) = record { access = a; voice = script as' }
+
+-- the machine and the voices, between two steps
+pub record Scene : Type 0 where
+  pub state : State
+  pub voices : List Voice
+
+abbrev pub voice_at : Scene → ℕ → Voice
+voice_at w k = slice_index_or w.voices k (script [])
+
+abbrev pub scene_start : File → Scene
+scene_start f = record { state = start f.platform; voices = map voice_of f.voices }
+
+-- the entries that a part of the schedule makes, and the scene after it
+pub record Made : Type 0 where
+  pub entries : List Entry
+  pub scene : Scene
+
+abbrev pub makes_none : Scene → Made
+makes_none w = record { entries = []; scene = w }
+
+-- what an actor would do: the host its event, a processor what its voice says
+abbrev pub event_of : Scene → Actor → Event
+event_of w (actor.Insert k) = event.Insert k
+event_of w (actor.Remove k) = event.Remove k
+event_of w (actor.Cpu k) = event.Do k (says (voice_at w k)).access
+
+-- the voice that was asked keeps the rest
+abbrev pub voices_after : Scene → Actor → List Voice
+voices_after w (actor.Insert k) = w.voices
+voices_after w (actor.Remove k) = w.voices
+voices_after w (actor.Cpu k) = slice_set w.voices k (says (voice_at w k)).voice
+
+abbrev pub entry_of : Scene → Event → After → Entry
+entry_of w e after = record { event = e; at = address_of w.state e; answer = after.answer }
+
+-- an actor's event makes an entry where the machine has it as a step, and else nothing
+abbrev pub made_by : Scene → Actor → Option After → Made
+made_by w a None = makes_none w
+made_by w a (Some after) = record { entries = entry_of w (event_of w a) after ∷ []; scene = record { state = after.state; voices = voices_after w a } }
+
+unfoldable pub act : Platform → Scene → Actor → Made
+act p w a = made_by w a (step p w.state (event_of w a))
+
+-- one part of the schedule and then another
+abbrev pub both_make : Made → Made → Made
+both_make m n = record { entries = m.entries ++ n.entries; scene = n.scene }
+
+unfoldable pub act_all : Platform → Scene → List Actor → Made
+act_all p w [] = makes_none w
+act_all p w (a ∷ as') = both_make (act p w a) (act_all p (act p w a).scene as')
+
+abbrev pub is_stalled : List Stall → ℕ → ℕ → Bool
+is_stalled stalls k turn = list_any (λ s. (s.cpu == k) && (nat_le s.from turn && nat_le turn s.to)) stalls
+
+-- the host's events of a turn, in the order of the file
+abbrev pub hosts_of : File → ℕ → List Actor
+hosts_of f turn = map (λ h. h.actor) (filter (λ h. h.turn == turn) f.hosts)
+
+-- and then one processor, round and round, unless a stall covers it
+abbrev pub cpus_of : File → ℕ → List Actor
+cpus_of f turn = let k = turn % count_of f.platform in if is_stalled f.stalls k turn then [] else actor.Cpu k ∷ []
+
+unfoldable pub actors_of : File → ℕ → List Actor
+actors_of f turn = hosts_of f turn ++ cpus_of f turn
+
+-- so many turns, from this one on
+unfoldable pub turns_from : File → ℕ → ℕ → Scene → Made
+turns_from f zero turn w = makes_none w
+turns_from f (suc n) turn w =
+    let made = act_all f.platform w (actors_of f turn) in both_make made (turns_from f n (turn + 1) made.scene)
+
+-- the entries of `run`: those of turns 0 to the platform's number of turns, less one
+unfoldable pub scheduled : File → List Entry
+scheduled f = (turns_from f f.platform.turns 0 (scene_start f)).entries

@@ -1,0 +1,26 @@
+//! The machine and its firmware: the types that all crates speak of, and in `specs/` each rule of the machine, once.
+#![tactic(auto)]
+
+mod accesses;
+mod entries;
+mod errors;
+mod files;
+mod labels;
+mod laws;
+mod layout;
+mod outcomes;
+mod platforms;
+mod processors;
+mod rules;
+
+pub use accesses::{Access, Answer, Steps, Want};
+pub use entries::{Actor, Entry, Event};
+pub use errors::NoMemory;
+pub use files::{File, HostEvent, Hosts, Stall, Stalls, VoiceKind, Voices};
+pub use labels::Label;
+pub use laws::schedule_is_a_run;
+pub use layout::{tile, tseg};
+pub use outcomes::{BootFact, Outcome, Refusal, Step};
+pub use platforms::{Delivery, Ids, Platform};
+pub use processors::{Cpu, Ipi, Kind, Mode, Target};
+pub use rules::{Rule, fits};

@@ -1,0 +1,61 @@
+//! How adds, ejects and the boot sequence end.
+
+/// What the monarch tells of one report of the register block.
+///
+/// `cpu` is the place of the processor (its selector), `apic` its APIC ID, `slot` the place of that APIC ID among those
+/// that the firmware has bound.
+#[derive(Clone, Copy)]
+pub enum Outcome {
+    /// The processor has its own SMBASE and has arrived at its own handler.
+    Added { cpu: u32, apic: u32, slot: u32 },
+    /// The processor is absent, and its APIC ID is no longer known.
+    Ejected { cpu: u32, apic: u32, slot: u32 },
+    /// Nothing of both, for this reason.
+    Refused(Refusal),
+}
+
+/// Why a report was refused.
+#[derive(Clone, Copy)]
+pub enum Refusal {
+    /// Status bit 0 was clear: the processor isn't enabled.
+    Disabled { cpu: u32, status: u8 },
+    /// Status bits 1 and 4 were both set: an insert event and a firmware eject at once.
+    Both { cpu: u32, status: u8 },
+    /// An insert event of an APIC ID that is known.
+    AlreadyKnown { cpu: u32, apic: u32, slot: u32 },
+    /// An insert event while the add of another APIC ID, `held`, isn't complete.
+    GateHeld { cpu: u32, apic: u32, held: u32 },
+    /// In the third attempt the processor showed neither flag nor arrived byte while the gate was open.
+    NotAtGate { cpu: u32, apic: u32 },
+    /// In the third attempt the processor passed the gate but didn't arrive at its own handler.
+    NotCheckedIn { cpu: u32, apic: u32 },
+    /// A firmware eject without hot-unplug among the negotiated features, which are in `features`.
+    NoUnplug { cpu: u32, features: u64 },
+    /// A firmware eject of an APIC ID that isn't known.
+    NotKnown { cpu: u32, apic: u32 },
+    /// A firmware eject of a processor whose arrived byte was last read as 0 in this session.
+    NotArrived { cpu: u32, apic: u32 },
+    /// A firmware eject of a processor that didn't park.
+    NotParked { cpu: u32, apic: u32 },
+}
+
+/// Why the boot sequence was refused: the value that it read where another was needed.
+#[derive(Clone, Copy, Debug, PartialEq)]
+pub enum BootFact {
+    /// Command data 2 (4 bytes) read other than 0: the register block stayed in its legacy form.
+    NotModern(u32),
+    /// Register 0x9C (1 byte) read other than 0x01: there is no lockable default SMRAM.
+    NoDefaultSmram(u8),
+    /// `etc/smi/features-ok` (1 byte) read other than 1: the features weren't negotiated.
+    NotNegotiated(u8),
+}
+
+/// What one answer leads a running add or eject to.
+#[derive(Clone, Copy)]
+pub enum Step {
+    /// There is a next access.
+    Go,
+    Added,
+    Ejected,
+    Refused(Refusal),
+}
