@@ -1,0 +1,3 @@
+pub mod AtBoot
+pub mod Bitmap
+pub mod Search

@@ -1,0 +1,210 @@
+//! The register block.
+
+ghost use Rattle.std.specs.Prelude.{◌≡◌, ◌<◌, IfOk, length};
+ghost use Rattle.hp_model.specs.Platform.{IsFit};
+ghost use Rattle.hp_model.specs.Block.{is_selected as names_processor, cut as cut_to, read_data, modern_read, block_read, write_control, write_command, write_data, modern_write, block_write, ejected_by, block_start, with_insert, with_removal};
+ghost use Rattle.hp_regs.specs.Ports.{IsWidth};
+
+use crate::flags::Control;
+use crate::slots::{
+    Slot, control_at, insert_at, is_enabled_at, keep_data_at, legacy_bitmap, request_removal_at,
+    search, slots_at_boot, status_at,
+};
+use hp_model::{NoMemory, Platform};
+use std::alloc::Global;
+use std::marker::Model;
+
+/// The register block of all possible processors.
+#[derive(Drop)]
+pub struct Block {
+    can_switch: bool,
+    modern: bool,
+    selector: u32,
+    command: u8,
+    apic: Vec<u32>,
+    slots: Vec<Slot>,
+}
+
+impl Model for Block {
+    ghost use Rattle.std.specs.Prelude.{◌≡◌, ◌≤◌, length};
+    ghost use Rattle.hp_model.specs.Block as model;
+
+    ghost Value = { model.Block };
+
+    ghost view = { λ b. record { can_switch = b.can_switch; modern = b.modern; selector = b.selector; command = b.command; apic = b.apic.items; slots = b.slots.items } };
+
+    ghost invariant = { λ b. (length b.apic.items ≡ length b.slots.items) × (length b.slots.items ≤ 64) };
+}
+
+/// The low `width` bytes of a value.
+fn cut(width: u8, value: u32) -> u32
+    requires { IsWidth width }
+    ensures { result ≡ cut_to width value }
+{
+    match width {
+        1 => value & 0xff,
+        2 => value & 0xffff,
+        _ => value,
+    }
+}
+
+impl Block {
+    /// The block at the start.
+    #[tactic(auto, using(crate::proofs::AtBoot::new_facts))]
+    pub fn new(alloc: Global, p: &Platform) -> Result<Block, NoMemory>
+        requires { IsFit p.now }
+        ensures { IfOk result (λ b. b ≡ block_start p.now) }
+    {
+        let apic = Vec::from_slice(alloc, p.apic.0.as_slice())?;
+        let slots = slots_at_boot(alloc, p.apic.0.as_slice(), p.boot.0.as_slice())?;
+        Ok(Block {
+            can_switch: p.modern,
+            modern: false,
+            selector: 0,
+            command: 0,
+            apic,
+            slots,
+        })
+    }
+
+    fn is_selected(&self) -> bool
+        ensures { result ≡ names_processor self.now }
+    {
+        (self.selector as usize) < self.slots.len()
+    }
+
+    fn read_data(&self) -> u32
+        requires { self.now.selector < length self.now.slots }
+        ensures { result ≡ read_data self.now }
+    {
+        match self.command {
+            0 => self.selector,
+            3 => self.apic[self.selector as usize],
+            _ => 0,
+        }
+    }
+
+    fn read_modern(&self, offset: u8) -> u32
+        ensures { result ≡ modern_read self.now offset }
+    {
+        if !self.is_selected() {
+            return 0;
+        }
+        match offset {
+            4 => u32::from(status_at(self.slots.as_slice(), self.selector as usize)),
+            8 => self.read_data(),
+            _ => 0,
+        }
+    }
+
+    /// Reads.
+    pub fn read(&self, offset: u8, width: u8) -> u32
+        requires offset { offset < 12 }
+        requires width { IsWidth width }
+        ensures { result ≡ block_read self.now offset width }
+    {
+        if self.modern {
+            cut(width, self.read_modern(offset))
+        } else if offset == 0 {
+            cut(width, legacy_bitmap(self.slots.as_slice()))
+        } else {
+            0
+        }
+    }
+
+    fn control(&mut self, asked: u8) -> Option<u32>
+        requires { self.old.selector < length self.old.slots }
+        ensures block { self.new ≡ write_control self.old asked }
+        ensures ejected { result ≡ ejected_by self.old self.new }
+    {
+        let place = self.selector as usize;
+        let was_enabled = is_enabled_at(self.slots.as_slice(), place);
+        control_at(self.slots.as_mut_slice(), place, Control(asked));
+        if was_enabled && !is_enabled_at(self.slots.as_slice(), place) {
+            Some(self.selector)
+        } else {
+            None
+        }
+    }
+
+    fn obey(&mut self, command: u8)
+        requires { self.old.selector < length self.old.slots }
+        ensures { self.new ≡ write_command self.old command }
+    {
+        self.command = command;
+        if command == 0 {
+            self.selector = search(self.slots.as_slice(), self.selector as usize) as u32;
+        }
+    }
+
+    fn write_data(&mut self, value: u32)
+        requires { self.old.selector < length self.old.slots }
+        ensures { self.new ≡ write_data self.old value }
+    {
+        keep_data_at(
+            self.slots.as_mut_slice(),
+            self.selector as usize,
+            self.command,
+            value,
+        );
+    }
+
+    fn write_modern(&mut self, offset: u8, value: u32) -> Option<u32>
+        ensures block { self.new ≡ modern_write self.old offset value }
+        ensures ejected { result ≡ ejected_by self.old self.new }
+    {
+        if offset == 0 {
+            self.selector = value;
+            return None;
+        }
+        if !self.is_selected() {
+            return None;
+        }
+        match offset {
+            4 => self.control((value & 0xff) as u8),
+            5 => {
+                self.obey((value & 0xff) as u8);
+                None
+            }
+            8 => {
+                self.write_data(value);
+                None
+            }
+            _ => None,
+        }
+    }
+
+    /// Writes.
+    pub fn write(&mut self, offset: u8, width: u8, value: u32) -> Option<u32>
+        requires offset { offset < 12 }
+        requires width { IsWidth width }
+        ensures block { self.new ≡ block_write self.old offset width value }
+        ensures ejected { result ≡ ejected_by self.old self.new }
+    {
+        let value = cut(width, value);
+        if self.modern {
+            self.write_modern(offset, value)
+        } else {
+            if self.can_switch && offset == 0 && value == 0 {
+                self.modern = true;
+            }
+            None
+        }
+    }
+
+    /// Inserts.
+    pub fn insert_event(&mut self, s: u32)
+        requires { s < length self.old.slots }
+        ensures { self.new ≡ with_insert self.old s }
+    {
+        insert_at(self.slots.as_mut_slice(), s as usize);
+    }
+
+    /// Removes.
+    pub fn remove_event(&mut self, s: u32)
+        requires { s < length self.old.slots }
+        ensures { self.new ≡ with_removal self.old s }
+    {
+        request_removal_at(self.slots.as_mut_slice(), s as usize);
+    }
+}
