@@ -8,8 +8,8 @@ use Rattle.hp_model.specs.declared.accesses.Answer.{Answer}
 use Rattle.hp_model.specs.declared.accesses.Answer.TheVariants.{Quiet, Value}
 use Rattle.hp_model.specs.declared.entries.Event.{Event}
 use Rattle.hp_model.specs.declared.entries.Event.TheVariants.{Insert, Remove, Do, TakeSmi, TakeInit, Resume, Tell}
-use Rattle.hp_model.specs.Cpu.{cpus_start, cpu_at, is_free, halt}
-use Rattle.hp_model.specs.Block.{Block, block_start, block_read, block_write}
+use Rattle.hp_model.specs.Cpu.{absent, cpus_start, cpu_at, is_free, halt}
+use Rattle.hp_model.specs.Block.{Block, block_start, block_read, block_write, ejected_by}
 
 -- the machine; its parts that aren't built yet join this record
 pub record State : Type 0 where
@@ -51,6 +51,17 @@ is_normal (Icr high low) = true
 is_normal Halt = true
 is_normal Nop = true
 
+-- an ejected processor is absent (own rule)
+abbrev pub without_ejected : Option ℕ → List Cpu → List Cpu
+without_ejected None cs = cs
+without_ejected (Some k) cs = slice_set cs k absent
+
+-- a write to the register block, which may eject a processor
+abbrev pub write_block : ℕ → ℕ → ℕ → State → State
+write_block offset width value s =
+    let new = block_write s.block offset width value in
+    record s { block = new; cpus = without_ejected (ejected_by s.block new) s.cpus }
+
 -- the register block's ports, 0cd8 to 0ce3
 abbrev pub is_on_block : ℕ → Bool
 is_on_block port = nat_le 0xcd8 port && nat_lt port 0xce4
@@ -87,7 +98,7 @@ effect_of k (Load addr width) s = s
 effect_of k (Store addr width value) s = s
 effect_of k (Swap addr expected desired) s = s
 effect_of k (In port width) s = s
-effect_of k (Out port width value) s = record s { block = block_write s.block (port - 0xcd8) width value }
+effect_of k (Out port width value) s = write_block (port - 0xcd8) width value s
 effect_of k (CfgRead reg) s = s
 effect_of k (CfgWrite reg value) s = s
 effect_of k (Icr high low) s = s
