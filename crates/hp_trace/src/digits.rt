@@ -1,0 +1,69 @@
+//! Numbers as text, appended to a vector of bytes.
+
+ghost use Rattle.std.specs.Prelude.{◌≡◌, ◌<◌, ◌++◌, OnErr, OnOk, decimal, false, codes};
+ghost use Rattle.std.specs.Fmt.{digit_glyph};
+ghost use Rattle.hp_model.specs.Text.{hex, numbers_text};
+ghost use Rattle.hp_trace.specs.Pieces.{Begins};
+
+use hp_model::NoMemory;
+use itoa::Buffer;
+
+/// The lower-case hexadecimal digit of a value below 16.
+fn digit_of(value: u8) -> u8
+    requires { value < 16 }
+    ensures { result ≡ digit_glyph false value }
+{
+    if value < 10 {
+        b'0' + value
+    } else {
+        b'a' + (value - 10)
+    }
+}
+
+/// Appends the low digits of a value in hexadecimal, with zeros in front.
+#[tactic(auto, using(crate::proofs::Texts::hex_facts))]
+pub fn put_hex(digits: u32, value: u64, out: &mut Vec<u8>) -> Result<(), NoMemory>
+    ensures text { OnOk result (out.new.items ≡ out.old.items ++ hex digits value) }
+    ensures front { OnErr result (Begins out.old.items out.new.items) }
+{
+    if digits > 0 {
+        put_hex(digits - 1, value / 16, out)?;
+        out.push(digit_of((value % 16) as u8))?;
+    }
+    Ok(())
+}
+
+/// Appends a number in decimal.
+pub fn put_decimal(value: u64, out: &mut Vec<u8>) -> Result<(), NoMemory>
+    ensures text { OnOk result (out.new.items ≡ out.old.items ++ decimal value) }
+    ensures front { OnErr result (Begins out.old.items out.new.items) }
+{
+    let mut buffer = Buffer::new();
+    out.extend_from_slice(buffer.format(value).as_bytes())?;
+    Ok(())
+}
+
+/// Appends a comma and a number.
+#[tactic(auto, using(crate::proofs::Texts::number_facts))]
+fn put_another(value: u64, out: &mut Vec<u8>) -> Result<(), NoMemory>
+    ensures text { OnOk result (out.new.items ≡ out.old.items ++ (codes "," ++ decimal value)) }
+    ensures front { OnErr result (Begins out.old.items out.new.items) }
+{
+    out.push(b',')?;
+    put_decimal(value, out)
+}
+
+/// Appends numbers in decimal, with a comma between two.
+#[tactic(auto, using(crate::proofs::Texts::number_facts))]
+pub fn put_numbers(numbers: &[u32], out: &mut Vec<u8>) -> Result<(), NoMemory>
+    ensures text { OnOk result (out.new.items ≡ out.old.items ++ numbers_text numbers.now) }
+    ensures front { OnErr result (Begins out.old.items out.new.items) }
+{
+    if let [first, rest @ ..] = numbers {
+        put_decimal(*first as u64, out)?;
+        for number in rest {
+            put_another(*number as u64, out)?;
+        }
+    }
+    Ok(())
+}

@@ -1,0 +1,114 @@
+//! Whole lines. Each public call appends one line, or leaves what the vector held.
+
+ghost use Rattle.std.specs.Prelude.{◌≡◌, ◌++◌, OnErr, OnOk};
+ghost use Rattle.hp_model.specs.Text.{end_text, head_text, line_of, line_text, truth_text};
+ghost use Rattle.hp_trace.specs.Pieces.{Begins, pieces_text};
+
+use crate::pieces::Piece::{self, Hex, Number, Numbers, Word};
+use crate::pieces::put_all;
+use crate::steps::{put_actor, put_event};
+use hp_model::{Entry, Ids, NoMemory, Platform};
+
+fn truth(value: bool) -> &'static [u8]
+    ensures { result.now ≡ truth_text value }
+{
+    if value { b"true" } else { b"false" }
+}
+
+fn ids(list: &Ids) -> &[u32]
+    ensures { result.now ≡ list.now }
+{
+    list.0.as_slice()
+}
+
+#[tactic(auto, using(crate::proofs::Texts::line_facts))]
+fn put_line(pieces: &[Piece], out: &mut Vec<u8>) -> Result<(), NoMemory>
+    ensures text { OnOk result (out.new.items ≡ out.old.items ++ line_of (pieces_text pieces.now)) }
+    ensures front { OnErr result (Begins out.old.items out.new.items) }
+{
+    put_all(pieces, out)?;
+    out.push(b'\n')?;
+    Ok(())
+}
+
+#[tactic(auto, using(crate::proofs::Texts::line_facts))]
+fn append(pieces: &[Piece], out: &mut Vec<u8>) -> Result<(), NoMemory>
+    ensures text { OnOk result (out.new.items ≡ out.old.items ++ line_of (pieces_text pieces.now)) }
+    ensures no_memory { OnErr result (out.new.items ≡ out.old.items) }
+{
+    let held = out.len();
+    match put_line(pieces, out) {
+        Ok(()) => Ok(()),
+        Err(stop) => {
+            out.truncate(held);
+            Err(stop)
+        }
+    }
+}
+
+#[tactic(auto, using(crate::proofs::Texts::line_facts), unfolding(hp_model::specs::Text::line_text))]
+fn put_entry(e: &Entry, out: &mut Vec<u8>) -> Result<(), NoMemory>
+    ensures text { OnOk result (out.new.items ≡ out.old.items ++ line_text e.now) }
+    ensures front { OnErr result (Begins out.old.items out.new.items) }
+{
+    put_actor(e.event, e.at, out)?;
+    put_event(e.event, e.answer, out)?;
+    out.push(b'\n')?;
+    Ok(())
+}
+
+/// Appends the header, which names the platform.
+pub fn head(p: &Platform, out: &mut Vec<u8>) -> Result<(), NoMemory>
+    ensures appended { OnOk result (out.new.items ≡ out.old.items ++ head_text p.now) }
+    ensures no_memory { OnErr result (out.new.items ≡ out.old.items) }
+{
+    append(
+        &[
+            Word(b"platform apic="),
+            Numbers(ids(&p.apic)),
+            Word(b" boot="),
+            Numbers(ids(&p.boot)),
+            Word(b" low="),
+            Hex(8, p.low_memory as u64),
+            Word(b" tseg="),
+            Number(p.tseg_mib as u64),
+            Word(b" features="),
+            Number(p.features),
+            Word(b" polls="),
+            Number(p.polls as u64),
+            Word(b" turns="),
+            Number(p.turns as u64),
+            Word(b" modern="),
+            Word(truth(p.modern)),
+            Word(b" smram="),
+            Word(truth(p.default_smram)),
+            Word(b" delivery=prompt"),
+        ],
+        out,
+    )
+}
+
+/// Appends the line of an entry.
+#[tactic(auto, using(crate::proofs::Texts::line_facts))]
+pub fn line(e: &Entry, out: &mut Vec<u8>) -> Result<(), NoMemory>
+    ensures appended { OnOk result (out.new.items ≡ out.old.items ++ line_text e.now) }
+    ensures no_memory { OnErr result (out.new.items ≡ out.old.items) }
+{
+    let held = out.len();
+    match put_entry(e, out) {
+        Ok(()) => Ok(()),
+        Err(stop) => {
+            out.truncate(held);
+            Err(stop)
+        }
+    }
+}
+
+/// Appends the end line, which counts the entries.
+#[tactic(auto, unfolding(hp_model::specs::Text::end_text))]
+pub fn end(entries: u64, out: &mut Vec<u8>) -> Result<(), NoMemory>
+    ensures appended { OnOk result (out.new.items ≡ out.old.items ++ end_text entries) }
+    ensures no_memory { OnErr result (out.new.items ≡ out.old.items) }
+{
+    append(&[Word(b"end "), Number(entries)], out)
+}
