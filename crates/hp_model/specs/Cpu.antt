@@ -1,9 +1,11 @@
 -- Processors: presence, modes and latches (Intel SDM vol. 3, System Management Mode and APIC).
-use Rattle.std.specs.Prelude.{ℕ, Bool, true, false, ◌&&◌, not, ◌+◌, List, [], ◌∷◌, slice_index_or, slice_set, replicate}
+use Rattle.std.specs.Prelude.{ℕ, Bool, true, false, ◌&&◌, not, ◌+◌, ◌-◌, ◌/◌, ◌%◌, List, [], ◌∷◌, Option, Some, None, slice_index_or, slice_set, replicate, if◌then◌else◌}
 use Rattle.hp_model.specs.declared.platforms.Platform.{Platform}
 use Rattle.hp_model.specs.declared.processors.Mode.{Mode}
 use Rattle.hp_model.specs.declared.processors.Mode.TheVariants.{Wait, Running, Halted, Smm}
 use Rattle.hp_model.specs.declared.processors.Cpu.{Cpu}
+use Rattle.hp_model.specs.declared.processors.Kind.{Kind}
+use Rattle.hp_model.specs.declared.processors.Kind.TheVariants.{Smi, Init, Start}
 use Rattle.hp_model.specs.Platform.{count_of, tile}
 
 -- a processor that isn't there
@@ -33,6 +35,42 @@ is_running (Running page) = true
 is_running (Halted page) = false
 is_running (Smm address) = false
 
+abbrev pub is_waiting : Mode → Bool
+is_waiting Wait = true
+is_waiting (Running page) = false
+is_waiting (Halted page) = false
+is_waiting (Smm address) = false
+
+-- outside SMM, and not waiting for SIPI
+abbrev pub is_outside : Mode → Bool
+is_outside Wait = false
+is_outside (Running page) = true
+is_outside (Halted page) = true
+is_outside (Smm address) = false
+
+abbrev pub is_in_smm : Mode → Bool
+is_in_smm Wait = false
+is_in_smm (Running page) = false
+is_in_smm (Halted page) = false
+is_in_smm (Smm address) = true
+
+-- the page outside SMM, 0 elsewhere
+abbrev pub page_of : Mode → ℕ
+page_of Wait = 0
+page_of (Running page) = page
+page_of (Halted page) = page
+page_of (Smm address) = 0
+
+-- the instruction address in SMM
+abbrev pub address_in : Mode → Option ℕ
+address_in Wait = None
+address_in (Running page) = None
+address_in (Halted page) = None
+address_in (Smm address) = Some address
+
+abbrev pub smm_address : Cpu → Option ℕ
+smm_address c = if c.present then address_in c.mode else None
+
 -- it may make any access: present, running outside SMM, and neither SMI nor INIT is latched
 abbrev pub is_free : Cpu → Bool
 is_free c = c.present && (is_running c.mode && (not c.smi && not c.init))
@@ -47,3 +85,47 @@ halted (Smm address) = Smm address
 -- HLT
 abbrev pub halt : Cpu → Cpu
 halt c = record c { mode = halted c.mode }
+
+-- a host insert: present and waiting for SIPI, with the default SMBASE and no latch
+abbrev pub inserted : Cpu
+inserted = record absent { present = true }
+
+-- SIPI starts a waiting processor at the vector's page; elsewhere it is dropped (own rule)
+abbrev pub started : ℕ → Mode → Mode
+started page Wait = Running page
+started page (Running old) = Running old
+started page (Halted old) = Halted old
+started page (Smm address) = Smm address
+
+-- what a hit does to a present processor: an SMI is latched in each mode, INIT in each but wait for SIPI (own rule), and no more than one of each
+abbrev pub hit_present : Kind → Cpu → Cpu
+hit_present Smi c = record c { smi = true }
+hit_present Init c = if is_waiting c.mode then c else record c { init = true }
+hit_present (Start page) c = record c { mode = started page c.mode }
+
+abbrev pub hit : Kind → Cpu → Cpu
+hit kind c = if c.present then hit_present kind c else c
+
+-- SMI entry, outside SMM with the SMI latch set; it goes before INIT (own rule)
+abbrev pub may_take_smi : Cpu → Bool
+may_take_smi c = c.present && (c.smi && is_outside c.mode)
+
+-- the SMI latch is cleared, and the first instruction lies at SMBASE + 8000
+abbrev pub take_smi : Cpu → Cpu
+take_smi c = record c { smi = false; mode = Smm (c.smbase + 0x8000) }
+
+-- INIT, outside SMM without an SMI latch
+abbrev pub may_take_init : Cpu → Bool
+may_take_init c = c.present && (not c.smi && (c.init && is_outside c.mode))
+
+-- the processor waits for SIPI, the boot processor too (own rule); SMBASE stays
+abbrev pub take_init : Cpu → Cpu
+take_init c = record c { init = false; mode = Wait }
+
+-- RSM: SMBASE is what was read with bits 15:0 cleared, and the page is RIP / 1000 in 20 bits (own rules)
+abbrev pub resumed : ℕ → ℕ → Cpu → Cpu
+resumed smbase rip c = record c { smbase = smbase - smbase % 0x10000; mode = Running (rip / 0x1000 % 0x100000) }
+
+-- the next instruction in SMM, and the base that the first handler loaded
+abbrev pub moved : ℕ → ℕ → Cpu → Cpu
+moved address base c = record c { mode = Smm address; base = base }

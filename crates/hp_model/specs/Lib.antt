@@ -1,6 +1,10 @@
 pub mod Platform
+pub mod Memory
+pub mod View
 pub mod Cpu
 pub mod Block
+pub mod Interrupts
+pub mod SaveArea
 pub mod Step
 pub mod Runs
 pub mod Schedule

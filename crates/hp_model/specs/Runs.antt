@@ -1,14 +1,12 @@
 -- Runs: entries, one step each, with the answer and the instruction address that the step has.
 use Rattle.std.specs.Prelude.{ℕ, Bool, true, false, ◌&&◌, ◌==◌, List, [], ◌∷◌, Option, Some, None, option_and_then, if◌then◌else◌}
 use Rattle.hp_model.specs.declared.platforms.Platform.{Platform}
-use Rattle.hp_model.specs.declared.processors.Mode.{Mode}
-use Rattle.hp_model.specs.declared.processors.Mode.TheVariants.{Wait, Running, Halted, Smm}
-use Rattle.hp_model.specs.declared.processors.Cpu.{Cpu}
 use Rattle.hp_model.specs.declared.accesses.Answer.{Answer}
 use Rattle.hp_model.specs.declared.accesses.Answer.TheVariants.{Quiet, Value}
 use Rattle.hp_model.specs.declared.entries.Event.{Event}
 use Rattle.hp_model.specs.declared.entries.Event.TheVariants.{Insert, Remove, Do, TakeSmi, TakeInit, Resume, Tell}
 use Rattle.hp_model.specs.declared.entries.Entry.{Entry}
+use Rattle.hp_model.specs.Cpu.{smm_address}
 use Rattle.hp_model.specs.Step.{State, After, at, step, start}
 
 abbrev pub same_answer : Answer → Answer → Bool
@@ -22,16 +20,6 @@ same_address None None = true
 same_address None (Some y) = false
 same_address (Some x) None = false
 same_address (Some x) (Some y) = x == y
-
--- the instruction address in SMM
-abbrev pub address_in : Mode → Option ℕ
-address_in Wait = None
-address_in (Running page) = None
-address_in (Halted page) = None
-address_in (Smm address) = Some address
-
-abbrev pub smm_address : Cpu → Option ℕ
-smm_address c = if c.present then address_in c.mode else None
 
 -- the instruction address that the actor has before the step; the actor of a told outcome is processor 0
 abbrev pub address_of : State → Event → Option ℕ
