@@ -1,1 +1,2 @@
 pub mod AllIn
+pub mod Digits

@@ -1,4 +1,8 @@
 //! The platform file: its TOML text, its rules in their order, and the grammar of script steps.
 #![tactic(auto)]
 
+mod keys;
+mod steps;
 mod tree;
+
+pub use steps::step_of;
