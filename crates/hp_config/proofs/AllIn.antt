@@ -1,11 +1,12 @@
 -- Reading the items of an array, one after another.
-use Rattle.std.proofs.Common.{◌≡◌, ℕ, ◌+◌, ◌<◌, ◌≤◌, List, [], ◌∷◌, ◌++◌, length, drop, get_or, Option, Some, None, option_map, option_and_then, refl, ap, sym, ◌∙◌, append_assoc, append-nil, arith}
+use Rattle.std.proofs.Common.{◌≡◌, ℕ, ◌+◌, ◌<◌, ◌≤◌, List, [], ◌∷◌, ◌++◌, length, drop, get_or, Option, Some, None, option_map, option_and_then, refl, ap, sym, ◌∙◌, append_assoc, append-nil, arith, true, ◌&&◌, is_some}
 use Rattle.std.proofs.lemmas.List.{drop_more, drop_all}
-use Rattle.toml.specs.Data.{Data, Items, item}
+use Rattle.toml.specs.Data.{Data, Items, item, as_str}
 use Rattle.toml.specs.View.{view, items_view}
 use Rattle.toml.specs.declared.value.Value.{Value}
 use Rattle.toml.proofs.Views.{items_view-drop}
 use Rattle.hp_config.specs.Tree.{all_in}
+use Rattle.hp_config.specs.Rows.{are_texts}
 
 module _ {X : Type 0} where
   -- what was read, and then what is read of the rest
@@ -36,3 +37,13 @@ pub all_in_done : {X : Type 0} (one : Data → Option X) (made : List X) (vs : L
 all_in_done one made vs i h = rw (drop_all i vs h, append-nil made)
 
 pub ruleset all_in_steps = (ahead_start, all_in_more, all_in_stop, all_in_done)
+
+-- the same of texts
+pub are_texts_more : (vs : List Value) (i : ℕ) (d : Value) → i < length vs
+    → are_texts (items_view (drop i vs)) ≡ (is_some (as_str (view (get_or vs i d))) && are_texts (items_view (drop (i + 1) vs)))
+are_texts_more vs i d h = rw (items_view-drop vs i d h)
+
+pub are_texts_done : (vs : List Value) (i : ℕ) → length vs ≤ i → are_texts (items_view (drop i vs)) ≡ true
+are_texts_done vs i h = rw (drop_all i vs h)
+
+pub ruleset text_steps = (are_texts_more, are_texts_done)

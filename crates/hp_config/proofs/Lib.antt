@@ -1,2 +1,3 @@
 pub mod AllIn
 pub mod Digits
+pub mod Known

@@ -1,3 +1,5 @@
 pub mod Tree
 pub mod Script
 pub mod Keys
+pub mod Rows
+pub mod Shape

@@ -1,6 +1,8 @@
 //! Which keys the tables of a platform file may have.
 
-ghost use Rattle.std.specs.Prelude.{◌≡◌};
+ghost use Rattle.std.specs.Prelude.{◌≡◌, string_bytes};
+ghost use Rattle.std.specs.BTreeMap.{keys};
+ghost use Rattle.std.specs.List.{list_all};
 ghost use Rattle.std.specs.Str.{bytes_eq};
 ghost use Rattle.toml.specs.View.{table_view};
 ghost use Rattle.hp_config.specs.Keys.{knows, has_only};
@@ -59,9 +61,15 @@ fn is_known(form: Form, key: &str) -> bool
     }
 }
 
+fn keys_are_known(form: Form, table: &Table) -> bool
+    ensures { result ≡ list_all (λ key. knows form (string_bytes key)) (keys table.now) }
+{
+    table.keys().all(|key| is_known(form, key.as_str()))
+}
+
 /// Whether each key of the table is one that this form knows.
 pub fn has_only_known(form: Form, table: &Table) -> bool
     ensures { result ≡ has_only (knows form) (table_view table.now) }
 {
-    table.keys().all(|key| is_known(form, key.as_str()))
+    keys_are_known(form, table)
 }

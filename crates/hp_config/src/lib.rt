@@ -2,6 +2,8 @@
 #![tactic(auto)]
 
 mod keys;
+mod parts;
+mod rows;
 mod steps;
 mod tree;
 
