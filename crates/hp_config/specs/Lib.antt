@@ -3,3 +3,7 @@ pub mod Script
 pub mod Keys
 pub mod Rows
 pub mod Shape
+pub mod Rules
+pub mod Unbuilt
+pub mod Kinds
+pub mod Reading

@@ -32,8 +32,8 @@ unfoldable pub host_of : Members → Option HostEvent
 host_of ms =
     if has_only (knows form.Host) ms
     then option_and_then
-        (λ turn. option_map (λ actor. record { turn = turn; actor = actor }) (actor_of (get_member (codes "insert") ms) (get_member (codes "remove") ms)))
-        (u32_at (codes "turn") ms)
+    (λ turn. option_map (λ actor. record { turn = turn; actor = actor }) (actor_of (get_member (codes "insert") ms) (get_member (codes "remove") ms)))
+    (u32_at (codes "turn") ms)
     else None
 
 -- `[[stall]]`: this processor, from this turn to that one
@@ -41,8 +41,8 @@ unfoldable pub stall_of : Members → Option Stall
 stall_of ms =
     if has_only (knows form.Stall) ms
     then option_and_then
-        (λ cpu. option_and_then (λ from. option_map (λ to. record { cpu = cpu; from = from; to = to }) (u32_at (codes "to") ms)) (u32_at (codes "from") ms))
-        (u32_at (codes "cpu") ms)
+    (λ cpu. option_and_then (λ from. option_map (λ to. record { cpu = cpu; from = from; to = to }) (u32_at (codes "to") ms)) (u32_at (codes "from") ms))
+    (u32_at (codes "cpu") ms)
     else None
 
 -- each item is a text

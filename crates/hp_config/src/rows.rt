@@ -117,7 +117,10 @@ fn script_of(alloc: Global, values: &[Value]) -> Result<Option<Option<VoiceKind>
     }
 }
 
-fn script_kind_of(alloc: Global, steps: Option<&Value>) -> Result<Option<Option<VoiceKind>>, NoMemory>
+fn script_kind_of(
+    alloc: Global,
+    steps: Option<&Value>,
+) -> Result<Option<Option<VoiceKind>>, NoMemory>
     ensures { IfOk result (λ kind. kind ≡ script_kind (option_map (λ v. view v.now) steps.entry)) }
 {
     let Some(value) = steps else { return Ok(None) };
@@ -159,10 +162,18 @@ fn kind_with(
     ensures { IfOk result (λ kind. kind ≡ kind_named name.now (option_map (λ v. view v.now) steps.entry) (option_map (λ v. view v.now) seed.entry)) }
 {
     if is_word(name, "script") {
-        return if seed.is_some() { Ok(None) } else { script_kind_of(alloc, steps) };
+        return if seed.is_some() {
+            Ok(None)
+        } else {
+            script_kind_of(alloc, steps)
+        };
     }
     if is_word(name, "seeded") {
-        return if steps.is_some() { Ok(None) } else { Ok(seeded_kind_of(seed)) };
+        return if steps.is_some() {
+            Ok(None)
+        } else {
+            Ok(seeded_kind_of(seed))
+        };
     }
     if steps.is_some() || seed.is_some() {
         return Ok(None);
@@ -175,7 +186,12 @@ fn kind_of(alloc: Global, table: &Table) -> Result<Option<Option<VoiceKind>>, No
     ensures { IfOk result (λ kind. kind ≡ kind_in (table_view table.now)) }
 {
     match string_at(table, "kind") {
-        Some(name) => kind_with(alloc, name, value_at(table, "steps"), value_at(table, "seed")),
+        Some(name) => kind_with(
+            alloc,
+            name,
+            value_at(table, "steps"),
+            value_at(table, "seed"),
+        ),
         None => Ok(None),
     }
 }
@@ -188,7 +204,9 @@ fn agent_of(alloc: Global, table: &Table) -> Result<Option<AgentRow>, NoMemory>
     if !has_only_known(Form::Agent, table) {
         return Ok(None);
     }
-    let Some(cpu) = number_at(table, "cpu") else { return Ok(None) };
+    let Some(cpu) = number_at(table, "cpu") else {
+        return Ok(None)
+    };
     match kind_of(alloc, table)? {
         Some(kind) => Ok(Some(AgentRow { cpu, kind })),
         None => Ok(None),

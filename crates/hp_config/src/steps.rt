@@ -13,7 +13,11 @@ fn past<'a>(text: &'a [u8], word: &[u8]) -> Option<&'a [u8]>
     match word {
         [] => Some(text),
         [first, others @ ..] => match text {
-            [byte, rest @ ..] => if *first == *byte { past(rest, others) } else { None },
+            [byte, rest @ ..] => if *first == *byte {
+                past(rest, others)
+            } else {
+                None
+            },
             [] => None,
         },
     }
@@ -54,7 +58,11 @@ fn number(text: &[u8], digits: usize) -> Option<u64>
     ensures value { result ≡ whole_number digits text.now }
     ensures small { IfSome result (λ value. value < 16 ^ digits) }
 {
-    if text.len() == digits { value_of(text) } else { None }
+    if text.len() == digits {
+        value_of(text)
+    } else {
+        None
+    }
 }
 
 /// One group of digits, to the end of the text.
@@ -137,7 +145,9 @@ fn width_at_port(byte: u8) -> Option<u8>
 fn load(text: &[u8]) -> Option<Access>
     ensures { result ≡ load_step text.now }
 {
-    let [first, rest @ ..] = text else { return None };
+    let [first, rest @ ..] = text else {
+        return None
+    };
     let width = width_in_memory(*first)?;
     let addr = one(rest, 8)? as u32;
     Some(Access::Load { addr, width })
@@ -146,23 +156,35 @@ fn load(text: &[u8]) -> Option<Access>
 fn store(text: &[u8]) -> Option<Access>
     ensures { result ≡ store_step text.now }
 {
-    let [first, rest @ ..] = text else { return None };
+    let [first, rest @ ..] = text else {
+        return None
+    };
     let width = width_in_memory(*first)?;
     let (addr, value) = two(rest, 8, 2 * width as usize)?;
-    Some(Access::Store { addr: addr as u32, width, value })
+    Some(Access::Store {
+        addr: addr as u32,
+        width,
+        value,
+    })
 }
 
 fn swap(text: &[u8]) -> Option<Access>
     ensures { result ≡ swap_step text.now }
 {
     let (addr, expected, desired) = three(text, 8, 16, 16)?;
-    Some(Access::Swap { addr: addr as u32, expected, desired })
+    Some(Access::Swap {
+        addr: addr as u32,
+        expected,
+        desired,
+    })
 }
 
 fn input(text: &[u8]) -> Option<Access>
     ensures { result ≡ in_step text.now }
 {
-    let [first, rest @ ..] = text else { return None };
+    let [first, rest @ ..] = text else {
+        return None
+    };
     let width = width_at_port(*first)?;
     let port = one(rest, 4)? as u16;
     Some(Access::In { port, width })
@@ -171,10 +193,16 @@ fn input(text: &[u8]) -> Option<Access>
 fn output(text: &[u8]) -> Option<Access>
     ensures { result ≡ out_step text.now }
 {
-    let [first, rest @ ..] = text else { return None };
+    let [first, rest @ ..] = text else {
+        return None
+    };
     let width = width_at_port(*first)?;
     let (port, value) = two(rest, 4, 2 * width as usize)?;
-    Some(Access::Out { port: port as u16, width, value: value as u32 })
+    Some(Access::Out {
+        port: port as u16,
+        width,
+        value: value as u32,
+    })
 }
 
 fn read(text: &[u8]) -> Option<Access>
@@ -188,14 +216,20 @@ fn write(text: &[u8]) -> Option<Access>
     ensures { result ≡ write_step text.now }
 {
     let (reg, value) = two(text, 2, 2)?;
-    Some(Access::CfgWrite { reg: reg as u8, value: value as u8 })
+    Some(Access::CfgWrite {
+        reg: reg as u8,
+        value: value as u8,
+    })
 }
 
 fn icr(text: &[u8]) -> Option<Access>
     ensures { result ≡ icr_step text.now }
 {
     let (high, low) = two(text, 8, 8)?;
-    Some(Access::Icr { high: high as u32, low: low as u32 })
+    Some(Access::Icr {
+        high: high as u32,
+        low: low as u32,
+    })
 }
 
 fn end(access: Access, text: &[u8]) -> Option<Access>
