@@ -1,7 +1,7 @@
 -- Reading the items of an array, one after another.
-use Rattle.std.proofs.Common.{◌≡◌, ℕ, ◌+◌, ◌<◌, ◌≤◌, List, [], ◌∷◌, ◌++◌, length, drop, get_or, Option, Some, None, option_map, option_and_then, refl, ap, sym, ◌∙◌, append_assoc, append-nil, arith, true, ◌&&◌, is_some}
-use Rattle.std.proofs.lemmas.List.{drop_more, drop_all}
-use Rattle.toml.specs.Data.{Data, Items, item, as_str}
+use Rattle.std.proofs.Common.{◌≡◌, ℕ, ◌+◌, ◌<◌, ◌≤◌, List, [], ◌∷◌, ◌++◌, length, drop, get_or, Option, Some, None, option_map, refl, append_assoc, append-nil, true, ◌&&◌, is_some}
+use Rattle.std.proofs.lemmas.List.{drop_all}
+use Rattle.toml.specs.Data.{Data, as_str}
 use Rattle.toml.specs.View.{view, items_view}
 use Rattle.toml.specs.declared.value.Value.{Value}
 use Rattle.toml.proofs.Views.{items_view-drop}

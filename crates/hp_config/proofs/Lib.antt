@@ -1,3 +1,4 @@
 pub mod AllIn
 pub mod Digits
 pub mod Known
+pub mod Kept

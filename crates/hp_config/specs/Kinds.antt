@@ -1,10 +1,9 @@
 -- The kind of voice of each possible processor (own rules).
-use Rattle.std.specs.Prelude.{ℕ, zero, suc, ◌==◌, List, [], ◌∷◌, ◌++◌, length, slice_set, Option, Some, None, if◌then◌else◌}
+use Rattle.std.specs.Prelude.{ℕ, zero, suc, ◌==◌, List, [], ◌∷◌, ◌++◌, slice_set, Option, Some, None, if◌then◌else◌}
 use Rattle.std.specs.List.{list_any}
 use Rattle.hp_model.specs.declared.files.VoiceKind.{VoiceKind}
 use Rattle.hp_model.specs.declared.files.VoiceKind.TheVariants.{Script, Pen}
 use Rattle.hp_config.specs.declared.parts.AgentRow.{AgentRow}
-use Rattle.hp_config.specs.declared.parts.Parts.{Parts}
 
 -- without an agent: an empty script for a boot processor, else a pen
 abbrev pub default_kind : List ℕ → ℕ → VoiceKind

@@ -1,8 +1,7 @@
 -- The shape of a platform file, which is its rule 1 (own rules): only these tables and keys, each of its type, each required one there.
 use Rattle.std.specs.Prelude.{ℕ, Bool, true, List, codes, Option, Some, None, if◌then◌else◌, option_map, option_and_then}
 use Rattle.std.specs.Str.{bytes_eq}
-use Rattle.toml.specs.Data.{Data, Members, get_member, as_str, as_table}
-use Rattle.hp_model.specs.declared.platforms.Platform.{Platform}
+use Rattle.toml.specs.Data.{Data, Members, get_member, as_str}
 use Rattle.hp_model.specs.declared.platforms.Delivery.TheVariants.{Prompt}
 use Rattle.hp_config.specs.declared.keys.Form.TheVariants as form
 use Rattle.hp_config.specs.declared.parts.Sizes.{Sizes}

@@ -3,11 +3,16 @@
 
 mod faults;
 mod keys;
+mod kinds;
 mod parts;
+mod reading;
 mod rows;
+mod rules;
 mod shape;
 mod steps;
 mod tree;
+mod unbuilt;
 
 pub use faults::ConfigFault;
+pub use reading::read;
 pub use steps::step_of;

@@ -1,5 +1,5 @@
 -- The digits so far make the value, which has no more places than they are.
-use Rattle.std.proofs.Common.{◌≡◌, ◌<◌, ◌^◌, drop}
+use Rattle.std.proofs.Common.{◌≡◌, drop}
 use Rattle.hp_config.specs.Script.{hex_onto}
 use Rattle.hp_config.proofs.Digits.{IsBelow}
 use Rattle.hp_config.proofs.steps.value_of.Given as goal
