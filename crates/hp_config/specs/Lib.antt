@@ -7,3 +7,4 @@ pub mod Rules
 pub mod Unbuilt
 pub mod Kinds
 pub mod Reading
+pub mod Spelling

@@ -5,11 +5,8 @@ use Rattle.hp_model.specs.declared.accesses.Access.{Access}
 use Rattle.hp_model.specs.declared.accesses.Access.TheVariants.{Load, Store, Swap, In, Out, CfgRead, CfgWrite, Icr, Halt, Nop}
 use Rattle.hp_model.specs.declared.files.VoiceKind.{VoiceKind}
 use Rattle.hp_model.specs.declared.files.VoiceKind.TheVariants.{Script, Os, Pen, Seeded, Handed}
+use Rattle.hp_model.specs.Step.{is_on_block}
 use Rattle.hp_config.specs.declared.parts.Parts.{Parts}
-
--- a port of the register block
-abbrev pub is_on_block : ℕ → Bool
-is_on_block port = nat_le 0xcd8 port && nat_le port 0xce3
 
 -- port accesses to the register block run
 abbrev pub step_runs : Access → Bool

@@ -2,7 +2,8 @@
 
 ghost use Rattle.std.specs.Prelude.{◌≡◌};
 ghost use Rattle.std.specs.List.{list_all};
-ghost use Rattle.hp_config.specs.Unbuilt.{is_on_block, step_runs, kind_runs, parts_run};
+ghost use Rattle.hp_model.specs.Step.{is_on_block};
+ghost use Rattle.hp_config.specs.Unbuilt.{step_runs, kind_runs, parts_run};
 
 use crate::parts::{AgentRow, Parts};
 use hp_model::{Access, VoiceKind};
@@ -10,7 +11,7 @@ use hp_model::{Access, VoiceKind};
 fn is_port_of_block(port: u16) -> bool
     ensures { result ≡ is_on_block port }
 {
-    0xcd8 <= port && port <= 0xce3
+    0xcd8 <= port && port < 0xce4
 }
 
 fn does_step_run(step: Access) -> bool
