@@ -1,0 +1,6 @@
+pub mod AllIn
+pub mod Digits
+pub mod Known
+pub mod Kept
+pub mod HexText
+pub mod Groups

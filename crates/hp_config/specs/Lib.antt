@@ -1,0 +1,10 @@
+pub mod Tree
+pub mod Script
+pub mod Keys
+pub mod Rows
+pub mod Shape
+pub mod Rules
+pub mod Unbuilt
+pub mod Kinds
+pub mod Reading
+pub mod Spelling

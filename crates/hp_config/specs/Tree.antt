@@ -1,0 +1,42 @@
+-- What stands at a key of a TOML table (own rules): whole numbers of 32 bits, truths, texts, and arrays of one sort of value.
+use Rattle.std.specs.Prelude.{ℕ, ◌^◌, nat_lt, ℤ, pos, negsuc, Bool, true, List, [], ◌∷◌, Option, Some, None, if◌then◌else◌, option_map, option_and_then}
+use Rattle.toml.specs.Data.{Data, Items, no_items, item, Members, get_member, as_integer, as_bool, as_str, as_array}
+
+-- a number of 32 bits
+abbrev pub u32_of : ℤ → Option ℕ
+u32_of (pos n) = if nat_lt n (2 ^ 32) then Some n else None
+u32_of (negsuc n) = None
+
+abbrev pub u32_in : Data → Option ℕ
+u32_in d = option_and_then u32_of (as_integer d)
+
+-- the number at a key
+unfoldable pub u32_at : List ℕ → Members → Option ℕ
+u32_at key ms = option_and_then u32_in (get_member key ms)
+
+-- the text at a key
+unfoldable pub text_at : List ℕ → Members → Option (List ℕ)
+text_at key ms = option_and_then as_str (get_member key ms)
+
+-- a truth, true if absent
+abbrev pub truth_or_true : Option Data → Option Bool
+truth_or_true None = Some true
+truth_or_true (Some d) = as_bool d
+
+unfoldable pub truth_at : List ℕ → Members → Option Bool
+truth_at key ms = truth_or_true (get_member key ms)
+
+module _ {X : Type 0} (one : Data → Option X) where
+  -- each item, read as one
+  abbrev pub all_in : Items → Option (List X)
+  all_in no_items = Some []
+  all_in (item d ds) = option_and_then (λ x. option_map (λ xs. x ∷ xs) (all_in ds)) (one d)
+
+  -- an array of them, empty if absent
+  abbrev pub rows_in : Option Data → Option (List X)
+  rows_in None = Some []
+  rows_in (Some d) = option_and_then all_in (as_array d)
+
+-- the numbers of the array at a key
+unfoldable pub numbers_at : List ℕ → Members → Option (List ℕ)
+numbers_at key ms = option_and_then (all_in u32_in) (option_and_then as_array (get_member key ms))

@@ -1,0 +1,141 @@
+//! The shape of a platform file, which is its rule 1.
+
+ghost use Rattle.std.specs.Prelude.{◌≡◌, IfOk, option_map};
+ghost use Rattle.toml.specs.View.{view, table_view};
+ghost use Rattle.hp_config.specs.Shape.{sizes_of as sizes_in, prompt_in, switches_of as switches_in, machine_from as machine_with, machine_of as machine_in, parts_of as parts_in};
+ghost use Rattle.toml.specs.Data.{as_table};
+ghost use Rattle.std.specs.Option.{option_and_then};
+
+use crate::keys::{Form, has_only_known, is_word};
+use crate::parts::{AgentRow, AgentRows, Machine, Parts, Sizes, Switches};
+use crate::tree::{bool_at, ids_at, number_at, rows_at, value_at};
+use hp_model::{Delivery, HostEvent, Hosts, Ids, NoMemory, Platform, Stall, Stalls};
+use std::alloc::Global;
+use toml::{Table, Value};
+
+#[tactic(auto, unfolding(crate::specs::Shape::sizes_of))]
+fn sizes_of(table: &Table) -> Option<Sizes>
+    ensures { result ≡ sizes_in (table_view table.now) }
+{
+    let low_memory = number_at(table, "low_memory")?;
+    let tseg_mib = number_at(table, "tseg_mib")?;
+    let features = number_at(table, "features")?;
+    let polls = number_at(table, "polls")?;
+    let turns = number_at(table, "turns")?;
+    Some(Sizes {
+        low_memory,
+        tseg_mib,
+        features,
+        polls,
+        turns,
+    })
+}
+
+/// Whether the text of `delivery` is `prompt`, which it is if absent.
+fn prompt_of(value: Option<&Value>) -> Option<bool>
+    ensures { result ≡ prompt_in (option_map (λ v. view v.now) value.entry) }
+{
+    match value {
+        Some(value) => match value.as_str() {
+            Some(name) => Some(is_word(name, "prompt")),
+            None => None,
+        },
+        None => Some(true),
+    }
+}
+
+#[tactic(auto, unfolding(crate::specs::Shape::switches_of))]
+fn switches_of(table: &Table) -> Option<Switches>
+    ensures { result ≡ switches_in (table_view table.now) }
+{
+    let modern = bool_at(table, "modern")?;
+    let default_smram = bool_at(table, "default_smram")?;
+    let is_prompt = prompt_of(value_at(table, "delivery"))?;
+    Some(Switches {
+        modern,
+        default_smram,
+        is_prompt,
+    })
+}
+
+fn machine_from(apic: Ids, boot: Ids, sizes: Sizes, switches: Switches) -> Machine
+    ensures { result ≡ machine_with apic boot sizes switches }
+{
+    Machine {
+        platform: Platform {
+            apic,
+            boot,
+            low_memory: sizes.low_memory,
+            tseg_mib: sizes.tseg_mib,
+            features: sizes.features as u64,
+            polls: sizes.polls,
+            turns: sizes.turns,
+            modern: switches.modern,
+            default_smram: switches.default_smram,
+            delivery: Delivery::Prompt,
+        },
+        is_prompt: switches.is_prompt,
+    }
+}
+
+/// The platform's table.
+#[tactic(auto, unfolding(crate::specs::Shape::machine_of))]
+fn machine_of(alloc: Global, table: &Table) -> Result<Option<Machine>, NoMemory>
+    ensures { IfOk result (λ machine. machine ≡ machine_in (table_view table.now)) }
+{
+    if !has_only_known(Form::Platform, table) {
+        return Ok(None);
+    }
+    let Some(apic) = ids_at(alloc, table, "apic")? else {
+        return Ok(None)
+    };
+    let Some(boot) = ids_at(alloc, table, "boot")? else {
+        return Ok(None)
+    };
+    let Some(sizes) = sizes_of(table) else {
+        return Ok(None)
+    };
+    match switches_of(table) {
+        Some(switches) => Ok(Some(machine_from(apic, boot, sizes, switches))),
+        None => Ok(None),
+    }
+}
+
+/// The platform's table in the whole file.
+fn machine_at(alloc: Global, value: Option<&Value>) -> Result<Option<Machine>, NoMemory>
+    ensures { IfOk result (λ machine. machine ≡ option_and_then machine_in (option_and_then as_table (option_map (λ v. view v.now) value.entry))) }
+{
+    let Some(value) = value else { return Ok(None) };
+    match value.as_table() {
+        Some(table) => machine_of(alloc, table),
+        None => Ok(None),
+    }
+}
+
+/// The whole file, None where rule 1 fails.
+#[tactic(auto, unfolding(crate::specs::Shape::parts_of))]
+pub fn parts_of(alloc: Global, table: &Table) -> Result<Option<Parts>, NoMemory>
+    ensures { IfOk result (λ parts. parts ≡ parts_in (table_view table.now)) }
+{
+    if !has_only_known(Form::Whole, table) {
+        return Ok(None);
+    }
+    let Some(machine) = machine_at(alloc, value_at(table, "platform"))? else {
+        return Ok(None)
+    };
+    let Some(hosts) = rows_at::<HostEvent>(alloc, table, "host")? else {
+        return Ok(None)
+    };
+    let Some(stalls) = rows_at::<Stall>(alloc, table, "stall")? else {
+        return Ok(None)
+    };
+    match rows_at::<AgentRow>(alloc, table, "agent")? {
+        Some(agents) => Ok(Some(Parts {
+            machine,
+            hosts: Hosts(hosts),
+            stalls: Stalls(stalls),
+            agents: AgentRows(agents),
+        })),
+        None => Ok(None),
+    }
+}
