@@ -4,3 +4,4 @@ pub mod Known
 pub mod Kept
 pub mod HexText
 pub mod Groups
+pub mod ServedFiles

@@ -8,6 +8,7 @@ mod parts;
 mod reading;
 mod rows;
 mod rules;
+mod served;
 mod shape;
 mod steps;
 mod tree;
@@ -15,4 +16,5 @@ mod unbuilt;
 
 pub use faults::ConfigFault;
 pub use reading::read;
+pub use served::files_are_served;
 pub use steps::step_of;

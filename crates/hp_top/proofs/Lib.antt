@@ -1,0 +1,4 @@
+pub mod Sending
+pub mod Alone
+pub mod Turning
+pub mod Completeness

@@ -1,0 +1,5 @@
+-- A file that was read is one of those that are run.
+use Rattle.hp_top.proofs.answering.run_bytes.Goals as goal
+
+pub run_read-requires : goal.run_read-requires
+run_read-requires g c = c.files_are_served.ensures c.args.bytes.now c.in-Ok.file c.in-Ok.ensures

@@ -1,0 +1,104 @@
+-- What each answer of the top call says of what was read and of what was written.
+use Rattle.std.specs.Prelude.{◌≡◌, ◌⊎◌, ℕ, Bool, false, List, [], ◌∷◌, codes, length, ◌≤◌, Option, Some, IsSome, Ok, Err}
+use Rattle.std.specs.Str.{bytes_eq}
+use Rattle.std.specs.Io.KnownBytes.{Appends, Keeps}
+use Rattle.hp_model.specs.declared.files.File.{File}
+use Rattle.hp_config.specs.declared.faults.ConfigFault.TheVariants as fault
+use Rattle.hp_config.specs.Reading.{IsReadAs}
+use Rattle.hp_model.specs.Runs.{run}
+use Rattle.hp_model.specs.Schedule.{scheduled}
+use Rattle.hp_top.specs.declared.statuses.Status.{Status}
+use Rattle.hp_top.specs.declared.statuses.Status.TheVariants.{Done, BadWords, ReadFault, TooLong, NotToml, Rule, BootRefused, WriteFault, TraceRefused, NoMemory}
+use Rattle.hp_top.specs.Input.{limit, HasRead, HasReadPast}
+use Rattle.hp_top.specs.Sent.{HoldsFront}
+use Rattle.hp_top.specs.Turns.{run_text}
+
+-- the words are `run` alone
+abbrev pub are_run : List (List ℕ) → Bool
+are_run [] = false
+are_run (word ∷ []) = bytes_eq word (codes "run")
+are_run (word ∷ (other ∷ words)) = false
+
+-- how the run of a file ends
+abbrev pub EndsFile : File → Option (List ℕ) → Option (List ℕ) → Status → Type 0
+EndsFile file old new Done = Appends old new (run_text file)
+EndsFile file old new BadWords = ⊥
+EndsFile file old new ReadFault = ⊥
+EndsFile file old new TooLong = ⊥
+EndsFile file old new NotToml = ⊥
+EndsFile file old new (Rule rule) = ⊥
+EndsFile file old new (BootRefused fact) = ⊥
+EndsFile file old new WriteFault = HoldsFront old new (run_text file)
+EndsFile file old new (TraceRefused line why) = ⊥
+EndsFile file old new NoMemory = HoldsFront old new (run_text file)
+
+-- the bytes are a file, and the text of its run was appended, whose entries are a run of the machine
+pub record IsWholeRun (bytes : List ℕ) (old new : Option (List ℕ)) : Type 0 where
+  pub file : File
+  pub read : IsReadAs bytes (Ok file)
+  pub appended : Appends old new (run_text file)
+  pub is_run : IsSome (run file.platform (scheduled file))
+
+-- the bytes are a file, and a front of the text of its run was appended
+pub record IsCutRun (bytes : List ℕ) (old new : Option (List ℕ)) : Type 0 where
+  pub file : File
+  pub read : IsReadAs bytes (Ok file)
+  pub front : HoldsFront old new (run_text file)
+
+-- the bytes are no file for this cause, and nothing was written
+pub record IsRefusedFile (bytes : List ℕ) (old new : Option (List ℕ)) (fault : fault.the_data) : Type 0 where
+  pub cause : IsReadAs bytes (Err fault)
+  pub kept : Keeps old new
+
+-- how the call ends once these bytes were read
+abbrev pub EndsRun : List ℕ → Option (List ℕ) → Option (List ℕ) → Status → Type 0
+EndsRun bytes old new Done = IsWholeRun bytes old new
+EndsRun bytes old new BadWords = ⊥
+EndsRun bytes old new ReadFault = ⊥
+EndsRun bytes old new TooLong = ⊥
+EndsRun bytes old new NotToml = IsRefusedFile bytes old new fault.NotToml
+EndsRun bytes old new (Rule rule) = IsRefusedFile bytes old new (fault.Rule rule)
+EndsRun bytes old new (BootRefused fact) = ⊥
+EndsRun bytes old new WriteFault = IsCutRun bytes old new
+EndsRun bytes old new (TraceRefused line why) = ⊥
+EndsRun bytes old new NoMemory = Keeps old new ⊎ IsCutRun bytes old new
+
+-- the source was read to its end, and its bytes decide
+pub record EndsAfterReading (left still old new : Option (List ℕ)) (status : Status) : Type 0 where
+  pub bytes : List ℕ
+  pub read : HasRead left still bytes
+  pub ends : EndsRun bytes old new status
+
+-- how the call ends: `left` and `still` are what the source had left before and after it, `old` and `new` what the sink held
+abbrev pub Ends : Option (List ℕ) → Option (List ℕ) → Option (List ℕ) → Option (List ℕ) → Status → Type 0
+Ends left still old new Done = EndsAfterReading left still old new Done
+Ends left still old new BadWords = Keeps left still × Keeps old new
+Ends left still old new ReadFault = Keeps old new
+Ends left still old new TooLong = HasReadPast left still × Keeps old new
+Ends left still old new NotToml = EndsAfterReading left still old new NotToml
+Ends left still old new (Rule rule) = EndsAfterReading left still old new (Rule rule)
+Ends left still old new (BootRefused fact) = ⊥
+Ends left still old new WriteFault = EndsAfterReading left still old new WriteFault
+Ends left still old new (TraceRefused line why) = ⊥
+Ends left still old new NoMemory = Keeps old new ⊎ EndsAfterReading left still old new NoMemory
+
+-- all was written, or memory ran out
+abbrev pub IsDoneOrNoMemory : Status → Type 0
+IsDoneOrNoMemory Done = Unit {0}
+IsDoneOrNoMemory BadWords = ⊥
+IsDoneOrNoMemory ReadFault = ⊥
+IsDoneOrNoMemory TooLong = ⊥
+IsDoneOrNoMemory NotToml = ⊥
+IsDoneOrNoMemory (Rule rule) = ⊥
+IsDoneOrNoMemory (BootRefused fact) = ⊥
+IsDoneOrNoMemory WriteFault = ⊥
+IsDoneOrNoMemory (TraceRefused line why) = ⊥
+IsDoneOrNoMemory NoMemory = Unit {0}
+
+-- a source that had just these bytes left, which are no more than the limit and a file
+pub record HoldsFile (left : Option (List ℕ)) : Type 0 where
+  pub bytes : List ℕ
+  pub known : left ≡ Some bytes
+  pub within : length bytes ≤ limit
+  pub file : File
+  pub read : IsReadAs bytes (Ok file)

@@ -1,0 +1,35 @@
+-- Counts of faults: what a call may say of the outside's failures.
+use Rattle.std.specs.Prelude.{ℕ, Bool, true, false, ◌+◌, ◌-◌, ◌^◌, ◌≤◌, min, Result, Ok, Err, OnErr}
+use Rattle.hp_top.specs.declared.outside.WriteStop.{WriteStop}
+use Rattle.hp_top.specs.declared.outside.WriteStop.TheVariants.{Failed, NoMemory}
+
+-- a count rose in a call: it is greater after it, or stands at its last value
+abbrev pub Rose : ℕ → ℕ → Type 0
+Rose before now = min (before + 1) (2 ^ 64 - 1) ≤ now
+
+-- the count never falls, and a failure comes only where it rose
+pub record HasCause {T E : Type 0} (before now : ℕ) (result : Result T E) : Type 0 where
+  pub later : before ≤ now
+  pub failed : OnErr result (Rose before now)
+
+-- the same for a sink, whose want of memory is no failure of the outside
+abbrev pub RoseAt : ℕ → ℕ → WriteStop → Type 0
+RoseAt before now Failed = Rose before now
+RoseAt before now NoMemory = Unit {0}
+
+abbrev pub RoseIfFailed : {T : Type 0} → ℕ → ℕ → Result T WriteStop → Type 0
+RoseIfFailed before now (Ok done) = Unit {0}
+RoseIfFailed before now (Err stop) = RoseAt before now stop
+
+pub record StopsFor {T : Type 0} (before now : ℕ) (result : Result T WriteStop) : Type 0 where
+  pub later : before ≤ now
+  pub failed : RoseIfFailed before now result
+
+-- the write failed by the outside, and not for memory
+abbrev pub is_failure : WriteStop → Bool
+is_failure Failed = true
+is_failure NoMemory = false
+
+abbrev pub is_failed : {T : Type 0} → Result T WriteStop → Bool
+is_failed (Ok done) = false
+is_failed (Err stop) = is_failure stop

@@ -1,0 +1,7 @@
+pub mod Faults
+pub mod Input
+pub mod Sent
+pub mod Scripted
+pub mod Turns
+pub mod Codes
+pub mod Answers

@@ -1,0 +1,98 @@
+//! The top call.
+
+ghost use Rattle.std.specs.Prelude.{◌≡◌, ◌≤◌, ◌↔◌, List, [], ◌∷◌, codes, map, length, string_bytes, true, false};
+ghost use Rattle.std.specs.Str.{bytes_eq};
+ghost use Rattle.hp_model.specs.Schedule.{voice_of, script};
+ghost use Rattle.hp_config.specs.Served.{IsServed};
+ghost use Rattle.hp_top.specs.Faults.{Rose};
+ghost use Rattle.hp_top.specs.Answers.{are_run as are_the_run, EndsFile, EndsRun, Ends, HoldsFile, IsDoneOrNoMemory};
+
+use crate::outside::{Sink, Source, WriteStop};
+use crate::reading::{ReadStop, read_all};
+use crate::running::run_file;
+use crate::statuses::Status;
+use hp_config::{ConfigFault, files_are_served, read};
+use hp_model::{Access, File, VoiceKind, schedule_is_a_run};
+use std::alloc::Global;
+
+fn is_run(word: &str) -> bool
+    ensures { result ≡ bytes_eq word.now (codes "run") }
+{
+    word == "run"
+}
+
+/// Whether the words are `run` alone.
+fn are_run(words: &[String]) -> bool
+    ensures { result ≡ are_the_run (map string_bytes words.now) }
+{
+    match words {
+        [word] => is_run(word.as_str()),
+        _ => false,
+    }
+}
+
+/// What the processor of a script is to do; nothing but halts where it has none.
+fn steps_of(voices: &[VoiceKind]) -> &[Access]
+    requires { length voices.now ≡ 1 }
+    ensures { map voice_of voices.now ≡ script result.now ∷ [] }
+{
+    match voices {
+        [VoiceKind::Script(steps)] => steps.0.as_slice(),
+        _ => &[],
+    }
+}
+
+/// Runs the file that was read.
+fn run_read<K: Sink>(alloc: Global, file: &File, out: &mut K) -> Status
+    requires { IsServed file.now }
+    ensures ends { EndsFile file.now (K.held out.old) (K.held out.new) result }
+    ensures fault { result ≡ Status.WriteFault → Rose (K.faults out.old) (K.faults out.new) }
+    ensures later { K.faults out.old ≤ K.faults out.new }
+{
+    match run_file(alloc, file, steps_of(file.voices.0.as_slice()), out) {
+        Ok(()) => Status::Done,
+        Err(WriteStop::Failed) => Status::WriteFault,
+        Err(WriteStop::NoMemory) => Status::NoMemory,
+    }
+}
+
+/// Runs the file that the bytes are.
+fn run_bytes<K: Sink>(alloc: Global, bytes: &[u8], out: &mut K) -> Status
+    ensures ends { EndsRun bytes.now (K.held out.old) (K.held out.new) result }
+    ensures fault { result ≡ Status.WriteFault → Rose (K.faults out.old) (K.faults out.new) }
+    ensures later { K.faults out.old ≤ K.faults out.new }
+{
+    schedule_is_a_run();
+    files_are_served();
+    match read(alloc, bytes) {
+        Ok(file) => run_read(alloc, &file, out),
+        Err(ConfigFault::NotToml) => Status::NotToml,
+        Err(ConfigFault::Rule(rule)) => Status::Rule(rule),
+        Err(ConfigFault::NoMemory) => Status::NoMemory,
+    }
+}
+
+/// Serves the command `run`: reads a platform file to its end, and writes the trace of its run, line by line.
+///
+/// docs/PROOFS.md says in words what the clauses do.
+pub fn top<S: Source, K: Sink>(alloc: Global, words: &[String], src: &mut S, out: &mut K) -> Status
+    ensures bad_words { (result ≡ Status.BadWords) ↔ (are_the_run (map string_bytes words.now) ≡ false) }
+    ensures ends { Ends (S.left src.old) (S.left src.new) (K.held out.old) (K.held out.new) result }
+    ensures read_fault { result ≡ Status.ReadFault → Rose (S.faults src.old) (S.faults src.new) }
+    ensures write_fault { result ≡ Status.WriteFault → Rose (K.faults out.old) (K.faults out.new) }
+    ensures completes { HoldsFile (S.left src.old) → are_the_run (map string_bytes words.now) ≡ true
+        → ¬ Rose (S.faults src.old) (S.faults src.new) → ¬ Rose (K.faults out.old) (K.faults out.new)
+        → IsDoneOrNoMemory result }
+    ensures read_count { S.faults src.old ≤ S.faults src.new }
+    ensures write_count { K.faults out.old ≤ K.faults out.new }
+{
+    if !are_run(words) {
+        return Status::BadWords;
+    }
+    match read_all(alloc, src) {
+        Ok(bytes) => run_bytes(alloc, bytes.as_slice(), out),
+        Err(ReadStop::ReadFault) => Status::ReadFault,
+        Err(ReadStop::TooLong) => Status::TooLong,
+        Err(ReadStop::NoMemory) => Status::NoMemory,
+    }
+}
