@@ -31,8 +31,9 @@ fn put_line(pieces: &[Piece], out: &mut Vec<u8>) -> Result<(), NoMemory>
     Ok(())
 }
 
+/// Appends the text of pieces and a line feed, or nothing.
 #[tactic(auto, using(crate::proofs::Texts::line_facts))]
-fn append(pieces: &[Piece], out: &mut Vec<u8>) -> Result<(), NoMemory>
+fn append_line(pieces: &[Piece], out: &mut Vec<u8>) -> Result<(), NoMemory>
     ensures text { OnOk result (out.new.items ≡ out.old.items ++ line_of (pieces_text pieces.now)) }
     ensures no_memory { OnErr result (out.new.items ≡ out.old.items) }
 {
@@ -62,7 +63,7 @@ pub fn head(p: &Platform, out: &mut Vec<u8>) -> Result<(), NoMemory>
     ensures appended { OnOk result (out.new.items ≡ out.old.items ++ head_text p.now) }
     ensures no_memory { OnErr result (out.new.items ≡ out.old.items) }
 {
-    append(
+    append_line(
         &[
             Word(b"platform apic="),
             Numbers(ids(&p.apic)),
@@ -110,5 +111,5 @@ pub fn end(entries: u64, out: &mut Vec<u8>) -> Result<(), NoMemory>
     ensures appended { OnOk result (out.new.items ≡ out.old.items ++ end_text entries) }
     ensures no_memory { OnErr result (out.new.items ≡ out.old.items) }
 {
-    append(&[Word(b"end "), Number(entries)], out)
+    append_line(&[Word(b"end "), Number(entries)], out)
 }
