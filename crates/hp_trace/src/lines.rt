@@ -1,6 +1,6 @@
 //! Whole lines. Each public call appends one line, or leaves what the vector held.
 
-ghost use Rattle.std.specs.Prelude.{◌≡◌, ◌++◌, OnErr, OnOk};
+ghost use Rattle.std.specs.Prelude.{◌≡◌, ◌++◌, OnErr, OnOk, take};
 ghost use Rattle.hp_model.specs.Text.{end_text, head_text, line_of, line_text, truth_text};
 ghost use Rattle.hp_trace.specs.Pieces.{Begins, pieces_text};
 
@@ -21,30 +21,20 @@ fn ids(list: &Ids) -> &[u32]
     list.0.as_slice()
 }
 
+fn end_line(out: &mut Vec<u8>) -> Result<(), NoMemory>
+    ensures text { OnOk result (out.new.items ≡ line_of out.old.items) }
+    ensures unchanged { OnErr result (out.new.items ≡ out.old.items) }
+{
+    Ok(out.push(b'\n')?)
+}
+
 #[tactic(auto, using(crate::proofs::Texts::line_facts))]
 fn put_line(pieces: &[Piece], out: &mut Vec<u8>) -> Result<(), NoMemory>
     ensures text { OnOk result (out.new.items ≡ out.old.items ++ line_of (pieces_text pieces.now)) }
     ensures front { OnErr result (Begins out.old.items out.new.items) }
 {
     put_all(pieces, out)?;
-    out.push(b'\n')?;
-    Ok(())
-}
-
-/// Appends the text of pieces and a line feed, or nothing.
-#[tactic(auto, using(crate::proofs::Texts::line_facts))]
-fn append_line(pieces: &[Piece], out: &mut Vec<u8>) -> Result<(), NoMemory>
-    ensures text { OnOk result (out.new.items ≡ out.old.items ++ line_of (pieces_text pieces.now)) }
-    ensures no_memory { OnErr result (out.new.items ≡ out.old.items) }
-{
-    let held = out.len();
-    match put_line(pieces, out) {
-        Ok(()) => Ok(()),
-        Err(stop) => {
-            out.truncate(held);
-            Err(stop)
-        }
-    }
+    end_line(out)
 }
 
 #[tactic(auto, using(crate::proofs::Texts::line_facts), unfolding(hp_model::specs::Text::line_text))]
@@ -54,8 +44,30 @@ fn put_entry(e: &Entry, out: &mut Vec<u8>) -> Result<(), NoMemory>
 {
     put_actor(e.event, e.at, out)?;
     put_event(e.event, e.answer, out)?;
-    out.push(b'\n')?;
-    Ok(())
+    end_line(out)
+}
+
+/// Where the writing of a line failed, cuts the vector back to the bytes that it held.
+fn whole_line(written: Result<(), NoMemory>, held: usize, out: &mut Vec<u8>) -> Result<(), NoMemory>
+    ensures answer { result ≡ written }
+    ensures written { OnOk written (out.new.items ≡ out.old.items) }
+    ensures cut { OnErr written (out.new.items ≡ take held out.old.items) }
+{
+    if written.is_err() {
+        out.truncate(held);
+    }
+    written
+}
+
+/// Appends pieces as a line, or nothing.
+#[tactic(auto, using(crate::proofs::Texts::line_facts))]
+fn append_line(pieces: &[Piece], out: &mut Vec<u8>) -> Result<(), NoMemory>
+    ensures appended { OnOk result (out.new.items ≡ out.old.items ++ line_of (pieces_text pieces.now)) }
+    ensures no_memory { OnErr result (out.new.items ≡ out.old.items) }
+{
+    let held = out.len();
+    let written = put_line(pieces, out);
+    whole_line(written, held, out)
 }
 
 /// Appends the header, which names the platform.
@@ -96,13 +108,8 @@ pub fn line(e: &Entry, out: &mut Vec<u8>) -> Result<(), NoMemory>
     ensures no_memory { OnErr result (out.new.items ≡ out.old.items) }
 {
     let held = out.len();
-    match put_entry(e, out) {
-        Ok(()) => Ok(()),
-        Err(stop) => {
-            out.truncate(held);
-            Err(stop)
-        }
-    }
+    let written = put_entry(e, out);
+    whole_line(written, held, out)
 }
 
 /// Appends the end line, which counts the entries.
