@@ -1,4 +1,4 @@
-//! Whole lines. Each public call appends one line, or leaves what the vector held.
+//! Whole lines, each with its line feed. After `NoMemory` a vector holds what it held before, room aside.
 
 ghost use Rattle.std.specs.Prelude.{◌≡◌, ◌++◌, OnErr, OnOk, take};
 ghost use Rattle.hp_model.specs.Text.{end_text, head_text, line_of, line_text, truth_text};
@@ -70,7 +70,7 @@ fn append_line(pieces: &[Piece], out: &mut Vec<u8>) -> Result<(), NoMemory>
     whole_line(written, held, out)
 }
 
-/// Appends the header, which names the platform.
+/// Appends the header, which names the platform. Takes any platform, one that doesn't fit too.
 pub fn head(p: &Platform, out: &mut Vec<u8>) -> Result<(), NoMemory>
     ensures appended { OnOk result (out.new.items ≡ out.old.items ++ head_text p.now) }
     ensures no_memory { OnErr result (out.new.items ≡ out.old.items) }
@@ -101,7 +101,7 @@ pub fn head(p: &Platform, out: &mut Vec<u8>) -> Result<(), NoMemory>
     )
 }
 
-/// Appends the line of an entry.
+/// Appends the line of an entry. Takes any entry: where a step shows a value and the answer has none, the value is 0.
 #[tactic(auto, using(crate::proofs::Texts::line_facts))]
 pub fn line(e: &Entry, out: &mut Vec<u8>) -> Result<(), NoMemory>
     ensures appended { OnOk result (out.new.items ≡ out.old.items ++ line_text e.now) }
