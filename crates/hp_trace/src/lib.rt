@@ -1,9 +1,13 @@
-//! The trace text: writes the header of a platform, the line of an entry, and the end line.
+//! The trace text: the header of a platform, the line of each entry, and the end line, appended to a vector of bytes.
 #![tactic(auto)]
 
+mod accesses;
 mod digits;
 mod lines;
+mod outcomes;
 mod pieces;
 mod steps;
+#[cfg(test)]
+mod tests;
 
 pub use lines::{end, head, line};

@@ -1,6 +1,6 @@
-//! Whole lines. Each public call appends one line, or leaves what the vector held.
+//! Whole lines, each with its line feed. After `NoMemory` a vector holds what it held before, room aside.
 
-ghost use Rattle.std.specs.Prelude.{◌≡◌, ◌++◌, OnErr, OnOk};
+ghost use Rattle.std.specs.Prelude.{◌≡◌, ◌++◌, OnErr, OnOk, take};
 ghost use Rattle.hp_model.specs.Text.{end_text, head_text, line_of, line_text, truth_text};
 ghost use Rattle.hp_trace.specs.Pieces.{Begins, pieces_text};
 
@@ -21,29 +21,20 @@ fn ids(list: &Ids) -> &[u32]
     list.0.as_slice()
 }
 
+fn end_line(out: &mut Vec<u8>) -> Result<(), NoMemory>
+    ensures text { OnOk result (out.new.items ≡ line_of out.old.items) }
+    ensures unchanged { OnErr result (out.new.items ≡ out.old.items) }
+{
+    Ok(out.push(b'\n')?)
+}
+
 #[tactic(auto, using(crate::proofs::Texts::line_facts))]
 fn put_line(pieces: &[Piece], out: &mut Vec<u8>) -> Result<(), NoMemory>
     ensures text { OnOk result (out.new.items ≡ out.old.items ++ line_of (pieces_text pieces.now)) }
     ensures front { OnErr result (Begins out.old.items out.new.items) }
 {
     put_all(pieces, out)?;
-    out.push(b'\n')?;
-    Ok(())
-}
-
-#[tactic(auto, using(crate::proofs::Texts::line_facts))]
-fn append(pieces: &[Piece], out: &mut Vec<u8>) -> Result<(), NoMemory>
-    ensures text { OnOk result (out.new.items ≡ out.old.items ++ line_of (pieces_text pieces.now)) }
-    ensures no_memory { OnErr result (out.new.items ≡ out.old.items) }
-{
-    let held = out.len();
-    match put_line(pieces, out) {
-        Ok(()) => Ok(()),
-        Err(stop) => {
-            out.truncate(held);
-            Err(stop)
-        }
-    }
+    end_line(out)
 }
 
 #[tactic(auto, using(crate::proofs::Texts::line_facts), unfolding(hp_model::specs::Text::line_text))]
@@ -53,16 +44,38 @@ fn put_entry(e: &Entry, out: &mut Vec<u8>) -> Result<(), NoMemory>
 {
     put_actor(e.event, e.at, out)?;
     put_event(e.event, e.answer, out)?;
-    out.push(b'\n')?;
-    Ok(())
+    end_line(out)
 }
 
-/// Appends the header, which names the platform.
+/// Where the writing of a line failed, cuts the vector back to the bytes that it held.
+fn whole_line(written: Result<(), NoMemory>, held: usize, out: &mut Vec<u8>) -> Result<(), NoMemory>
+    ensures answer { result ≡ written }
+    ensures written { OnOk written (out.new.items ≡ out.old.items) }
+    ensures cut { OnErr written (out.new.items ≡ take held out.old.items) }
+{
+    if written.is_err() {
+        out.truncate(held);
+    }
+    written
+}
+
+/// Appends pieces as a line, or nothing.
+#[tactic(auto, using(crate::proofs::Texts::line_facts))]
+fn append_line(pieces: &[Piece], out: &mut Vec<u8>) -> Result<(), NoMemory>
+    ensures appended { OnOk result (out.new.items ≡ out.old.items ++ line_of (pieces_text pieces.now)) }
+    ensures no_memory { OnErr result (out.new.items ≡ out.old.items) }
+{
+    let held = out.len();
+    let written = put_line(pieces, out);
+    whole_line(written, held, out)
+}
+
+/// Appends the header, which names the platform. Takes any platform, one that doesn't fit too.
 pub fn head(p: &Platform, out: &mut Vec<u8>) -> Result<(), NoMemory>
     ensures appended { OnOk result (out.new.items ≡ out.old.items ++ head_text p.now) }
     ensures no_memory { OnErr result (out.new.items ≡ out.old.items) }
 {
-    append(
+    append_line(
         &[
             Word(b"platform apic="),
             Numbers(ids(&p.apic)),
@@ -88,20 +101,15 @@ pub fn head(p: &Platform, out: &mut Vec<u8>) -> Result<(), NoMemory>
     )
 }
 
-/// Appends the line of an entry.
+/// Appends the line of an entry. Takes any entry: where a step shows a value and the answer has none, the value is 0.
 #[tactic(auto, using(crate::proofs::Texts::line_facts))]
 pub fn line(e: &Entry, out: &mut Vec<u8>) -> Result<(), NoMemory>
     ensures appended { OnOk result (out.new.items ≡ out.old.items ++ line_text e.now) }
     ensures no_memory { OnErr result (out.new.items ≡ out.old.items) }
 {
     let held = out.len();
-    match put_entry(e, out) {
-        Ok(()) => Ok(()),
-        Err(stop) => {
-            out.truncate(held);
-            Err(stop)
-        }
-    }
+    let written = put_entry(e, out);
+    whole_line(written, held, out)
 }
 
 /// Appends the end line, which counts the entries.
@@ -110,5 +118,5 @@ pub fn end(entries: u64, out: &mut Vec<u8>) -> Result<(), NoMemory>
     ensures appended { OnOk result (out.new.items ≡ out.old.items ++ end_text entries) }
     ensures no_memory { OnErr result (out.new.items ≡ out.old.items) }
 {
-    append(&[Word(b"end "), Number(entries)], out)
+    append_line(&[Word(b"end "), Number(entries)], out)
 }

@@ -15,7 +15,7 @@ pub enum Piece<'a> {
     Number(u64),
     /// Decimal numbers, with a comma between two.
     Numbers(&'a [u32]),
-    /// So many hexadecimal digits, and the number that they show.
+    /// So many hexadecimal digits, and the number whose low digits they are.
     Hex(u32, u64),
 }
 

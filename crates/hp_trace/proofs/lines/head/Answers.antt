@@ -3,4 +3,4 @@ use Rattle.hp_trace.proofs.lines.head.Goals as goal
 
 pub returns-clause-appended : goal.returns-clause-appended
 unfolding head_text
-returns-clause-appended c = rw (← c.ids.ensures, ← c.ids-2.ensures, ← c.truth.ensures, ← c.truth-2.ensures) c.append.ensures.text
+returns-clause-appended c = rw (← c.ids.ensures, ← c.ids-2.ensures, ← c.truth.ensures, ← c.truth-2.ensures) c.append_line.ensures.appended
