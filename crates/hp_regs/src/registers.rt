@@ -7,8 +7,8 @@ ghost use Rattle.hp_regs.specs.Ports.{IsWidth};
 
 use crate::flags::Control;
 use crate::slots::{
-    Slot, control_at, insert_at, is_enabled_at, keep_data_at, legacy_bitmap, request_removal_at,
-    search, slots_at_boot, status_at,
+    Slot, control_at, insert_at, keep_data_at, legacy_bitmap, request_removal_at, search,
+    slots_at_boot, status_at,
 };
 use hp_model::{NoMemory, Platform};
 use std::alloc::Global;
@@ -87,10 +87,8 @@ impl Block {
     fn read_modern(&self, offset: u8) -> u32
         ensures { result ≡ modern_read self.now offset }
     {
-        if !self.is_selected() {
-            return 0;
-        }
         match offset {
+            _ if !self.is_selected() => 0,
             4 => u32::from(status_at(self.slots.as_slice(), self.selector as usize)),
             8 => self.read_data(),
             _ => 0,
@@ -117,10 +115,11 @@ impl Block {
         ensures block { self.new ≡ write_control self.old asked }
         ensures ejected { result ≡ ejected_by self.old self.new }
     {
-        let place = self.selector as usize;
-        let was_enabled = is_enabled_at(self.slots.as_slice(), place);
-        control_at(self.slots.as_mut_slice(), place, Control(asked));
-        if was_enabled && !is_enabled_at(self.slots.as_slice(), place) {
+        if control_at(
+            self.slots.as_mut_slice(),
+            self.selector as usize,
+            Control(asked),
+        ) {
             Some(self.selector)
         } else {
             None
@@ -153,14 +152,12 @@ impl Block {
         ensures block { self.new ≡ modern_write self.old offset value }
         ensures ejected { result ≡ ejected_by self.old self.new }
     {
-        if offset == 0 {
-            self.selector = value;
-            return None;
-        }
-        if !self.is_selected() {
-            return None;
-        }
         match offset {
+            0 => {
+                self.selector = value;
+                None
+            }
+            _ if !self.is_selected() => None,
             4 => self.control((value & 0xff) as u8),
             5 => {
                 self.obey((value & 0xff) as u8);

@@ -1,10 +1,10 @@
 //! What the block keeps of one processor, and the slots of all.
 
-ghost use Rattle.std.specs.Prelude.{◌≡◌, ◌<◌, ◌≤◌, ◌==◌, true, IfOk, IfSome, length, slice_index_or, slice_set};
+ghost use Rattle.std.specs.Prelude.{◌≡◌, ◌<◌, ◌≤◌, ◌==◌, ◌&&◌, not, true, IfOk, IfSome, length, slice_index_or, slice_set};
 ghost use Rattle.std.specs.List.{list_any, position};
 ghost use Rattle.hp_model.specs.Block.{no_slot, has_event as shows_event, status as status_of, controlled, with_data, found, bitmap as bits_of, first_places, is_in, slots_from};
 
-use crate::flags::Control;
+use crate::flags::{Control, Status};
 use bitflags::Flags;
 use hp_model::NoMemory;
 use std::alloc::Global;
@@ -60,10 +60,12 @@ impl Slot {
     pub fn status(&self) -> u8
         ensures { result ≡ status_of self.now }
     {
-        u8::from(self.enabled)
-            + 2 * u8::from(self.inserting)
-            + 4 * u8::from(self.removing)
-            + 16 * u8::from(self.ejecting)
+        let mut shown = Status::empty();
+        shown.set(Status::ENABLED, self.enabled);
+        shown.set(Status::INSERTING, self.inserting);
+        shown.set(Status::REMOVING, self.removing);
+        shown.set(Status::EJECTING, self.ejecting);
+        shown.bits()
     }
 
     pub fn insert(&mut self)
@@ -79,21 +81,26 @@ impl Slot {
         self.removing = true;
     }
 
-    pub fn control(&mut self, is_first: bool, asked: Control)
-        ensures { self.new ≡ controlled self.old is_first asked.0 }
+    /// Answers whether the processor was ejected. `is_first` tells that it is processor 0, which is never ejected.
+    pub fn control(&mut self, is_first: bool, asked: Control) -> bool
+        ensures slot { self.new ≡ controlled self.old is_first asked.0 }
+        ensures ejected { result ≡ (self.old.enabled && not self.new.enabled) }
     {
         if asked.contains(Control::CLEAR_INSERT) {
             self.inserting = false;
         } else if asked.contains(Control::CLEAR_REMOVE) {
             self.removing = false;
-        } else if is_first || !self.enabled {
-            // processor 0 and absent processors stay
-        } else if asked.contains(Control::EJECT) {
-            self.enabled = false;
-            self.ejecting = false;
-        } else if asked.contains(Control::HAND_OVER) {
-            self.ejecting = true;
+        } else if !is_first && self.enabled {
+            if asked.contains(Control::EJECT) {
+                self.enabled = false;
+                self.ejecting = false;
+                return true;
+            }
+            if asked.contains(Control::HAND_TO_FIRMWARE) {
+                self.ejecting = true;
+            }
         }
+        false
     }
 
     pub fn keep_data(&mut self, command: u8, value: u32)
@@ -107,14 +114,6 @@ impl Slot {
     }
 }
 
-pub fn is_enabled_at(slots: &[Slot], place: usize) -> bool
-    requires { place < length slots.now }
-    ensures { result ≡ (slice_index_or slots.now place no_slot).enabled }
-{
-    let slot = &slots[place];
-    slot.is_enabled()
-}
-
 pub fn status_at(slots: &[Slot], place: usize) -> u8
     requires { place < length slots.now }
     ensures { result ≡ status_of (slice_index_or slots.now place no_slot) }
@@ -123,12 +122,13 @@ pub fn status_at(slots: &[Slot], place: usize) -> u8
     slot.status()
 }
 
-pub fn control_at(slots: &mut [Slot], place: usize, asked: Control)
+pub fn control_at(slots: &mut [Slot], place: usize, asked: Control) -> bool
     requires { place < length slots.old }
-    ensures { slots.new ≡ slice_set slots.old place (controlled (slice_index_or slots.old place no_slot) (place == 0) asked.0) }
+    ensures slots { slots.new ≡ slice_set slots.old place (controlled (slice_index_or slots.old place no_slot) (place == 0) asked.0) }
+    ensures ejected { result ≡ ((slice_index_or slots.old place no_slot).enabled && not (slice_index_or slots.new place no_slot).enabled) }
 {
     let slot = &mut slots[place];
-    slot.control(place == 0, asked);
+    slot.control(place == 0, asked)
 }
 
 pub fn keep_data_at(slots: &mut [Slot], place: usize, command: u8, value: u32)
