@@ -3,7 +3,7 @@ use Rattle.std.proofs.Common.{◌≡◌, ◌≢◌, ℕ, Bool, true, false, cond
 use Rattle.std.proofs.lemmas.Bool.Decides.{nat_tests}
 use Rattle.std.proofs.lemmas.Option.{same_Some}
 use Rattle.std.proofs.lemmas.Bool.{cases_eq, true≢false}
-use Rattle.hp_model.specs.Block.{Block, Slot, no_slot, slot_at, set_slot, is_selected, cut, controlled, with_data, write_control, write_data, modern_write, block_write, ejected_by}
+use Rattle.hp_model.specs.Block.{Block, Slot, no_slot, slot_at, set_slot, is_selected, cut, controlled, with_data, write_control, write_data, modern_write, block_write, ejected_by, with_insert, with_removal}
 use Rattle.hp_regs.specs.Words.{lowest_bit}
 
 -- what a write makes of a block: the slots stay, or the selected one takes a control byte, or command data
@@ -160,3 +160,11 @@ count_of b n (fills v h e) = ap (λ (m : Block). length m.slots) e ∙ length-se
 
 pub stays_count : (b : Block) (offset width value : ℕ) → length (block_write b offset width value).slots ≡ length b.slots
 stays_count b offset width value = count_of b (block_write b offset width value) (Write-any b offset width value)
+
+pub inserted_count : (b : Block) (k : ℕ) → length (with_insert b k).slots ≡ length b.slots
+inserted_count b k = length-set b.slots k _
+
+pub requested_count : (b : Block) (k : ℕ) → length (with_removal b k).slots ≡ length b.slots
+requested_count b k = length-set b.slots k _
+
+pub ruleset count_facts = (stays_count, inserted_count, requested_count)
