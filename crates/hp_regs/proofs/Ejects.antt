@@ -8,7 +8,7 @@ use Rattle.hp_regs.specs.Words.{lowest_bit}
 
 -- what a write makes of a block: the slots stay, or the selected one takes a control byte, or command data
 data Write (b n : Block) : Type 0 where
-  keeps : n.slots ≡ b.slots → n.apic ≡ b.apic → Write b n
+  keeps : n.slots ≡ b.slots → Write b n
   controls : (value : ℕ) → b.selector < length b.slots → n ≡ write_control b value → Write b n
   fills : (value : ℕ) → b.selector < length b.slots → n ≡ write_data b value → Write b n
 
@@ -21,18 +21,18 @@ selected b h = grind (arith, nat_tests)
 
 Write-modern : (b : Block) (offset value : ℕ) → Write b (modern_write b offset value)
 Write-modern b offset value =
-    by_test b _ _ (offset == 0) (λ _. keeps refl refl)
-    (λ _. by_test b _ _ (not (is_selected b)) (λ _. keeps refl refl)
+    by_test b _ _ (offset == 0) (λ _. keeps refl)
+    (λ _. by_test b _ _ (not (is_selected b)) (λ _. keeps refl)
     (λ h. by_test b _ _ (offset == 4) (λ _. controls (value % 256) (selected b h) refl)
-    (λ _. by_test b _ _ (offset == 5) (λ _. keeps refl refl)
+    (λ _. by_test b _ _ (offset == 5) (λ _. keeps refl)
     (λ _. by_test b _ _ (offset == 8) (λ _. fills value (selected b h) refl)
-    (λ _. keeps refl refl)))))
+    (λ _. keeps refl)))))
 
 Write-any : (b : Block) (offset width value : ℕ) → Write b (block_write b offset width value)
 Write-any b offset width value =
     by_test b _ _ b.modern (λ _. Write-modern b offset (cut width value))
     (λ _. by_test b (record b { modern = true }) b (b.can_switch && ((offset == 0) && (cut width value == 0)))
-    (λ _. keeps refl refl) (λ _. keeps refl refl))
+    (λ _. keeps refl) (λ _. keeps refl))
 
 -- the changed slot, and the others
 at_place : (b : Block) (k : ℕ) (s : Slot) → k < length b.slots → slot_at (set_slot b k s) k ≡ s
@@ -87,7 +87,7 @@ no_eject : (b n : Block) (s : ℕ) → IsEject b n s → (slot_at n b.selector).
 no_eject b n s is same = true≢false (sym is.before ∙ sym same ∙ is.after)
 
 first_of : (b n : Block) → Write b n → IsEject b n 0 → ⊥
-first_of b n (keeps e a) is = no_eject b n 0 is (ap (λ (s : Slot). s.enabled) (same_slots b n b.selector e))
+first_of b n (keeps e) is = no_eject b n 0 is (ap (λ (s : Slot). s.enabled) (same_slots b n b.selector e))
 first_of b n (controls v h e) is =
     let zeroth : (b.selector == 0) ≡ true = grind (arith, nat_tests, is.place) in
     let there : slot_at n b.selector ≡ controlled (slot_at b b.selector) true v =
@@ -101,7 +101,7 @@ first_stays b offset width value e =
     first_of b (block_write b offset width value) (Write-any b offset width value) (ejects b (block_write b offset width value) 0 e)
 
 other_of : (b n : Block) (k : ℕ) → k ≢ b.selector → Write b n → slot_at n k ≡ slot_at b k
-other_of b n k other (keeps e a) = same_slots b n k e
+other_of b n k other (keeps e) = same_slots b n k e
 other_of b n k other (controls v h e) = ap (λ (m : Block). slot_at m k) e ∙ elsewhere b b.selector _ k other
 other_of b n k other (fills v h e) = ap (λ (m : Block). slot_at m k) e ∙ elsewhere b b.selector _ k other
 
@@ -109,7 +109,7 @@ pub other_stays : (b : Block) (offset width value k : ℕ) → k ≢ b.selector 
 other_stays b offset width value k other = other_of b (block_write b offset width value) k other (Write-any b offset width value)
 
 eject_of : (b n : Block) (s : ℕ) → Write b n → IsEject b n s → n ≡ set_slot b s (record (slot_at b s) { enabled = false; ejecting = false })
-eject_of b n s (keeps e a) is = absurd (no_eject b n s is (ap (λ (s : Slot). s.enabled) (same_slots b n b.selector e)))
+eject_of b n s (keeps e) is = absurd (no_eject b n s is (ap (λ (s : Slot). s.enabled) (same_slots b n b.selector e)))
 eject_of b n s (controls v h e) is =
     let gone : (controlled (slot_at b b.selector) (b.selector == 0) v).enabled ≡ false =
     sym (ap (λ (s : Slot). s.enabled) (control_there b n v h e)) ∙ is.after in
@@ -131,7 +131,7 @@ told_bits false true k absent d = absurd (true≢false (absent refl))
 told_bits false false k absent d = absurd (d refl)
 
 told_there : (b n : Block) → Write b n → (slot_at n b.selector).enabled ≢ (slot_at b b.selector).enabled → ejected_by b n ≡ Some b.selector
-told_there b n (keeps e a) d = absurd (d (ap (λ (s : Slot). s.enabled) (same_slots b n b.selector e)))
+told_there b n (keeps e) d = absurd (d (ap (λ (s : Slot). s.enabled) (same_slots b n b.selector e)))
 told_there b n (controls v h e) d =
     told_bits _ _ _ (λ absent. ap (λ (s : Slot). s.enabled) (control_there b n v h e) ∙
     controlled-absent (slot_at b b.selector) (b.selector == 0) v absent) d
@@ -152,9 +152,9 @@ eject_told b offset width value k d = elim (cases_eq k b.selector) [
 pub lowest_acts : (s : Slot) (is_first : Bool) (value : ℕ) → controlled s is_first value ≡ controlled s is_first (lowest_bit value)
 lowest_acts s is_first value = grind (arith, nat_tests)
 
--- no write changes how many slots there are, nor the APIC IDs
+-- no call changes how many slots there are
 count_of : (b n : Block) → Write b n → length n.slots ≡ length b.slots
-count_of b n (keeps e a) = ap length e
+count_of b n (keeps e) = ap length e
 count_of b n (controls v h e) = ap (λ (m : Block). length m.slots) e ∙ length-set b.slots b.selector _
 count_of b n (fills v h e) = ap (λ (m : Block). length m.slots) e ∙ length-set b.slots b.selector _
 
