@@ -1,4 +1,4 @@
-//! The register block.
+//! The register block, with reads and writes by offset.
 
 ghost use Rattle.std.specs.Prelude.{◌≡◌, ◌<◌, IfOk, length};
 ghost use Rattle.hp_model.specs.Platform.{IsFit};
@@ -7,14 +7,25 @@ ghost use Rattle.hp_regs.specs.Ports.{IsWidth};
 
 use crate::flags::Control;
 use crate::slots::{
-    Slot, control_at, insert_at, is_enabled_at, keep_data_at, legacy_bitmap, request_removal_at,
-    search, slots_at_boot, status_at,
+    Slot, control_at, insert_at, keep_data_at, legacy_bitmap, request_removal_at, search,
+    slots_at_boot, status_at,
 };
 use hp_model::{NoMemory, Platform};
 use std::alloc::Global;
 use std::marker::Model;
 
-/// The register block of all possible processors.
+/// The processor hot-plug register block: 12 bytes of I/O ports, of which the offset counts
+/// (QEMU docs/specs/acpi_cpu_hotplug, with own rules; docs/MACHINE.md has each).
+///
+/// | Offset | Write | Read |
+/// |---|---|---|
+/// | 0 | selector | command data 2, which is 0: it is the high half of an APIC ID of 64 bits |
+/// | 4 | control, one byte | status, one byte |
+/// | 5 | command, one byte | 0 |
+/// | 8 | command data | command data |
+///
+/// This is the modern form. A block starts in its legacy form, where offset 0 reads a bit for each enabled processor
+/// below 32, and a write of 0 there switches to the modern form for good, if the platform has it.
 #[derive(Drop)]
 pub struct Block {
     can_switch: bool,
@@ -49,7 +60,7 @@ fn cut(width: u8, value: u32) -> u32
 }
 
 impl Block {
-    /// The block at the start.
+    /// The block at the start: the legacy form, with selector and command 0 and the boot processors enabled.
     #[tactic(auto, using(crate::proofs::AtBoot::new_facts))]
     pub fn new(alloc: Global, p: &Platform) -> Result<Block, NoMemory>
         requires { IsFit p.now }
@@ -67,10 +78,78 @@ impl Block {
         })
     }
 
+    /// Reads `width` bytes, 1, 2 or 4, at an offset below 12. Bits above the width are 0.
+    ///
+    /// A register answers at its first offset alone; any other reads 0, and so does each while the selector names no
+    /// possible processor (own rules). Reading changes nothing.
+    pub fn read(&self, offset: u8, width: u8) -> u32
+        requires offset { offset < 12 }
+        requires width { IsWidth width }
+        ensures value { result ≡ block_read self.now offset width }
+    {
+        if self.modern {
+            cut(width, self.read_modern(offset))
+        } else if offset == 0 {
+            cut(width, legacy_bitmap(self.slots.as_slice()))
+        } else {
+            0
+        }
+    }
+
+    /// Writes the low `width` bytes of `value`, 1, 2 or 4, at an offset below 12. The other bits of a register of 32 bits
+    /// become 0, so a narrow write replaces the whole selector (own rule).
+    ///
+    /// Answers `Some(s)` exactly where this write ejected processor `s`: its enabled bit is now clear, and the caller
+    /// is to make the processor absent.
+    pub fn write(&mut self, offset: u8, width: u8, value: u32) -> Option<u32>
+        requires offset { offset < 12 }
+        requires width { IsWidth width }
+        ensures block { self.new ≡ block_write self.old offset width value }
+        ensures ejected { result ≡ ejected_by self.old self.new }
+    {
+        let value = cut(width, value);
+        if self.modern {
+            return self.write_modern(offset, value);
+        }
+        if self.can_switch && offset == 0 && value == 0 {
+            self.modern = true;
+        }
+        None
+    }
+
+    /// The host inserted processor `s`: it is enabled and has an insert event. `s` is a possible processor.
+    pub fn insert_event(&mut self, s: u32)
+        requires { s < length self.old.slots }
+        ensures { self.new ≡ with_insert self.old s }
+    {
+        insert_at(self.slots.as_mut_slice(), s as usize);
+    }
+
+    /// The host requests the removal of processor `s`: it has a remove event, and stays enabled until it is ejected.
+    /// `s` is a possible processor.
+    pub fn remove_event(&mut self, s: u32)
+        requires { s < length self.old.slots }
+        ensures { self.new ≡ with_removal self.old s }
+    {
+        request_removal_at(self.slots.as_mut_slice(), s as usize);
+    }
+
+    /// Whether the selector names a possible processor.
     fn is_selected(&self) -> bool
         ensures { result ≡ names_processor self.now }
     {
         (self.selector as usize) < self.slots.len()
+    }
+
+    fn read_modern(&self, offset: u8) -> u32
+        ensures { result ≡ modern_read self.now offset }
+    {
+        match offset {
+            _ if !self.is_selected() => 0,
+            4 => u32::from(status_at(self.slots.as_slice(), self.selector as usize)),
+            8 => self.read_data(),
+            _ => 0,
+        }
     }
 
     fn read_data(&self) -> u32
@@ -84,31 +163,26 @@ impl Block {
         }
     }
 
-    fn read_modern(&self, offset: u8) -> u32
-        ensures { result ≡ modern_read self.now offset }
+    fn write_modern(&mut self, offset: u8, value: u32) -> Option<u32>
+        ensures block { self.new ≡ modern_write self.old offset value }
+        ensures ejected { result ≡ ejected_by self.old self.new }
     {
-        if !self.is_selected() {
-            return 0;
-        }
         match offset {
-            4 => u32::from(status_at(self.slots.as_slice(), self.selector as usize)),
-            8 => self.read_data(),
-            _ => 0,
-        }
-    }
-
-    /// Reads.
-    pub fn read(&self, offset: u8, width: u8) -> u32
-        requires offset { offset < 12 }
-        requires width { IsWidth width }
-        ensures { result ≡ block_read self.now offset width }
-    {
-        if self.modern {
-            cut(width, self.read_modern(offset))
-        } else if offset == 0 {
-            cut(width, legacy_bitmap(self.slots.as_slice()))
-        } else {
-            0
+            0 => {
+                self.selector = value;
+                None
+            }
+            _ if !self.is_selected() => None,
+            4 => self.control((value & 0xff) as u8),
+            5 => {
+                self.obey((value & 0xff) as u8);
+                None
+            }
+            8 => {
+                self.write_data(value);
+                None
+            }
+            _ => None,
         }
     }
 
@@ -117,10 +191,11 @@ impl Block {
         ensures block { self.new ≡ write_control self.old asked }
         ensures ejected { result ≡ ejected_by self.old self.new }
     {
-        let place = self.selector as usize;
-        let was_enabled = is_enabled_at(self.slots.as_slice(), place);
-        control_at(self.slots.as_mut_slice(), place, Control(asked));
-        if was_enabled && !is_enabled_at(self.slots.as_slice(), place) {
+        if control_at(
+            self.slots.as_mut_slice(),
+            self.selector as usize,
+            Control(asked),
+        ) {
             Some(self.selector)
         } else {
             None
@@ -147,64 +222,5 @@ impl Block {
             self.command,
             value,
         );
-    }
-
-    fn write_modern(&mut self, offset: u8, value: u32) -> Option<u32>
-        ensures block { self.new ≡ modern_write self.old offset value }
-        ensures ejected { result ≡ ejected_by self.old self.new }
-    {
-        if offset == 0 {
-            self.selector = value;
-            return None;
-        }
-        if !self.is_selected() {
-            return None;
-        }
-        match offset {
-            4 => self.control((value & 0xff) as u8),
-            5 => {
-                self.obey((value & 0xff) as u8);
-                None
-            }
-            8 => {
-                self.write_data(value);
-                None
-            }
-            _ => None,
-        }
-    }
-
-    /// Writes.
-    pub fn write(&mut self, offset: u8, width: u8, value: u32) -> Option<u32>
-        requires offset { offset < 12 }
-        requires width { IsWidth width }
-        ensures block { self.new ≡ block_write self.old offset width value }
-        ensures ejected { result ≡ ejected_by self.old self.new }
-    {
-        let value = cut(width, value);
-        if self.modern {
-            self.write_modern(offset, value)
-        } else {
-            if self.can_switch && offset == 0 && value == 0 {
-                self.modern = true;
-            }
-            None
-        }
-    }
-
-    /// Inserts.
-    pub fn insert_event(&mut self, s: u32)
-        requires { s < length self.old.slots }
-        ensures { self.new ≡ with_insert self.old s }
-    {
-        insert_at(self.slots.as_mut_slice(), s as usize);
-    }
-
-    /// Removes.
-    pub fn remove_event(&mut self, s: u32)
-        requires { s < length self.old.slots }
-        ensures { self.new ≡ with_removal self.old s }
-    {
-        request_removal_at(self.slots.as_mut_slice(), s as usize);
     }
 }

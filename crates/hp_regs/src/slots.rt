@@ -1,10 +1,10 @@
-//! What the block keeps of one processor, and the slots of all.
+//! What the block keeps of one processor, and of all by place.
 
-ghost use Rattle.std.specs.Prelude.{◌≡◌, ◌<◌, ◌≤◌, ◌==◌, true, IfOk, IfSome, length, slice_index_or, slice_set};
+ghost use Rattle.std.specs.Prelude.{◌≡◌, ◌<◌, ◌≤◌, ◌==◌, ◌&&◌, not, true, IfOk, IfSome, length, slice_index_or, slice_set};
 ghost use Rattle.std.specs.List.{list_any, position};
-ghost use Rattle.hp_model.specs.Block.{no_slot, has_event as shows_event, status as status_of, controlled, with_data, found, bitmap as bits_of, first_places, is_in, slots_from};
+ghost use Rattle.hp_model.specs.Block.{no_slot, has_event as shows_event, status as status_of, controlled, with_data, found, bitmap as bits_of, first_places, slots_from};
 
-use crate::flags::Control;
+use crate::flags::{Control, Status};
 use bitflags::Flags;
 use hp_model::NoMemory;
 use std::alloc::Global;
@@ -14,8 +14,11 @@ use std::marker::Model;
 #[derive(Clone, Copy)]
 pub struct Slot {
     enabled: bool,
+    /// The insert event.
     inserting: bool,
+    /// The remove event.
     removing: bool,
+    /// The eject was handed to the firmware.
     ejecting: bool,
     ost_event: u32,
     ost_status: u32,
@@ -32,7 +35,7 @@ impl Model for Slot {
 }
 
 impl Slot {
-    pub fn new(enabled: bool) -> Slot
+    fn new(enabled: bool) -> Slot
         ensures { result ≡ record no_slot { enabled = enabled } }
     {
         Slot {
@@ -45,58 +48,65 @@ impl Slot {
         }
     }
 
-    pub fn is_enabled(&self) -> bool
+    fn is_enabled(&self) -> bool
         ensures { result ≡ self.now.enabled }
     {
         self.enabled
     }
 
-    pub fn has_event(&self) -> bool
+    fn has_event(&self) -> bool
         ensures { result ≡ shows_event self.now }
     {
         self.inserting || self.removing || self.ejecting
     }
 
-    pub fn status(&self) -> u8
+    fn status(&self) -> u8
         ensures { result ≡ status_of self.now }
     {
-        u8::from(self.enabled)
-            + 2 * u8::from(self.inserting)
-            + 4 * u8::from(self.removing)
-            + 16 * u8::from(self.ejecting)
+        let mut shown = Status::empty();
+        shown.set(Status::ENABLED, self.enabled);
+        shown.set(Status::INSERTING, self.inserting);
+        shown.set(Status::REMOVING, self.removing);
+        shown.set(Status::EJECTING, self.ejecting);
+        shown.bits()
     }
 
-    pub fn insert(&mut self)
+    fn insert(&mut self)
         ensures { self.new ≡ record self.old { enabled = true; inserting = true } }
     {
         self.enabled = true;
         self.inserting = true;
     }
 
-    pub fn request_removal(&mut self)
+    fn request_removal(&mut self)
         ensures { self.new ≡ record self.old { removing = true } }
     {
         self.removing = true;
     }
 
-    pub fn control(&mut self, is_first: bool, asked: Control)
-        ensures { self.new ≡ controlled self.old is_first asked.0 }
+    /// Answers whether the processor was ejected. `is_first` tells that it is processor 0, which is never ejected.
+    fn control(&mut self, is_first: bool, asked: Control) -> bool
+        ensures slot { self.new ≡ controlled self.old is_first asked.0 }
+        ensures ejected { result ≡ (self.old.enabled && not self.new.enabled) }
     {
         if asked.contains(Control::CLEAR_INSERT) {
             self.inserting = false;
         } else if asked.contains(Control::CLEAR_REMOVE) {
             self.removing = false;
-        } else if is_first || !self.enabled {
-            // processor 0 and absent processors stay
-        } else if asked.contains(Control::EJECT) {
-            self.enabled = false;
-            self.ejecting = false;
-        } else if asked.contains(Control::HAND_OVER) {
-            self.ejecting = true;
+        } else if !is_first && self.enabled {
+            if asked.contains(Control::EJECT) {
+                self.enabled = false;
+                self.ejecting = false;
+                return true;
+            }
+            if asked.contains(Control::HAND_TO_FIRMWARE) {
+                self.ejecting = true;
+            }
         }
+        false
     }
 
-    pub fn keep_data(&mut self, command: u8, value: u32)
+    fn keep_data(&mut self, command: u8, value: u32)
         ensures { self.new ≡ with_data self.old command value }
     {
         match command {
@@ -107,14 +117,6 @@ impl Slot {
     }
 }
 
-pub fn is_enabled_at(slots: &[Slot], place: usize) -> bool
-    requires { place < length slots.now }
-    ensures { result ≡ (slice_index_or slots.now place no_slot).enabled }
-{
-    let slot = &slots[place];
-    slot.is_enabled()
-}
-
 pub fn status_at(slots: &[Slot], place: usize) -> u8
     requires { place < length slots.now }
     ensures { result ≡ status_of (slice_index_or slots.now place no_slot) }
@@ -123,12 +125,14 @@ pub fn status_at(slots: &[Slot], place: usize) -> u8
     slot.status()
 }
 
-pub fn control_at(slots: &mut [Slot], place: usize, asked: Control)
+/// Answers whether the processor was ejected.
+pub fn control_at(slots: &mut [Slot], place: usize, asked: Control) -> bool
     requires { place < length slots.old }
-    ensures { slots.new ≡ slice_set slots.old place (controlled (slice_index_or slots.old place no_slot) (place == 0) asked.0) }
+    ensures slots { slots.new ≡ slice_set slots.old place (controlled (slice_index_or slots.old place no_slot) (place == 0) asked.0) }
+    ensures ejected { result ≡ ((slice_index_or slots.old place no_slot).enabled && not (slice_index_or slots.new place no_slot).enabled) }
 {
     let slot = &mut slots[place];
-    slot.control(place == 0, asked);
+    slot.control(place == 0, asked)
 }
 
 pub fn keep_data_at(slots: &mut [Slot], place: usize, command: u8, value: u32)
@@ -156,15 +160,15 @@ pub fn request_removal_at(slots: &mut [Slot], place: usize)
 }
 
 /// The place of the first slot with an event.
-pub fn first_event(slots: &[Slot]) -> Option<usize>
+fn first_event(slots: &[Slot]) -> Option<usize>
     ensures value { result ≡ position shows_event slots.now }
     ensures below { IfSome result (λ place. place < length slots.now) }
 {
     slots.iter().position(|slot| slot.has_event())
 }
 
+/// The place of the first slot with an event from `start` upward and then from 0; `start` where none has one.
 #[tactic(auto, using(crate::proofs::Search::first_position))]
-/// The place of the first slot with an event from `start` on and then from 0; `start` where none has one.
 pub fn search(slots: &[Slot], start: usize) -> usize
     requires { start < length slots.now }
     ensures value { result ≡ found start slots.now }
@@ -177,8 +181,8 @@ pub fn search(slots: &[Slot], start: usize) -> usize
     }
 }
 
-#[tactic(auto, using(crate::proofs::Bitmap::bitmap_fits))]
 /// A bit for each slot, set where its processor is enabled, the first lowest.
+#[tactic(auto, using(crate::proofs::Bitmap::bitmap_fits))]
 fn bitmap(slots: &[Slot]) -> u32
     requires { length slots.now ≤ 32 }
     ensures { result ≡ bits_of slots.now }
@@ -189,8 +193,8 @@ fn bitmap(slots: &[Slot]) -> u32
     }
 }
 
+/// A bit for each of the first 32 slots.
 #[tactic(auto, using(crate::proofs::Bitmap::bitmap_facts))]
-/// The legacy form: a bit for each of the first 32 slots.
 pub fn legacy_bitmap(slots: &[Slot]) -> u32
     ensures { result ≡ bits_of (first_places slots.now) }
 {
@@ -201,8 +205,8 @@ pub fn legacy_bitmap(slots: &[Slot]) -> u32
     }
 }
 
+/// A slot for each APIC ID, enabled where its place is among `boot`.
 #[tactic(auto, using(crate::proofs::AtBoot::slots_more))]
-/// A slot for each of `count` possible processors, enabled where its place is among `boot`.
 pub fn slots_at_boot(alloc: Global, apic: &[u32], boot: &[u32]) -> Result<Vec<Slot>, NoMemory>
     ensures { IfOk result (λ slots. slots.items ≡ slots_from 0 apic.now boot.now) }
 {
@@ -216,5 +220,5 @@ pub fn slots_at_boot(alloc: Global, apic: &[u32], boot: &[u32]) -> Result<Vec<Sl
 fn is_among(place: usize, boot: &[u32]) -> bool
     ensures { result ≡ list_any (λ x. x == place) boot.now }
 {
-    boot.iter().any(|id| *id as usize == place)
+    boot.iter().any(|other| *other as usize == place)
 }
