@@ -10,6 +10,8 @@ mod running;
 mod scripted;
 mod statuses;
 mod streams;
+#[cfg(test)]
+mod tests;
 mod writing;
 
 pub use answering::top;
