@@ -14,7 +14,10 @@ use Rattle.hp_model.specs.declared.files.VoiceKind.{VoiceKind}
 use Rattle.hp_model.specs.declared.files.VoiceKind.TheVariants.{Script, Os, Pen, Seeded, Handed}
 use Rattle.hp_model.specs.declared.files.File.{File}
 use Rattle.hp_model.specs.Platform.{count_of}
-use Rattle.hp_model.specs.Step.{State, After, step, start}
+use Rattle.hp_model.specs.declared.processors.Cpu.{Cpu}
+use Rattle.hp_model.specs.Cpu.{is_free, may_take_smi, may_take_init}
+use Rattle.hp_model.specs.Block.{ejected_by}
+use Rattle.hp_model.specs.Step.{State, After, at, step, start}
 use Rattle.hp_model.specs.Runs.{address_of}
 
 -- what a processor still says: the steps of its script that are left, and halts after them.
@@ -57,17 +60,29 @@ pub record Made : Type 0 where
 abbrev pub makes_none : Scene → Made
 makes_none w = record { entries = []; scene = w }
 
--- what an actor would do: the host its event, a processor what its voice says
+-- what a processor does: it takes a latched SMI, else a latched INIT, else the access that its voice says
+abbrev pub cpu_event : ℕ → Cpu → Access → Event
+cpu_event k c access = if may_take_smi c then event.TakeSmi k else if may_take_init c then event.TakeInit k else event.Do k access
+
+-- what an actor would do: the host its event, and a processor its own
 abbrev pub event_of : Scene → Actor → Event
 event_of w (actor.Insert k) = event.Insert k
 event_of w (actor.Remove k) = event.Remove k
-event_of w (actor.Cpu k) = event.Do k (says (voice_at w k)).access
+event_of w (actor.Cpu k) = cpu_event k (at w.state k) (says (voice_at w k)).access
 
--- the voice that was asked keeps the rest
-abbrev pub voices_after : Scene → Actor → List Voice
-voices_after w (actor.Insert k) = w.voices
-voices_after w (actor.Remove k) = w.voices
-voices_after w (actor.Cpu k) = slice_set w.voices k (says (voice_at w k)).voice
+-- the voice that was asked keeps the rest; one is asked where its processor is running and nothing is latched
+abbrev pub voices_asked : Scene → Actor → List Voice
+voices_asked w (actor.Insert k) = w.voices
+voices_asked w (actor.Remove k) = w.voices
+voices_asked w (actor.Cpu k) = if is_free (at w.state k) then slice_set w.voices k (says (voice_at w k)).voice else w.voices
+
+-- the voice of an ejected processor says halts alone
+abbrev pub without_voice : Option ℕ → List Voice → List Voice
+without_voice None vs = vs
+without_voice (Some k) vs = slice_set vs k (script [])
+
+abbrev pub voices_after : Scene → Actor → State → List Voice
+voices_after w a next = without_voice (ejected_by w.state.block next.block) (voices_asked w a)
 
 abbrev pub entry_of : Scene → Event → After → Entry
 entry_of w e after = record { event = e; at = address_of w.state e; answer = after.answer }
@@ -75,7 +90,7 @@ entry_of w e after = record { event = e; at = address_of w.state e; answer = aft
 -- an actor's event makes an entry where the machine has it as a step, and else nothing
 abbrev pub made_by : Scene → Actor → Option After → Made
 made_by w a None = makes_none w
-made_by w a (Some after) = record { entries = entry_of w (event_of w a) after ∷ []; scene = record { state = after.state; voices = voices_after w a } }
+made_by w a (Some after) = record { entries = entry_of w (event_of w a) after ∷ []; scene = record { state = after.state; voices = voices_after w a after.state } }
 
 unfoldable pub act : Platform → Scene → Actor → Made
 act p w a = made_by w a (step p w.state (event_of w a))

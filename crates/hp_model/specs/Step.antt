@@ -1,5 +1,5 @@
--- One step of the machine: a table of events over guards and effects. A row that isn't built yet says so.
-use Rattle.std.specs.Prelude.{ℕ, Bool, true, false, ◌&&◌, ◌||◌, ◌==◌, nat_lt, nat_le, ◌-◌, ◌^◌, List, Option, Some, None, slice_set, if◌then◌else◌}
+-- One step of the machine: a table of events over guards and effects. The ports of ICH9 and of fw_cfg, the boot sequence and the handlers aren't built yet.
+use Rattle.std.specs.Prelude.{ℕ, Bool, true, false, not, ◌&&◌, ◌||◌, ◌==◌, nat_lt, nat_le, ◌-◌, ◌^◌, List, [], Option, Some, None, slice_index_or, slice_set, if◌then◌else◌}
 use Rattle.hp_model.specs.declared.platforms.Platform.{Platform}
 use Rattle.hp_model.specs.declared.processors.Cpu.{Cpu}
 use Rattle.hp_model.specs.declared.accesses.Access.{Access}
@@ -8,12 +8,19 @@ use Rattle.hp_model.specs.declared.accesses.Answer.{Answer}
 use Rattle.hp_model.specs.declared.accesses.Answer.TheVariants.{Quiet, Value}
 use Rattle.hp_model.specs.declared.entries.Event.{Event}
 use Rattle.hp_model.specs.declared.entries.Event.TheVariants.{Insert, Remove, Do, TakeSmi, TakeInit, Resume, Tell}
-use Rattle.hp_model.specs.Cpu.{absent, cpus_start, cpu_at, is_free, halt}
-use Rattle.hp_model.specs.Block.{Block, block_start, block_read, block_write, ejected_by}
+use Rattle.hp_model.specs.Platform.{count_of}
+use Rattle.hp_model.specs.Memory.{Write, byte_at}
+use Rattle.hp_model.specs.View.{Locks, locks_start, lock_read, lock_write, loaded, stored, swapped}
+use Rattle.hp_model.specs.Cpu.{absent, inserted, cpus_start, cpu_at, is_free, is_in_smm, halt, may_take_smi, take_smi, may_take_init, take_init, resumed}
+use Rattle.hp_model.specs.Block.{Block, block_start, block_read, block_write, ejected_by, with_insert, with_removal}
+use Rattle.hp_model.specs.Interrupts.{decoded, sent}
+use Rattle.hp_model.specs.SaveArea.{saved, saved_smbase, saved_rip}
 
 -- the machine; its parts that aren't built yet join this record
 pub record State : Type 0 where
   pub cpus : List Cpu
+  pub writes : List Write
+  pub locks : Locks
   pub block : Block
 
 -- what a step answers, and the state after it
@@ -23,13 +30,17 @@ pub record After : Type 0 where
 
 -- the machine before its first step
 abbrev pub start : Platform → State
-start p = record { cpus = cpus_start p; block = block_start p }
+start p = record { cpus = cpus_start p; writes = []; locks = locks_start p; block = block_start p }
 
 abbrev pub at : State → ℕ → Cpu
 at s k = cpu_at s.cpus k
 
 abbrev pub set_cpu : ℕ → Cpu → State → State
 set_cpu k c s = record s { cpus = slice_set s.cpus k c }
+
+-- the APIC ID of the processor in a place
+abbrev pub apic_of : Platform → ℕ → ℕ
+apic_of p k = slice_index_or p.apic k 255
 
 -- widths in bytes: of memory, and of a port
 abbrev pub is_memory_width : ℕ → Bool
@@ -51,6 +62,46 @@ is_normal (Icr high low) = true
 is_normal Halt = true
 is_normal Nop = true
 
+abbrev pub is_halt : Access → Bool
+is_halt (Load addr width) = false
+is_halt (Store addr width value) = false
+is_halt (Swap addr expected desired) = false
+is_halt (In port width) = false
+is_halt (Out port width value) = false
+is_halt (CfgRead reg) = false
+is_halt (CfgWrite reg value) = false
+is_halt (Icr high low) = false
+is_halt Halt = true
+is_halt Nop = false
+
+-- a present processor in SMM
+abbrev pub stands_in_smm : Cpu → Bool
+stands_in_smm c = c.present && is_in_smm c.mode
+
+-- a running processor without a latch makes any access, and one in SMM any but a halt
+abbrev pub may_access : Cpu → Access → Bool
+may_access c a = is_free c || (stands_in_smm c && not (is_halt a))
+
+-- by presence, modes and latches alone: what the machine can do
+abbrev pub is_enabled : Platform → State → Event → Bool
+is_enabled p s (Insert k) = nat_lt k (count_of p) && not (at s k).present
+is_enabled p s (Remove k) = not (k == 0) && (at s k).present
+is_enabled p s (Do k a) = is_normal a && may_access (at s k) a
+is_enabled p s (TakeSmi k) = may_take_smi (at s k)
+is_enabled p s (TakeInit k) = may_take_init (at s k)
+is_enabled p s (Resume k) = stands_in_smm (at s k)
+is_enabled p s (Tell o) = stands_in_smm (at s 0)
+
+-- in SMM a processor does what its handler wants; no handler is built yet
+abbrev pub is_wanted : State → Event → Bool
+is_wanted s (Insert k) = true
+is_wanted s (Remove k) = true
+is_wanted s (Do k a) = not (is_in_smm (at s k).mode)
+is_wanted s (TakeSmi k) = true
+is_wanted s (TakeInit k) = true
+is_wanted s (Resume k) = false
+is_wanted s (Tell o) = false
+
 -- an ejected processor is absent (own rule)
 abbrev pub without_ejected : Option ℕ → List Cpu → List Cpu
 without_ejected None cs = cs
@@ -59,65 +110,84 @@ without_ejected (Some k) cs = slice_set cs k absent
 -- a write to the register block, which may eject a processor
 abbrev pub write_block : ℕ → ℕ → ℕ → State → State
 write_block offset width value s =
-    let new = block_write s.block offset width value in
-    record s { block = new; cpus = without_ejected (ejected_by s.block new) s.cpus }
+    record s {
+      block = block_write s.block offset width value;
+      cpus = without_ejected (ejected_by s.block (block_write s.block offset width value)) s.cpus;
+    }
 
--- the register block's ports, 0cd8 to 0ce3
+-- the register block's ports, 0cd8 to 0ce3; ports that no rule names read 0 and ignore writes (own rule)
 abbrev pub is_on_block : ℕ → Bool
 is_on_block port = nat_le 0xcd8 port && nat_lt port 0xce4
 
--- the accesses whose rows are built
-abbrev pub has_row : Access → Bool
-has_row (Load addr width) = false
-has_row (Store addr width value) = false
-has_row (Swap addr expected desired) = false
-has_row (In port width) = is_on_block port
-has_row (Out port width value) = is_on_block port
-has_row (CfgRead reg) = false
-has_row (CfgWrite reg value) = false
-has_row (Icr high low) = false
-has_row Halt = true
-has_row Nop = true
+abbrev pub read_port : ℕ → ℕ → State → ℕ
+read_port port width s = if is_on_block port then block_read s.block (port - 0xcd8) width else 0
+
+abbrev pub write_port : ℕ → ℕ → ℕ → State → State
+write_port port width value s = if is_on_block port then write_block (port - 0xcd8) width value s else s
 
 -- what an access is answered
-abbrev pub answer_to : Access → State → Answer
-answer_to (Load addr width) s = Quiet
-answer_to (Store addr width value) s = Quiet
-answer_to (Swap addr expected desired) s = Quiet
-answer_to (In port width) s = Value (block_read s.block (port - 0xcd8) width)
-answer_to (Out port width value) s = Quiet
-answer_to (CfgRead reg) s = Quiet
-answer_to (CfgWrite reg value) s = Quiet
-answer_to (Icr high low) s = Quiet
-answer_to Halt s = Quiet
-answer_to Nop s = Quiet
+abbrev pub answer_to : Bool → Access → State → Answer
+answer_to in_smm (Load addr width) s = Value (loaded s.locks in_smm (byte_at s.writes) addr width)
+answer_to in_smm (Store addr width value) s = Quiet
+answer_to in_smm (Swap addr expected desired) s = Value (loaded s.locks in_smm (byte_at s.writes) addr 8)
+answer_to in_smm (In port width) s = Value (read_port port width s)
+answer_to in_smm (Out port width value) s = Quiet
+answer_to in_smm (CfgRead reg) s = Value (lock_read s.locks reg)
+answer_to in_smm (CfgWrite reg value) s = Quiet
+answer_to in_smm (Icr high low) s = Quiet
+answer_to in_smm Halt s = Quiet
+answer_to in_smm Nop s = Quiet
 
 -- what an access of processor k does
-abbrev pub effect_of : ℕ → Access → State → State
-effect_of k (Load addr width) s = s
-effect_of k (Store addr width value) s = s
-effect_of k (Swap addr expected desired) s = s
-effect_of k (In port width) s = s
-effect_of k (Out port width value) s = write_block (port - 0xcd8) width value s
-effect_of k (CfgRead reg) s = s
-effect_of k (CfgWrite reg value) s = s
-effect_of k (Icr high low) s = s
-effect_of k Halt s = set_cpu k (halt (at s k)) s
-effect_of k Nop s = s
+abbrev pub access_effect : Platform → ℕ → Bool → Access → State → State
+access_effect p k in_smm (Load addr width) s = s
+access_effect p k in_smm (Store addr width value) s = record s { writes = stored s.locks in_smm addr width value s.writes }
+access_effect p k in_smm (Swap addr expected desired) s = record s { writes = swapped s.locks in_smm addr expected desired s.writes }
+access_effect p k in_smm (In port width) s = s
+access_effect p k in_smm (Out port width value) s = write_port port width value s
+access_effect p k in_smm (CfgRead reg) s = s
+access_effect p k in_smm (CfgWrite reg value) s = record s { locks = lock_write s.locks reg value }
+access_effect p k in_smm (Icr high low) s = record s { cpus = sent (decoded high low) (apic_of p k) p.apic s.cpus }
+access_effect p k in_smm Halt s = set_cpu k (halt (at s k)) s
+access_effect p k in_smm Nop s = s
 
--- a running processor without a latch makes any normal access
-abbrev pub may_do : State → ℕ → Access → Bool
-may_do s k a = is_free (at s k) && (is_normal a && has_row a)
+-- host events: a processor comes, and its removal is requested
+abbrev pub insert : ℕ → State → State
+insert k s = record s { cpus = slice_set s.cpus k inserted; block = with_insert s.block k }
 
-abbrev pub make : ℕ → Access → State → After
-make k a s = record { answer = answer_to a s; state = effect_of k a s }
+abbrev pub request_removal : ℕ → State → State
+request_removal k s = record s { block = with_removal s.block k }
 
--- nothing where the event isn't enabled, else its answer and the next state
+-- SMI entry, with its three fields
+abbrev pub enter_smm : ℕ → State → State
+enter_smm k s = record s { writes = saved s.locks (at s k) s.writes; cpus = slice_set s.cpus k (take_smi (at s k)) }
+
+-- RSM, with the two fields that it reads
+abbrev pub leave_smm : ℕ → State → State
+leave_smm k s = set_cpu k (resumed (saved_smbase s.locks s.writes (at s k)) (saved_rip s.locks s.writes (at s k)) (at s k)) s
+
+abbrev pub answer_of : State → Event → Answer
+answer_of s (Insert k) = Quiet
+answer_of s (Remove k) = Quiet
+answer_of s (Do k a) = answer_to (is_in_smm (at s k).mode) a s
+answer_of s (TakeSmi k) = Quiet
+answer_of s (TakeInit k) = Quiet
+answer_of s (Resume k) = Quiet
+answer_of s (Tell o) = Quiet
+
+abbrev pub effect_of : Platform → State → Event → State
+effect_of p s (Insert k) = insert k s
+effect_of p s (Remove k) = request_removal k s
+effect_of p s (Do k a) = access_effect p k (is_in_smm (at s k).mode) a s
+effect_of p s (TakeSmi k) = enter_smm k s
+effect_of p s (TakeInit k) = set_cpu k (take_init (at s k)) s
+effect_of p s (Resume k) = leave_smm k s
+effect_of p s (Tell o) = s
+
+-- an event's answer and the state after it
+abbrev pub after : Platform → State → Event → After
+after p s e = record { answer = answer_of s e; state = effect_of p s e }
+
+-- nothing where the event isn't enabled, or isn't what a handler wants
 unfoldable pub step : Platform → State → Event → Option After
-step p s (Insert k) = None  -- not built yet
-step p s (Remove k) = None  -- not built yet
-step p s (Do k a) = if may_do s k a then Some (make k a s) else None
-step p s (TakeSmi k) = None  -- not built yet
-step p s (TakeInit k) = None  -- not built yet
-step p s (Resume k) = None  -- not built yet
-step p s (Tell o) = None  -- not built yet
+step p s e = if is_enabled p s e && is_wanted s e then Some (after p s e) else None
