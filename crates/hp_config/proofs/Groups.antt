@@ -1,8 +1,8 @@
 -- Words and groups of digits, written and read.
-use Rattle.std.proofs.Common.{◌≡◌, ℕ, zero, suc, ◌==◌, ◌+◌, ◌*◌, ◌^◌, ◌<◌, ◌≤◌, Bool, true, false, List, [], ◌∷◌, ◌++◌, length, take, drop, Option, Some, None, option_map, option_and_then, if◌then◌else◌, refl, sym, ap, subst, ◌∙◌, arith, append-nil}
+use Rattle.std.proofs.Common.{◌≡◌, ℕ, ◌==◌, ◌^◌, ◌<◌, Bool, true, false, List, [], ◌∷◌, ◌++◌, length, take, drop, Option, Some, None, option_map, option_and_then, if◌then◌else◌, refl, sym, ap, ◌∙◌, arith, append-nil}
 use Rattle.std.proofs.lemmas.Bool.{eqb-true, eq-eqb}
 use Rattle.std.proofs.lemmas.List.{take_at, drop_at, take-append-drop}
-use Rattle.std.proofs.lemmas.Option.{none-some, same_Some, option_and_then_some, some_pair_parts}
+use Rattle.std.proofs.lemmas.Option.{none-some, same_Some, option_and_then_some}
 use Rattle.hp_model.specs.Text.{hex}
 use Rattle.hp_config.specs.Script.{past, number, space, one, front, two, three, hex_onto}
 use Rattle.hp_config.proofs.HexText.{length-hex, hex_onto-hex, IsOnto, hex_onto_is}
@@ -31,7 +31,7 @@ passed : {X : Type 0} (t : Bool) (o : Option X) (x : X) → (if t then o else No
 passed true o x e = (refl, e)
 passed false o x e = absurd (none-some x e)
 
-mapped : {X Y P : Type 0} (f : X → Y) (o : Option X) (y : Y) → option_map f o ≡ Some y → ((x : X) → o ≡ Some x → f x ≡ y → P) → P
+pub mapped : {X Y P : Type 0} (f : X → Y) (o : Option X) (y : Y) → option_map f o ≡ Some y → ((x : X) → o ≡ Some x → f x ≡ y → P) → P
 mapped f None y e more = absurd (none-some y e)
 mapped f (Some x) y e more = more x refl (same_Some (f x) y e)
 
@@ -78,7 +78,7 @@ pub one_is : (n x : ℕ) (text : List ℕ) → one n text ≡ Some x → IsOne n
 unfolding one
 one_is n x text e = option_and_then_some (number n) (past space text) x e
     (λ rest found read. let number = number_is n x rest read in
-        record { below = number.below; spelled = past_is space text rest found ∙ ap (λ r. space ++ r) (number.spelled ∙ sym (append-nil (hex n x))) })
+    record { below = number.below; spelled = past_is space text rest found ∙ ap (λ r. space ++ r) (number.spelled ∙ sym (append-nil (hex n x))) })
 
 pub front-text : (n x : ℕ) (rest : List ℕ) → x < 16 ^ n → front n (front_text n x rest) ≡ Some (x, rest)
 unfolding front
@@ -90,14 +90,14 @@ pub front_is : (n x : ℕ) (rest text : List ℕ) → front n text ≡ Some (x, 
 unfolding front
 front_is n x rest text e = option_and_then_some (λ r. option_map (λ y. (y, drop n r)) (number n (take n r))) (past space text) (x, rest) e
     (λ r found read. mapped (λ y. (y, drop n r)) (number n (take n r)) (x, rest) read
-        (λ y digits same.
-            let number = number_is n y (take n r) digits in
-            let first : y ≡ x = ap (λ p. p.0) same in
-            let last : drop n r ≡ rest = ap (λ p. p.1) same in
-            record {
-              below = rw (← first) number.below;
-              spelled = past_is space text r found ∙ ap (λ r. space ++ r) (sym (take-append-drop n r) ∙ rw (number.spelled, first, last) refl);
-            }))
+    (λ y digits same.
+    let number = number_is n y (take n r) digits in
+    let first : y ≡ x = ap (λ p. p.0) same in
+    let last : drop n r ≡ rest = ap (λ p. p.1) same in
+    record {
+      below = rw (← first) number.below;
+      spelled = past_is space text r found ∙ ap (λ r. space ++ r) (sym (take-append-drop n r) ∙ rw (number.spelled, first, last) refl);
+    }))
 
 -- two and three numbers
 abbrev pub two_text : ℕ → ℕ → ℕ → ℕ → List ℕ
@@ -125,12 +125,12 @@ pub two_is : (a b x y : ℕ) (text : List ℕ) → two a b text ≡ Some (x, y) 
 unfolding two
 two_is a b x y text e = option_and_then_some (λ p. option_map (λ y. (p.0, y)) (one b p.1)) (front a text) (x, y) e
     (λ p found read. mapped (λ y. (p.0, y)) (one b p.1) (x, y) read
-        (λ z digits same.
-            let fore = front_is a p.0 p.1 text found in
-            let aft = one_is b z p.1 digits in
-            let first : p.0 ≡ x = ap (λ p. p.0) same in
-            let last : z ≡ y = ap (λ p. p.1) same in
-            record { first = rw (← first) fore.below; last = rw (← last) aft.below; spelled = rw (fore.spelled, aft.spelled, first, last) refl }))
+    (λ z digits same.
+    let fore = front_is a p.0 p.1 text found in
+    let aft = one_is b z p.1 digits in
+    let first : p.0 ≡ x = ap (λ p. p.0) same in
+    let last : z ≡ y = ap (λ p. p.1) same in
+    record { first = rw (← first) fore.below; last = rw (← last) aft.below; spelled = rw (fore.spelled, aft.spelled, first, last) refl }))
 
 pub three-text : (a b c x y z : ℕ) → x < 16 ^ a → y < 16 ^ b → z < 16 ^ c → three a b c (three_text a b c x y z) ≡ Some (x, y, z)
 unfolding three
@@ -140,13 +140,15 @@ pub three_is : (a b c x y z : ℕ) (text : List ℕ) → three a b c text ≡ So
 unfolding three
 three_is a b c x y z text e = option_and_then_some (λ p. option_map (λ q. (p.0, q.0, q.1)) (two b c p.1)) (front a text) (x, y, z) e
     (λ p found read. mapped (λ q. (p.0, q.0, q.1)) (two b c p.1) (x, y, z) read
-        (λ q digits same.
-            let fore = front_is a p.0 p.1 text found in
-            let aft = two_is b c q.0 q.1 p.1 digits in
-            let first : p.0 ≡ x = ap (λ t. t.0) same in
-            let next : q.0 ≡ y = ap (λ t. t.1) same in
-            let last : q.1 ≡ z = ap (λ t. t.2) same in
-            record {
-              first = rw (← first) fore.below; next = rw (← next) aft.first; last = rw (← last) aft.last;
-              spelled = rw (fore.spelled, aft.spelled, first, next, last) refl;
-            }))
+    (λ q digits same.
+    let fore = front_is a p.0 p.1 text found in
+    let aft = two_is b c q.0 q.1 p.1 digits in
+    let first : p.0 ≡ x = ap (λ t. t.0) same in
+    let next : q.0 ≡ y = ap (λ t. t.1) same in
+    let last : q.1 ≡ z = ap (λ t. t.2) same in
+    record {
+      first = rw (← first) fore.below;
+      next = rw (← next) aft.first;
+      last = rw (← last) aft.last;
+      spelled = rw (fore.spelled, aft.spelled, first, next, last) refl;
+    }))

@@ -4,3 +4,5 @@ pub mod Known
 pub mod Kept
 pub mod HexText
 pub mod Groups
+pub mod StepText
+pub mod StepRead

@@ -1,5 +1,5 @@
 -- What this version doesn't run yet, which is rule 16 of a platform file (own rule).
-use Rattle.std.specs.Prelude.{ℕ, Bool, false, ◌&&◌, ◌==◌, nat_le, length, Option, Some, None}
+use Rattle.std.specs.Prelude.{Bool, false, ◌&&◌, ◌==◌, nat_le, length, Option, Some, None}
 use Rattle.std.specs.List.{list_all}
 use Rattle.hp_model.specs.declared.accesses.Access.{Access}
 use Rattle.hp_model.specs.declared.accesses.Access.TheVariants.{Load, Store, Swap, In, Out, CfgRead, CfgWrite, Icr, Halt, Nop}

@@ -4,6 +4,7 @@
 mod faults;
 mod keys;
 mod kinds;
+mod laws;
 mod parts;
 mod reading;
 mod rows;
@@ -14,5 +15,6 @@ mod tree;
 mod unbuilt;
 
 pub use faults::ConfigFault;
+pub use laws::steps_are_read_as_spelled;
 pub use reading::read;
 pub use steps::step_of;
