@@ -18,3 +18,6 @@ pub use faults::ConfigFault;
 pub use laws::steps_are_read_as_spelled;
 pub use reading::read;
 pub use steps::step_of;
+
+#[cfg(test)]
+mod tests;
