@@ -6,3 +6,4 @@ pub mod HexText
 pub mod Groups
 pub mod StepText
 pub mod StepRead
+pub mod Good

@@ -15,7 +15,7 @@ mod tree;
 mod unbuilt;
 
 pub use faults::ConfigFault;
-pub use laws::steps_are_read_as_spelled;
+pub use laws::{good_files_are_sound, good_files_run_yet, steps_are_read_as_spelled};
 pub use reading::read;
 pub use steps::step_of;
 
