@@ -31,7 +31,7 @@ passed : {X : Type 0} (t : Bool) (o : Option X) (x : X) → (if t then o else No
 passed true o x e = (refl, e)
 passed false o x e = absurd (none-some x e)
 
-mapped : {X Y P : Type 0} (f : X → Y) (o : Option X) (y : Y) → option_map f o ≡ Some y → ((x : X) → o ≡ Some x → f x ≡ y → P) → P
+pub mapped : {X Y P : Type 0} (f : X → Y) (o : Option X) (y : Y) → option_map f o ≡ Some y → ((x : X) → o ≡ Some x → f x ≡ y → P) → P
 mapped f None y e more = absurd (none-some y e)
 mapped f (Some x) y e more = more x refl (same_Some (f x) y e)
 

@@ -5,3 +5,6 @@ pub mod Kept
 pub mod HexText
 pub mod Groups
 pub mod ServedFiles
+pub mod StepText
+pub mod StepRead
+pub mod Good

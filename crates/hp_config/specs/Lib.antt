@@ -9,3 +9,4 @@ pub mod Kinds
 pub mod Reading
 pub mod Spelling
 pub mod Served
+pub mod Sound

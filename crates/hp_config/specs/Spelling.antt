@@ -41,4 +41,4 @@ fields_fit Nop = true
 pub record IsSpelled (line : List ℕ) (a : Access) : Type 0 where
   pub normal : is_normal a ≡ true
   pub fields : fields_fit a ≡ true
-  pub text : line ≡ script_text a
+  pub spelled : line ≡ script_text a

@@ -4,6 +4,7 @@
 mod faults;
 mod keys;
 mod kinds;
+mod laws;
 mod parts;
 mod reading;
 mod rows;
@@ -15,6 +16,10 @@ mod tree;
 mod unbuilt;
 
 pub use faults::ConfigFault;
+pub use laws::{good_files_are_sound, good_files_run_yet, steps_are_read_as_spelled};
 pub use reading::read;
 pub use served::files_are_served;
 pub use steps::step_of;
+
+#[cfg(test)]
+mod tests;

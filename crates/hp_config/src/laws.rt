@@ -1,0 +1,28 @@
+//! Laws over definitions: public functions with empty bodies, whose clauses are what is proved.
+
+ghost use Rattle.std.specs.Prelude.{◌≡◌, ◌↔◌, ℕ, List, Some};
+ghost use Rattle.hp_model.specs.declared.accesses.Access.{Access};
+ghost use Rattle.hp_model.specs.declared.files.File.{File};
+ghost use Rattle.toml.specs.Data.{Members};
+ghost use Rattle.hp_config.specs.Reading.{file_of, good};
+ghost use Rattle.hp_config.specs.Script.{script_step};
+ghost use Rattle.hp_config.specs.Sound.{IsSound, IsRunYet};
+ghost use Rattle.hp_config.specs.Spelling.{IsSpelled};
+
+/// The script steps that are read as an access are exactly the texts that spell it, and these are of normal accesses
+/// whose fields fit their digits. So each such access has one text, and a text one access.
+pub fn steps_are_read_as_spelled()
+    ensures { (text : List ℕ) (a : Access) → (script_step text ≡ Some a) ↔ IsSpelled text a }
+{}
+
+/// In each file that is read the platform fits, each possible processor has one voice, and host events and stalls name
+/// possible processors.
+pub fn good_files_are_sound()
+    ensures { (ms : Members) (f : File) → file_of ms ≡ good f → IsSound f }
+{}
+
+/// As long as rule 16 stands, a file that is read has one processor, whose voice is a script of port accesses to the
+/// register block, and no events.
+pub fn good_files_run_yet()
+    ensures { (ms : Members) (f : File) → file_of ms ≡ good f → IsRunYet f }
+{}
