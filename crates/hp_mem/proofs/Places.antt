@@ -6,7 +6,7 @@ use Rattle.std.proofs.lemmas.Bool.Decides.{nat_tests}
 use Rattle.std.proofs.lemmas.List.Sorted.{IsPartitionedBy-ltb}
 use Rattle.hp_model.specs.Memory.{byte_over, bytes_of}
 use Rattle.hp_mem.specs.declared.bytes.Byte.{Byte}
-use Rattle.hp_mem.specs.Bytes.{AscendFrom, Ascends, byte_in, has, place, put, put_all}
+use Rattle.hp_mem.specs.Bytes.{AscendFrom, Ascends, byte_in, has, count_below, put, put_all}
 
 -- below the lowest address nothing was written
 byte_in_below : (low : ℕ) (bs : List Byte) (x : ℕ) → AscendFrom low bs → x < low → byte_in bs x ≡ 0
@@ -14,19 +14,19 @@ byte_in_below low [] x up h = refl
 byte_in_below low (b ∷ bs) x up h = grind (arith, nat_tests, byte_in_below (b.addr + 1) bs x up.1)
 
 -- what the place of an address tells
-pub has_at : (bs : List Byte) (x : ℕ) (d : Byte) → place bs x < length bs → has bs x ≡ ((get_or bs (place bs x) d).addr == x)
+pub has_at : (bs : List Byte) (x : ℕ) (d : Byte) → count_below bs x < length bs → has bs x ≡ ((get_or bs (count_below bs x) d).addr == x)
 has_at [] x d h = grind arith
 has_at (b ∷ bs) x d h = grind (arith, nat_tests, has_at bs x d)
 
-pub has_none : (bs : List Byte) (x : ℕ) → length bs ≤ place bs x → has bs x ≡ false
+pub has_none : (bs : List Byte) (x : ℕ) → length bs ≤ count_below bs x → has bs x ≡ false
 has_none [] x h = refl
 has_none (b ∷ bs) x h = grind (arith, nat_tests, has_none bs x)
 
-pub has_place : (bs : List Byte) (x : ℕ) → has bs x ≡ true → place bs x < length bs
-has_place [] x h = grind arith
-has_place (b ∷ bs) x h = grind (arith, nat_tests, has_place bs x)
+pub has_within : (bs : List Byte) (x : ℕ) → has bs x ≡ true → count_below bs x < length bs
+has_within [] x h = grind arith
+has_within (b ∷ bs) x h = grind (arith, nat_tests, has_within bs x)
 
-pub byte_found : (bs : List Byte) (x : ℕ) (d : Byte) → has bs x ≡ true → byte_in bs x ≡ (get_or bs (place bs x) d).value
+pub byte_found : (bs : List Byte) (x : ℕ) (d : Byte) → has bs x ≡ true → byte_in bs x ≡ (get_or bs (count_below bs x) d).value
 byte_found [] x d h = grind arith
 byte_found (b ∷ bs) x d h = grind (arith, nat_tests, byte_found bs x d)
 
@@ -50,17 +50,17 @@ pub put_ascends : (bs : List Byte) (x v : ℕ) → Ascends bs → Ascends (put b
 put_ascends bs x v up = record { from_zero = put_ascends_from 0 bs x v up.from_zero (omega arith) }
 
 -- a vector's set and insert at the place
-pub put_set : (bs : List Byte) (x v : ℕ) → has bs x ≡ true → slice_set bs (place bs x) (record { addr = x; value = v }) ≡ put bs x v
+pub put_set : (bs : List Byte) (x v : ℕ) → has bs x ≡ true → slice_set bs (count_below bs x) (record { addr = x; value = v }) ≡ put bs x v
 put_set [] x v h = grind arith
 put_set (b ∷ bs) x v h = grind (arith, nat_tests, put_set bs x v)
 
-pub put_insert : (bs : List Byte) (x v : ℕ) → has bs x ≡ false → insert bs (place bs x) (record { addr = x; value = v }) ≡ put bs x v
+pub put_insert : (bs : List Byte) (x v : ℕ) → has bs x ≡ false → insert bs (count_below bs x) (record { addr = x; value = v }) ≡ put bs x v
 put_insert [] x v h = refl
 put_insert (b ∷ bs) x v h = grind (arith, nat_tests, put_insert bs x v)
 
-pub place_most : (bs : List Byte) (x : ℕ) → place bs x ≤ length bs
-place_most [] x = omega arith
-place_most (b ∷ bs) x = grind (arith, nat_tests, place_most bs x)
+pub count_most : (bs : List Byte) (x : ℕ) → count_below bs x ≤ length bs
+count_most [] x = omega arith
+count_most (b ∷ bs) x = grind (arith, nat_tests, count_most bs x)
 
 -- the search for a place
 rises : (low : ℕ) (bs : List Byte) (k : ℕ) (d : Byte) → AscendFrom low bs → k < length bs → low ≤ (get_or bs k d).addr
@@ -78,7 +78,7 @@ sorted low (b ∷ bs) up (suc i) (suc j) d le lt = sorted (b.addr + 1) bs up.1 i
 pub parted : (bs : List Byte) (x : ℕ) → Ascends bs → IsPartitionedBy (λ b. ltb b.addr x) bs
 parted bs x up = IsPartitionedBy-ltb (λ b. b.addr) bs x (sorted 0 bs up.from_zero)
 
-pub place_is : (bs : List Byte) (x i : ℕ) → i ≤ length bs → IsPartitionPoint (λ b. ltb b.addr x ≡ true) (λ b. ltb b.addr x ≡ false) bs i → i ≡ place bs x
+pub place_is : (bs : List Byte) (x i : ℕ) → i ≤ length bs → IsPartitionPoint (λ b. ltb b.addr x ≡ true) (λ b. ltb b.addr x ≡ false) bs i → i ≡ count_below bs x
 place_is [] x zero le point = refl
 place_is [] x (suc i) le point = omega arith
 place_is (b ∷ bs) x zero le point = let here = point.1 0 b (omega arith) (omega arith) in grind (arith, nat_tests)
@@ -87,8 +87,8 @@ place_is (b ∷ bs) x (suc i) le point =
     let rest = place_is bs x i (omega arith) ((λ k d at_least below. point.0 (suc k) d (omega arith) (omega arith)), (λ k d at_least below. point.1 (suc k) d (omega arith) (omega arith))) in
     grind (arith, nat_tests)
 
-pub ruleset read_facts = (has_at, has_none, has_place, byte_found, byte_missed)
-pub ruleset put_facts = (has_place, place_most, put_set, put_insert)
+pub ruleset read_facts = (has_at, has_none, has_within, byte_found, byte_missed)
+pub ruleset put_facts = (has_within, count_most, put_set, put_insert)
 
 pub put_none : (bs : List Byte) (x n value : ℕ) → n ≤ 0 → put_all bs x (bytes_of n value) ≡ bs
 unfolding bytes_of

@@ -16,9 +16,9 @@ byte_in [] x = 0
 byte_in (b ∷ bs) x = if b.addr == x then b.value else byte_in bs x
 
 -- how many stand below x, if addresses ascend
-abbrev pub place : List Byte → ℕ → ℕ
-place [] x = 0
-place (b ∷ bs) x = if nat_lt b.addr x then suc (place bs x) else 0
+abbrev pub count_below : List Byte → ℕ → ℕ
+count_below [] x = 0
+count_below (b ∷ bs) x = if nat_lt b.addr x then suc (count_below bs x) else 0
 
 -- a byte was written at x
 abbrev pub has : List Byte → ℕ → Bool

@@ -2,7 +2,7 @@
 
 ghost use Rattle.std.specs.Prelude.{◌≡◌, ◌+◌, ◌^◌, ◌<◌, ◌≤◌, vec_len, vec_capacity};
 ghost use Rattle.hp_model.specs.Memory.{value_from, bytes_of};
-ghost use Rattle.hp_mem.specs.Bytes.{Ascends, place, byte_in, has, put, put_all};
+ghost use Rattle.hp_mem.specs.Bytes.{Ascends, count_below, byte_in, has, put, put_all};
 
 /// A byte that was written.
 #[derive(Clone, Copy)]
@@ -14,7 +14,7 @@ pub struct Byte {
 /// The place of an address: how many bytes stand below it.
 fn place_of(bytes: &[Byte], addr: u32) -> usize
     requires { Ascends bytes.now }
-    ensures { result ≡ place bytes.now addr }
+    ensures { result ≡ count_below bytes.now addr }
 {
     bytes.partition_point(|byte| byte.addr < addr)
 }
@@ -22,7 +22,7 @@ fn place_of(bytes: &[Byte], addr: u32) -> usize
 /// Whether a byte was written at an address.
 #[tactic(auto, using(crate::proofs::Places::read_facts))]
 fn is_written(bytes: &[Byte], place: usize, addr: u32) -> bool
-    requires { place ≡ place bytes.now addr }
+    requires { place ≡ count_below bytes.now addr }
     ensures { result ≡ has bytes.now addr }
 {
     place < bytes.len() && bytes[place].addr == addr
