@@ -46,7 +46,7 @@ bitflag_items! {
     impl Smram: u8 {
         const G_SMRAME = 0x8;
         const D_LCK = 0x10;
-        const KEPT = 0x18;
+        const LOCKED = 0x18;
     }
 }
 
@@ -55,7 +55,7 @@ impl Flags for Smram {
 
     ghost exact = { ⊤ };
 
-    ghost table = { (codes "G_SMRAME", 8) ∷ (codes "D_LCK", 16) ∷ (codes "KEPT", 24) ∷ [] };
+    ghost table = { (codes "G_SMRAME", 8) ∷ (codes "D_LCK", 16) ∷ (codes "LOCKED", 24) ∷ [] };
 
     ghost set_of = { λ r. r.0 };
 

@@ -91,18 +91,18 @@ impl Locks {
         }
     }
 
-    #[tactic(auto, using(crate::proofs::Bits::kept_twice))]
+    #[tactic(auto, using(crate::proofs::Bits::kept_twice), unfolding(bitflags::proofs::OnLiterals::bitflags_on_literals))]
     fn write_smram(&mut self, value: u8)
         ensures { self.new ≡ record self.old { smram = bit_and value 0x18 } }
     {
-        self.smram = Smram(value & 0x18);
+        self.smram = Smram::from_bits_truncate(value);
     }
 
-    #[tactic(auto, using(crate::proofs::Bits::kept_low))]
+    #[tactic(auto, using(crate::proofs::Bits::kept_low), unfolding(bitflags::proofs::OnLiterals::bitflags_on_literals))]
     fn write_esmramc(&mut self, value: u8)
         ensures { self.new ≡ record self.old { esmramc = bit_and value 7 } }
     {
-        self.esmramc = Esmramc(value & 7);
+        self.esmramc = Esmramc::from_bits_truncate(value);
     }
 
     /// Writes a byte of the controller's configuration space.
@@ -154,7 +154,7 @@ impl Locks {
         ensures { result ≡ has_byte (tseg_byte self.now) addr width }
     {
         let first = self.low_memory - tseg_mib(self.esmramc) * 0x100000;
-        self.smram.contains(Smram::KEPT) && meets(addr, width, first, self.low_memory)
+        self.smram.contains(Smram::LOCKED) && meets(addr, width, first, self.low_memory)
     }
 
     #[tactic(auto, using(crate::proofs::Reach::hole_parts))]
