@@ -1,0 +1,22 @@
+-- The bytes of an access, one by one.
+use Rattle.std.specs.Prelude.{◌≡◌, ◌⊎◌, ℕ, zero, suc, Bool, true, false, ◌&&◌, ◌||◌, nat_lt, nat_le, ◌+◌, ◌<◌, ◌≤◌}
+use Rattle.hp_model.specs.View.{Locks, is_hidden}
+
+-- an access to memory has 1, 2, 4 or 8 bytes
+abbrev pub IsWidth : ℕ → Type 0
+IsWidth width = (width ≡ 1) ⊎ ((width ≡ 2) ⊎ ((width ≡ 4) ⊎ (width ≡ 8)))
+
+-- some byte of the access is out of reach
+pub record HidesSome (l : Locks) (in_smm : Bool) (addr width : ℕ) : Type 0 where
+  pub byte : ℕ
+  pub from : addr ≤ byte
+  pub to : byte < addr + width
+  pub hidden : is_hidden l in_smm byte ≡ true
+
+-- one of so many bytes from x on is such a byte
+unfoldable pub has_byte : (ℕ → Bool) → ℕ → ℕ → Bool
+has_byte test x zero = false
+has_byte test x (suc n) = test x || has_byte test (x + 1) n
+
+abbrev pub is_between : ℕ → ℕ → ℕ → Bool
+is_between first end x = nat_le first x && nat_lt x end

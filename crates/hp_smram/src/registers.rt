@@ -1,0 +1,183 @@
+//! The registers that lock memory, and what an access finds.
+
+ghost use Rattle.std.specs.Prelude.{◌≡◌, ◌↔◌, ◌<◌, ◌+◌, true, false, nat_le, bit_and};
+ghost use Rattle.hp_model.specs.View.{f_smbase_written, is_fixed as has_lock, lock_write, lock_read, is_hole, is_in_default as default_byte, is_in_tseg as tseg_byte};
+ghost use Rattle.hp_smram.specs.Memory.{IsMemorySize, locks_of};
+ghost use Rattle.hp_smram.specs.Reach.{IsWidth, HidesSome, has_byte, is_between};
+
+use crate::flags::{Esmramc, FSmbase, Smram, tseg_mib};
+use bitflags::Flags;
+use std::marker::Model;
+
+/// What an access finds.
+#[derive(Clone, Copy, Debug, PartialEq)]
+pub enum Touch {
+    /// Each of its bytes is memory that the actor reaches.
+    Ram,
+    /// Some byte is out of reach: the whole access reads as ones, and writes nothing.
+    Hole,
+}
+
+/// The registers that lock memory, of a machine with so much RAM.
+#[derive(Drop)]
+pub struct Locks {
+    low_memory: u32,
+    has_default: bool,
+    f_smbase: FSmbase,
+    smram: Smram,
+    esmramc: Esmramc,
+}
+
+impl Model for Locks {
+    ghost use Rattle.std.specs.Prelude.{◌≡◌, ◌≤◌, ◌<◌, bit_and};
+    ghost use Rattle.hp_model.specs.View as model;
+
+    ghost Value = { model.Locks };
+
+    ghost use Rattle.hp_smram.specs.Memory.{IsMemorySize};
+
+    ghost view = { λ l. record { low_memory = l.low_memory; has_default = l.has_default; f_smbase = l.f_smbase.0; smram = l.smram.0; esmramc = l.esmramc.0 } };
+
+    ghost invariant = { λ l. IsMemorySize l.low_memory × (l.f_smbase.0 ≤ 2) × (bit_and l.smram.0 0x18 ≡ l.smram.0) × (l.esmramc.0 < 8) };
+}
+
+/// The address past an access: more than 2^32 where it runs over the end of the addresses.
+fn end_of(addr: u32, width: u8) -> u64
+    ensures { result ≡ addr + width }
+{
+    u64::from(addr) + u64::from(width)
+}
+
+/// Whether a byte of the access lies in the range from `first` to `end`, without `end`.
+#[tactic(auto, using(crate::proofs::Reach::between))]
+fn meets(addr: u32, width: u8, first: u32, end: u32) -> bool
+    requires { 0 < width }
+    ensures { result ≡ has_byte (is_between first end) addr width }
+{
+    first < end && addr < end && u64::from(first) < end_of(addr, width)
+}
+
+impl Locks {
+    /// All registers 0. RAM is the addresses below `low_memory`, and `default_smram` says whether the default area can be
+    /// locked.
+    pub fn new(low_memory: u32, default_smram: bool) -> Locks
+        requires { IsMemorySize low_memory }
+        ensures { result ≡ locks_of low_memory default_smram }
+    {
+        Locks {
+            low_memory,
+            has_default: default_smram,
+            f_smbase: FSmbase(0),
+            smram: Smram(0),
+            esmramc: Esmramc(0),
+        }
+    }
+
+    fn is_fixed(&self) -> bool
+        ensures { result ≡ has_lock self.now }
+    {
+        self.smram.contains(Smram::D_LCK)
+    }
+
+    fn write_f_smbase(&mut self, value: u8)
+        ensures { self.new ≡ record self.old { f_smbase = f_smbase_written self.old.has_default self.old.f_smbase value } }
+    {
+        match self.f_smbase.bits() {
+            0 if value == 0xff && self.has_default => self.f_smbase = FSmbase::IN_RAM,
+            1 if value != 0xff && FSmbase(value).contains(FSmbase::LCK) => {
+                self.f_smbase = FSmbase::LCK
+            }
+            _ => {}
+        }
+    }
+
+    #[tactic(auto, using(crate::proofs::Bits::kept_twice), unfolding(bitflags::proofs::OnLiterals::bitflags_on_literals))]
+    fn write_smram(&mut self, value: u8)
+        ensures { self.new ≡ record self.old { smram = bit_and value 0x18 } }
+    {
+        self.smram = Smram::from_bits_truncate(value);
+    }
+
+    #[tactic(auto, using(crate::proofs::Bits::kept_low), unfolding(bitflags::proofs::OnLiterals::bitflags_on_literals))]
+    fn write_esmramc(&mut self, value: u8)
+        ensures { self.new ≡ record self.old { esmramc = bit_and value 7 } }
+    {
+        self.esmramc = Esmramc::from_bits_truncate(value);
+    }
+
+    /// Writes a byte of the controller's configuration space.
+    pub fn write(&mut self, reg: u8, value: u8)
+        ensures { self.new ≡ lock_write self.old reg value }
+    {
+        match reg {
+            0x9c => self.write_f_smbase(value),
+            0x9d if !self.is_fixed() => self.write_smram(value),
+            0x9e if !self.is_fixed() => self.write_esmramc(value),
+            _ => {}
+        }
+    }
+
+    /// Reads a byte of the controller's configuration space.
+    pub fn read(&self, reg: u8) -> u8
+        ensures { result ≡ lock_read self.now reg }
+    {
+        match reg {
+            0x9c => self.f_smbase.bits(),
+            0x9d => self.smram.bits(),
+            0x9e => self.esmramc.bits(),
+            _ => 0,
+        }
+    }
+
+    /// Whether a byte of the access lies past RAM.
+    #[tactic(auto, using(crate::proofs::Reach::past))]
+    fn is_past_memory(&self, addr: u32, width: u8) -> bool
+        requires { 0 < width }
+        ensures { result ≡ has_byte (nat_le self.now.low_memory) addr width }
+    {
+        u64::from(self.low_memory) < end_of(addr, width)
+    }
+
+    /// Whether a byte of the access lies in the default area, and that is locked.
+    #[tactic(auto, using(crate::proofs::Reach::in_default))]
+    fn is_in_default(&self, addr: u32, width: u8) -> bool
+        requires { 0 < width }
+        ensures { result ≡ has_byte (default_byte self.now) addr width }
+    {
+        self.f_smbase.contains(FSmbase::LCK) && meets(addr, width, 0x30000, 0x50000)
+    }
+
+    /// Whether a byte of the access lies in TSEG, and that is locked.
+    #[tactic(auto, using(crate::proofs::Reach::in_tseg))]
+    fn is_in_tseg(&self, addr: u32, width: u8) -> bool
+        requires { 0 < width }
+        ensures { result ≡ has_byte (tseg_byte self.now) addr width }
+    {
+        let first = self.low_memory - tseg_mib(self.esmramc) * 0x100000;
+        self.smram.contains(Smram::LOCKED) && meets(addr, width, first, self.low_memory)
+    }
+
+    #[tactic(auto, using(crate::proofs::Reach::hole_parts))]
+    fn has_hidden_byte(&self, in_smm: bool, addr: u32, width: u8) -> bool
+        requires { 0 < width }
+        ensures { result ≡ is_hole self.now in_smm addr width }
+    {
+        self.is_past_memory(addr, width)
+            || !in_smm && (self.is_in_default(addr, width) || self.is_in_tseg(addr, width))
+    }
+
+    /// What an access finds that is made at `addr`, in SMM or outside. `width` is in bytes.
+    #[tactic(auto, using(crate::proofs::Reach::hole_bytes))]
+    pub fn open_to(&self, in_smm: bool, addr: u32, width: u8) -> Touch
+        requires { IsWidth width }
+        ensures hole { (result ≡ Touch.Hole) ↔ (is_hole self.now in_smm addr width ≡ true) }
+        ensures ram { (result ≡ Touch.Ram) ↔ (is_hole self.now in_smm addr width ≡ false) }
+        ensures byte { (result ≡ Touch.Hole) ↔ HidesSome self.now in_smm addr width }
+    {
+        if self.has_hidden_byte(in_smm, addr, width) {
+            Touch::Hole
+        } else {
+            Touch::Ram
+        }
+    }
+}

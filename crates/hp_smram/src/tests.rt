@@ -1,0 +1,159 @@
+//! What the clauses can't say: that they mean the machine's edges, byte by byte, and its handshake.
+
+ghost use Rattle.hp_smram.specs.Reach.{IsWidth};
+
+use crate::registers::{Locks, Touch};
+use std::process::Abort;
+
+const LOW_MEMORY: u32 = 0x8000000;
+
+/// Ranges of addresses, each from its first to its end.
+struct Range {
+    first: u32,
+    end: u32,
+}
+
+const DEFAULT: Range = Range {
+    first: 0x30000,
+    end: 0x50000,
+};
+
+fn locks_after(writes: &[(u8, u8)]) -> Locks {
+    let mut locks = Locks::new(LOW_MEMORY, true);
+    for (reg, value) in writes {
+        locks.write(*reg, *value);
+    }
+    locks
+}
+
+fn is_hidden(locked: &[Range], in_smm: bool, byte: u64) -> bool {
+    u64::from(LOW_MEMORY) <= byte
+        || !in_smm
+            && locked.iter().any(|range| u64::from(range.first) <= byte
+                && byte < u64::from(range.end))
+}
+
+/// What an access should find, by a look at each of its bytes.
+fn wanted(locked: &[Range], in_smm: bool, addr: u32, width: u8) -> Touch {
+    for place in 0..width {
+        if is_hidden(locked, in_smm, u64::from(addr) + u64::from(place)) {
+            return Touch::Hole;
+        }
+    }
+    Touch::Ram
+}
+
+fn try_access(rt: &impl Abort, locks: &Locks, locked: &[Range], addr: u32, width: u8)
+    requires { IsWidth width }
+{
+    for in_smm in [false, true] {
+        assert_eq!(rt;
+            locks.open_to(in_smm, addr, width),
+            wanted(locked, in_smm, addr, width),
+            "{width} bytes at {addr:x}, in SMM {in_smm}"
+        );
+    }
+}
+
+/// Accesses of each width at the edges of what may be locked.
+fn try_edges(rt: &impl Abort, writes: &[(u8, u8)], locked: &[Range]) {
+    let locks = locks_after(writes);
+    let edges: [u32; 8] = [
+        0, 0x30000, 0x50000, 0x7800000, 0x7e00000, 0x7f00000, 0x8000000, 0xfffffff8,
+    ];
+    for edge in edges {
+        for step in 0..17u32 {
+            let addr = edge.wrapping_add(step).wrapping_sub(9);
+            try_access(rt, &locks, locked, addr, 1);
+            try_access(rt, &locks, locked, addr, 2);
+            try_access(rt, &locks, locked, addr, 4);
+            try_access(rt, &locks, locked, addr, 8);
+        }
+    }
+}
+
+#[test]
+fn an_access_is_a_hole_where_one_of_its_bytes_is_hidden(rt: HostRuntime) {
+    // nothing is locked at the start, by half of the handshake, without D_LCK, G_SMRAME or T_EN, or by size 11
+    try_edges(&rt, &[], &[]);
+    try_edges(&rt, &[(0x9c, 0xff)], &[]);
+    try_edges(&rt, &[(0x9d, 0x08), (0x9e, 0x05)], &[]);
+    try_edges(&rt, &[(0x9d, 0x10), (0x9e, 0x05)], &[]);
+    try_edges(&rt, &[(0x9d, 0x18), (0x9e, 0x05)], &[]);
+    try_edges(&rt, &[(0x9e, 0x05), (0x9d, 0x10)], &[]);
+    try_edges(&rt, &[(0x9e, 0x04), (0x9d, 0x18)], &[]);
+    try_edges(&rt, &[(0x9e, 0x07), (0x9d, 0x18)], &[]);
+    // the default area, each size of TSEG, and both
+    try_edges(&rt, &[(0x9c, 0xff), (0x9c, 0x02)], &[DEFAULT]);
+    try_edges(
+        &rt,
+        &[(0x9e, 0x01), (0x9d, 0x18)],
+        &[Range {
+            first: 0x7f00000,
+            end: LOW_MEMORY,
+        }],
+    );
+    try_edges(
+        &rt,
+        &[(0x9e, 0x03), (0x9d, 0x18)],
+        &[Range {
+            first: 0x7e00000,
+            end: LOW_MEMORY,
+        }],
+    );
+    try_edges(
+        &rt,
+        &[(0x9e, 0x05), (0x9d, 0x18), (0x9c, 0xff), (0x9c, 0x02)],
+        &[
+            DEFAULT,
+            Range {
+                first: 0x7800000,
+                end: LOW_MEMORY,
+            },
+        ],
+    );
+}
+
+#[test]
+fn register_9c_is_a_handshake_in_one_direction(rt: HostRuntime) {
+    let mut locks = Locks::new(LOW_MEMORY, true);
+    for (value, then) in [
+        (0x02, 0),
+        (0x01, 0),
+        (0xff, 1),
+        (0xff, 1),
+        (0x00, 1),
+        (0xfd, 1),
+        (0x02, 2),
+        (0xff, 2),
+        (0x00, 2),
+    ] {
+        locks.write(0x9c, value);
+        assert_eq!(rt; locks.read(0x9c), then, "after {value:x}");
+    }
+    let mut without = Locks::new(LOW_MEMORY, false);
+    without.write(0x9c, 0xff);
+    without.write(0x9c, 0x02);
+    assert_eq!(rt; without.read(0x9c), 0);
+}
+
+#[test]
+fn registers_keep_their_bits_until_d_lck(rt: HostRuntime) {
+    let mut locks = Locks::new(LOW_MEMORY, true);
+    locks.write(0x9e, 0xff);
+    locks.write(0x9d, 0xe7);
+    assert_eq!(rt; (locks.read(0x9d), locks.read(0x9e)), (0, 0x07));
+    locks.write(0x9e, 0xfd);
+    locks.write(0x9d, 0xff);
+    assert_eq!(rt; (locks.read(0x9d), locks.read(0x9e)), (0x18, 0x05));
+    locks.write(0x9e, 0);
+    locks.write(0x9d, 0);
+    assert_eq!(rt; (locks.read(0x9d), locks.read(0x9e)), (0x18, 0x05));
+    // 9c has its own lock; other registers hold nothing
+    locks.write(0x9c, 0xff);
+    assert_eq!(rt; locks.read(0x9c), 1);
+    for reg in [0x00, 0x50, 0x9b, 0x9f, 0xff] {
+        locks.write(reg, 0xff);
+        assert_eq!(rt; locks.read(reg), 0, "register {reg:x}");
+    }
+}
