@@ -1,0 +1,8 @@
+//! Interrupt commands of the local APIC: what a command delivers, and whom it hits.
+#![tactic(auto)]
+
+mod commands;
+#[cfg(test)]
+mod tests;
+
+pub use commands::{decode, hits};

@@ -1,0 +1,78 @@
+//! Values of the interrupt command register, by the table of the Intel SDM.
+
+use crate::{decode, hits};
+use hp_model::{Ipi, Kind, Target};
+use std::process::Abort;
+use std::test::Fail;
+
+/// What a low half delivers, the destination shorthand being 0.
+fn delivers(low: u32) -> Option<Kind> {
+    decode(0, low).map(|ipi| ipi.kind)
+}
+
+fn is_same(got: Option<Kind>, want: Option<Kind>) -> bool {
+    match (got, want) {
+        (None, None) => true,
+        (Some(Kind::Smi), Some(Kind::Smi)) => true,
+        (Some(Kind::Init), Some(Kind::Init)) => true,
+        (Some(Kind::Start(got)), Some(Kind::Start(want))) => got == want,
+        _ => false,
+    }
+}
+
+#[test]
+fn three_delivery_modes_do_something(rt: HostRuntime) -> Result<(), Fail> {
+    let table = [
+        // fixed, lowest priority
+        (0x0000cff, None),
+        (0x00001ff, None),
+        (0x00002ff, Some(Kind::Smi)),
+        (0x00003ff, None),
+        // NMI
+        (0x00004ff, None),
+        (0x00005ff, Some(Kind::Init)),
+        (0x00006ff, Some(Kind::Start(0xff))),
+        (0x000069f, Some(Kind::Start(0x9f))),
+        (0x0000600, Some(Kind::Start(0))),
+        (0x00007ff, None),
+        // the level and trigger bits that firmware sets
+        (0x0004500, Some(Kind::Init)),
+        (0x000c500, Some(Kind::Init)),
+        (0x0004638, Some(Kind::Start(0x38))),
+    ];
+    for (low, want) in table {
+        assert!(rt; is_same(delivers(low), want), "low half {low}");
+    }
+    Ok(())
+}
+
+/// Which of the processors with APIC IDs 3, 4 and 254 a command of processor 3 hits.
+fn hit_by(high: u32, low: u32) -> (bool, bool, bool) {
+    match decode(high, low) {
+        Some(ipi) => (hits(&ipi, 3, 3), hits(&ipi, 3, 4), hits(&ipi, 3, 254)),
+        None => (false, false, false),
+    }
+}
+
+#[test]
+fn two_shorthands_do_something(rt: HostRuntime) -> Result<(), Fail> {
+    let table = [
+        // none: the destination in the high half, the sender included
+        (0x04000000, 0x00200, (false, true, false)),
+        (0x03ffffff, 0x00200, (true, false, false)),
+        (0xfe000000, 0x00200, (false, false, true)),
+        // a destination that broadcasts on a real xAPIC: here it is no processor's APIC ID
+        (0xff000000, 0x00200, (false, false, false)),
+        // self, and all with the sender
+        (0x04000000, 0x40200, (false, false, false)),
+        (0x04000000, 0x80200, (false, false, false)),
+        // all but the sender, whatever the destination
+        (0x03000000, 0xc0200, (false, true, true)),
+        (0x00000000, 0xc0500, (false, true, true)),
+        (0x00000000, 0xc0400, (false, false, false)),
+    ];
+    for (high, low, want) in table {
+        assert_eq!(rt; hit_by(high, low), want, "halves {high} and {low}");
+    }
+    Ok(())
+}
