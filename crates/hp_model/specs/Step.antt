@@ -82,15 +82,18 @@ stands_in_smm c = c.present && is_in_smm c.mode
 abbrev pub may_access : Cpu → Access → Bool
 may_access c a = is_free c || (stands_in_smm c && not (is_halt a))
 
--- by presence, modes and latches alone: what the machine can do
+-- by presence, modes and latches alone: what the machine can do, with so many possible processors
+abbrev pub can_do : ℕ → List Cpu → Event → Bool
+can_do count cs (Insert k) = nat_lt k count && not (cpu_at cs k).present
+can_do count cs (Remove k) = not (k == 0) && (cpu_at cs k).present
+can_do count cs (Do k a) = is_normal a && may_access (cpu_at cs k) a
+can_do count cs (TakeSmi k) = may_take_smi (cpu_at cs k)
+can_do count cs (TakeInit k) = may_take_init (cpu_at cs k)
+can_do count cs (Resume k) = stands_in_smm (cpu_at cs k)
+can_do count cs (Tell o) = stands_in_smm (cpu_at cs 0)
+
 abbrev pub is_enabled : Platform → State → Event → Bool
-is_enabled p s (Insert k) = nat_lt k (count_of p) && not (at s k).present
-is_enabled p s (Remove k) = not (k == 0) && (at s k).present
-is_enabled p s (Do k a) = is_normal a && may_access (at s k) a
-is_enabled p s (TakeSmi k) = may_take_smi (at s k)
-is_enabled p s (TakeInit k) = may_take_init (at s k)
-is_enabled p s (Resume k) = stands_in_smm (at s k)
-is_enabled p s (Tell o) = stands_in_smm (at s 0)
+is_enabled p s e = can_do (count_of p) s.cpus e
 
 -- in SMM a processor does what its handler wants; no handler is built yet
 abbrev pub is_wanted : State → Event → Bool

@@ -1,6 +1,6 @@
 //! The registers that lock memory, and what an access finds.
 
-ghost use Rattle.std.specs.Prelude.{◌≡◌, ◌↔◌, ◌<◌, ◌+◌, true, false, nat_le, bit_and};
+ghost use Rattle.std.specs.Prelude.{◌≡◌, ◌↔◌, ◌<◌, ◌+◌, true, false, nat_le, bit_and, ◌≤◌, ◌^◌};
 ghost use Rattle.hp_model.specs.View.{f_smbase_written, is_fixed as has_lock, lock_write, lock_read, is_hole, is_in_default as default_byte, is_in_tseg as tseg_byte};
 ghost use Rattle.hp_smram.specs.Memory.{IsMemorySize, locks_of};
 ghost use Rattle.hp_smram.specs.Reach.{IsWidth, HidesSome, has_byte, is_between};
@@ -133,7 +133,8 @@ impl Locks {
     #[tactic(auto, using(crate::proofs::Reach::past))]
     fn is_past_memory(&self, addr: u32, width: u8) -> bool
         requires { 0 < width }
-        ensures { result ≡ has_byte (nat_le self.now.low_memory) addr width }
+        ensures value { result ≡ has_byte (nat_le self.now.low_memory) addr width }
+        ensures within { result ≡ false → addr + width ≤ 2 ^ 31 }
     {
         u64::from(self.low_memory) < end_of(addr, width)
     }
@@ -160,7 +161,8 @@ impl Locks {
     #[tactic(auto, using(crate::proofs::Reach::hole_parts))]
     fn has_hidden_byte(&self, in_smm: bool, addr: u32, width: u8) -> bool
         requires { 0 < width }
-        ensures { result ≡ is_hole self.now in_smm addr width }
+        ensures value { result ≡ is_hole self.now in_smm addr width }
+        ensures within { result ≡ false → addr + width ≤ 2 ^ 31 }
     {
         self.is_past_memory(addr, width)
             || !in_smm && (self.is_in_default(addr, width) || self.is_in_tseg(addr, width))
@@ -173,6 +175,7 @@ impl Locks {
         ensures hole { (result ≡ Touch.Hole) ↔ (is_hole self.now in_smm addr width ≡ true) }
         ensures ram { (result ≡ Touch.Ram) ↔ (is_hole self.now in_smm addr width ≡ false) }
         ensures byte { (result ≡ Touch.Hole) ↔ HidesSome self.now in_smm addr width }
+        ensures within { result ≡ Touch.Ram → addr + width ≤ 2 ^ 31 }
     {
         if self.has_hidden_byte(in_smm, addr, width) {
             Touch::Hole
