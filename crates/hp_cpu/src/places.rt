@@ -1,0 +1,158 @@
+//! All possible processors, by place.
+
+ghost use Rattle.std.specs.Prelude.{◌≡◌, ◌<◌, length, true, not, IsTrue, IsFalse, IfOk, slice_set};
+ghost use Rattle.hp_model.specs.Cpu.{absent, cpus_start, inserted, cpu_at, is_running, is_in_smm, hit as hit_cpu, may_take_smi, take_smi, may_take_init, take_init as take_init_cpu, resumed, moved, halt as halt_cpu};
+ghost use Rattle.hp_model.specs.Platform.{IsFit};
+ghost use Rattle.hp_cpu.specs.Saving.{plan_of};
+ghost use Rattle.hp_cpu.specs.Smbase.{IsSmbase};
+
+use crate::processors::Processor;
+use crate::save_area::{SavePlan, Saved};
+use hp_model::{Cpu, Kind, NoMemory, Platform, tile};
+use std::alloc::Global;
+use std::marker::Model;
+
+/// All possible processors of a platform. A processor is named by its place, which is its selector.
+#[derive(Drop)]
+pub struct Cpus {
+    cpus: Vec<Processor>,
+}
+
+impl Model for Cpus {
+    ghost use Rattle.std.specs.Prelude.{List};
+    ghost use Rattle.hp_model.specs.declared.processors.Cpu.{Cpu};
+
+    ghost Value = { List Cpu };
+
+    ghost view = { λ c. c.cpus.items };
+}
+
+impl Cpus {
+    /// The processors at the start: the boot processors run at page 0, each with the tile of its slot as SMBASE; the
+    /// others are absent.
+    #[tactic(auto, using(crate::proofs::Start::start_facts))]
+    pub fn new(alloc: Global, p: &Platform) -> Result<Cpus, NoMemory>
+        requires { IsFit p.now }
+        ensures value { IfOk result (λ c. c ≡ cpus_start p.now) }
+        ensures count { IfOk result (λ c. length c ≡ length p.now.apic) }
+    {
+        let mut cpus = vec![in alloc; Processor::absent(); p.apic.0.len()]?;
+        for (slot, place) in p.boot.0.iter().enumerate() {
+            cpus[*place as usize] = Processor::booted(tile(p, slot as u32));
+        }
+        Ok(Cpus { cpus })
+    }
+
+    /// The processor in a place, present or not.
+    pub fn get(&self, s: u32) -> Cpu
+        requires { s < length self.now }
+        ensures value { result ≡ cpu_at self.now s }
+        ensures smbase { IsSmbase result.smbase }
+    {
+        let processor = &self.cpus[s as usize];
+        processor.cpu()
+    }
+
+    /// A host insert: an absent processor becomes present and waits for SIPI. Answers whether it was absent.
+    pub fn insert(&mut self, s: u32) -> bool
+        requires { s < length self.old }
+        ensures value { result ≡ not (cpu_at self.old s).present }
+        ensures inserted { IsTrue result → self.new ≡ slice_set self.old s inserted }
+        ensures unchanged { IsFalse result → self.new ≡ self.old }
+    {
+        let processor = &mut self.cpus[s as usize];
+        processor.insert()
+    }
+
+    /// An ejected processor is absent: its modes, latches and SMBASE are gone. Answers whether it was present.
+    pub fn remove(&mut self, s: u32) -> bool
+        requires { s < length self.old }
+        ensures value { result ≡ (cpu_at self.old s).present }
+        ensures removed { self.new ≡ slice_set self.old s absent }
+    {
+        let processor = &mut self.cpus[s as usize];
+        processor.remove()
+    }
+
+    /// What an SMI, INIT or SIPI does to the processor that it hits: nothing where it is absent.
+    pub fn hit(&mut self, s: u32, kind: Kind)
+        requires { s < length self.old }
+        ensures step { self.new ≡ slice_set self.old s (hit_cpu kind (cpu_at self.old s)) }
+    {
+        let processor = &mut self.cpus[s as usize];
+        processor.hit(kind);
+    }
+
+    /// Whether the processor's next step is SMI entry.
+    pub fn can_take_smi(&self, s: u32) -> bool
+        requires { s < length self.now }
+        ensures value { result ≡ may_take_smi (cpu_at self.now s) }
+    {
+        let processor = &self.cpus[s as usize];
+        processor.can_take_smi()
+    }
+
+    /// Whether the processor's next step is to take INIT.
+    pub fn can_take_init(&self, s: u32) -> bool
+        requires { s < length self.now }
+        ensures value { result ≡ may_take_init (cpu_at self.now s) }
+    {
+        let processor = &self.cpus[s as usize];
+        processor.can_take_init()
+    }
+
+    /// SMI entry. Answers what is to be stored in the state save area, at the SMBASE that it names.
+    pub fn enter(&mut self, s: u32) -> SavePlan
+        requires place { s < length self.old }
+        requires enabled { may_take_smi (cpu_at self.old s) ≡ true }
+        ensures step { self.new ≡ slice_set self.old s (take_smi (cpu_at self.old s)) }
+        ensures plan { result ≡ plan_of (cpu_at self.old s) }
+        ensures smbase { IsSmbase result.smbase }
+    {
+        let processor = &mut self.cpus[s as usize];
+        processor.enter()
+    }
+
+    /// RSM of a processor in SMM, with what it has loaded from its state save area.
+    pub fn leave(&mut self, s: u32, saved: Saved)
+        requires place { s < length self.old }
+        requires present { (cpu_at self.old s).present ≡ true }
+        requires in_smm { is_in_smm (cpu_at self.old s).mode ≡ true }
+        ensures step { self.new ≡ slice_set self.old s (resumed saved.smbase saved.rip (cpu_at self.old s)) }
+    {
+        let processor = &mut self.cpus[s as usize];
+        processor.leave(saved);
+    }
+
+    /// The latched INIT is taken: the processor waits for SIPI.
+    pub fn take_init(&mut self, s: u32)
+        requires place { s < length self.old }
+        requires enabled { may_take_init (cpu_at self.old s) ≡ true }
+        ensures step { self.new ≡ slice_set self.old s (take_init_cpu (cpu_at self.old s)) }
+    {
+        let processor = &mut self.cpus[s as usize];
+        processor.take_init();
+    }
+
+    /// HLT of a processor that runs outside SMM.
+    pub fn halt(&mut self, s: u32)
+        requires place { s < length self.old }
+        requires present { (cpu_at self.old s).present ≡ true }
+        requires running { is_running (cpu_at self.old s).mode ≡ true }
+        ensures step { self.new ≡ slice_set self.old s (halt_cpu (cpu_at self.old s)) }
+    {
+        let processor = &mut self.cpus[s as usize];
+        processor.halt();
+    }
+
+    /// An instruction in SMM: the next one is at `address`, and `base` is what the first handler has loaded so far.
+    pub fn go(&mut self, s: u32, address: u32, base: u32)
+        requires place { s < length self.old }
+        requires present { (cpu_at self.old s).present ≡ true }
+        requires in_smm { is_in_smm (cpu_at self.old s).mode ≡ true }
+        ensures step { self.new ≡ slice_set self.old s (moved address base (cpu_at self.old s)) }
+    {
+        let processor = &mut self.cpus[s as usize];
+        processor.go(address, base);
+    }
+}
