@@ -12,7 +12,7 @@ use Rattle.hp_model.specs.declared.files.VoiceKind.{VoiceKind}
 use Rattle.hp_model.specs.declared.files.VoiceKind.TheVariants.{Script, Os, Pen, Seeded, Handed}
 use Rattle.hp_config.specs.declared.keys.Form.TheVariants as form
 use Rattle.hp_config.specs.declared.parts.AgentRow.{AgentRow}
-use Rattle.hp_config.specs.Tree.{u32_in, u32_at, text_at, all_in}
+use Rattle.hp_config.specs.Tree.{given, u32_in, u32_at, text_at, all_in}
 use Rattle.hp_config.specs.Script.{script_step}
 use Rattle.hp_config.specs.Keys.{knows, has_only}
 
@@ -30,19 +30,20 @@ actor_of (Some d) (Some e) = None
 -- `[[host]]`: at this turn this event
 unfoldable pub host_of : Members → Option HostEvent
 host_of ms =
-    if has_only (knows form.Host) ms
-    then option_and_then
-    (λ turn. option_map (λ actor. record { turn = turn; actor = actor }) (actor_of (get_member (codes "insert") ms) (get_member (codes "remove") ms)))
-    (u32_at (codes "turn") ms)
+    if has_only (knows form.Host) ms then
+    given (u32_at (codes "turn") ms) (λ turn.
+    given (actor_of (get_member (codes "insert") ms) (get_member (codes "remove") ms)) (λ actor.
+    Some (record { turn = turn; actor = actor })))
     else None
 
 -- `[[stall]]`: this processor, from this turn to that one
 unfoldable pub stall_of : Members → Option Stall
 stall_of ms =
-    if has_only (knows form.Stall) ms
-    then option_and_then
-    (λ cpu. option_and_then (λ from. option_map (λ to. record { cpu = cpu; from = from; to = to }) (u32_at (codes "to") ms)) (u32_at (codes "from") ms))
-    (u32_at (codes "cpu") ms)
+    if has_only (knows form.Stall) ms then
+    given (u32_at (codes "cpu") ms) (λ cpu.
+    given (u32_at (codes "from") ms) (λ from.
+    given (u32_at (codes "to") ms) (λ to.
+    Some (record { cpu = cpu; from = from; to = to }))))
     else None
 
 -- each item is a text
@@ -80,11 +81,15 @@ kind_named name steps seed =
     else plain_kind name
 
 unfoldable pub kind_of : Members → Option (Option VoiceKind)
-kind_of ms = option_and_then (λ name. kind_named name (get_member (codes "steps") ms) (get_member (codes "seed") ms)) (text_at (codes "kind") ms)
+kind_of ms =
+    given (text_at (codes "kind") ms) (λ name.
+    kind_named name (get_member (codes "steps") ms) (get_member (codes "seed") ms))
 
 -- `[[agent]]`: this processor's kind
 unfoldable pub agent_of : Members → Option AgentRow
 agent_of ms =
-    if has_only (knows form.Agent) ms
-    then option_and_then (λ cpu. option_map (λ kind. record { cpu = cpu; kind = kind }) (kind_of ms)) (u32_at (codes "cpu") ms)
+    if has_only (knows form.Agent) ms then
+    given (u32_at (codes "cpu") ms) (λ cpu.
+    given (kind_of ms) (λ kind.
+    Some (record { cpu = cpu; kind = kind })))
     else None

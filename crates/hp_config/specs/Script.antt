@@ -102,15 +102,22 @@ row (Some rest) step other = step rest
 
 abbrev pub memory_step : List ℕ → Option Access → Option Access
 memory_step text other =
-    row (past (codes "load ") text) load_step (row (past (codes "store ") text) store_step (row (past (codes "cas") text) swap_step other))
+    row (past (codes "load ") text) load_step
+    (row (past (codes "store ") text) store_step
+    (row (past (codes "cas") text) swap_step other))
 
 abbrev pub port_step : List ℕ → Option Access → Option Access
 port_step text other =
-    row (past (codes "in ") text) in_step (row (past (codes "out ") text) out_step (row (past (codes "cfgr") text) read_step (row (past (codes "cfgw") text) write_step other)))
+    row (past (codes "in ") text) in_step
+    (row (past (codes "out ") text) out_step
+    (row (past (codes "cfgr") text) read_step
+    (row (past (codes "cfgw") text) write_step other)))
 
 abbrev pub other_step : List ℕ → Option Access
 other_step text =
-    row (past (codes "icr") text) icr_step (row (past (codes "halt") text) (end_step Halt) (row (past (codes "nop") text) (end_step Nop) None))
+    row (past (codes "icr") text) icr_step
+    (row (past (codes "halt") text) (end_step Halt)
+    (row (past (codes "nop") text) (end_step Nop) None))
 
 -- the access that a step's text asks for, None where the text is in no form
 unfoldable pub script_step : List ℕ → Option Access

@@ -1,6 +1,18 @@
 -- What stands at a key of a TOML table (own rules): whole numbers of 32 bits, truths, texts, and arrays of one sort of value.
 use Rattle.std.specs.Prelude.{ℕ, ◌^◌, nat_lt, ℤ, pos, negsuc, Bool, true, List, [], ◌∷◌, Option, Some, None, if◌then◌else◌, option_map, option_and_then}
+use Rattle.std.specs.Borrow.{Bor}
+use Rattle.toml.specs.View.{view}
+use Rattle.toml.specs.declared.value.Value.{Value}
 use Rattle.toml.specs.Data.{Data, Items, no_items, item, Members, get_member, as_integer, as_bool, as_str, as_array}
+
+-- what a look-up found, as data
+abbrev pub seen : Option (Bor Value) → Option Data
+seen found = option_map (λ v. view v.now) found
+
+-- what follows from a value, if it is there
+abbrev pub given : {A B : Type 0} → Option A → (A → Option B) → Option B
+given None f = None
+given (Some x) f = f x
 
 -- a number of 32 bits
 abbrev pub u32_of : ℤ → Option ℕ

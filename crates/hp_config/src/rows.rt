@@ -5,6 +5,7 @@ ghost use Rattle.std.specs.List.{list_all};
 ghost use Rattle.std.specs.Option.{is_some};
 ghost use Rattle.toml.specs.Data.{as_str};
 ghost use Rattle.toml.specs.View.{view, table_view, items_view};
+ghost use Rattle.hp_config.specs.Tree.{seen};
 ghost use Rattle.hp_config.specs.Rows.{in_table, actor_of as actor_in, host_of as host_in, stall_of as stall_in, are_texts as all_texts, step_in, script_in, script_kind, seeded_kind, plain_kind, kind_named, kind_of as kind_in, agent_of as agent_in};
 
 use crate::keys::{Form, has_only_known, is_word};
@@ -17,7 +18,7 @@ use toml::{Table, Value};
 
 /// Exactly one of an insert and a removal.
 fn actor_of(insert: Option<&Value>, remove: Option<&Value>) -> Option<Actor>
-    ensures { result ≡ actor_in (option_map (λ v. view v.now) insert.entry) (option_map (λ v. view v.now) remove.entry) }
+    ensures { result ≡ actor_in (seen insert.entry) (seen remove.entry) }
 {
     match (insert, remove) {
         (Some(value), None) => Some(Actor::Insert(u32_of(value)?)),
@@ -121,7 +122,7 @@ fn script_kind_of(
     alloc: Global,
     steps: Option<&Value>,
 ) -> Result<Option<Option<VoiceKind>>, NoMemory>
-    ensures { IfOk result (λ kind. kind ≡ script_kind (option_map (λ v. view v.now) steps.entry)) }
+    ensures { IfOk result (λ kind. kind ≡ script_kind (seen steps.entry)) }
 {
     let Some(value) = steps else { return Ok(None) };
     match value.as_array() {
@@ -131,7 +132,7 @@ fn script_kind_of(
 }
 
 fn seeded_kind_of(seed: Option<&Value>) -> Option<Option<VoiceKind>>
-    ensures { result ≡ seeded_kind (option_map (λ v. view v.now) seed.entry) }
+    ensures { result ≡ seeded_kind (seen seed.entry) }
 {
     let seed = u32_of(seed?)?;
     Some(Some(VoiceKind::Seeded(seed as u64)))
@@ -159,7 +160,7 @@ fn kind_with(
     steps: Option<&Value>,
     seed: Option<&Value>,
 ) -> Result<Option<Option<VoiceKind>>, NoMemory>
-    ensures { IfOk result (λ kind. kind ≡ kind_named name.now (option_map (λ v. view v.now) steps.entry) (option_map (λ v. view v.now) seed.entry)) }
+    ensures { IfOk result (λ kind. kind ≡ kind_named name.now (seen steps.entry) (seen seed.entry)) }
 {
     if is_word(name, "script") {
         return if seed.is_some() {

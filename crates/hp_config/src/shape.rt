@@ -2,9 +2,8 @@
 
 ghost use Rattle.std.specs.Prelude.{◌≡◌, IfOk, option_map};
 ghost use Rattle.toml.specs.View.{view, table_view};
-ghost use Rattle.hp_config.specs.Shape.{sizes_of as sizes_in, prompt_in, switches_of as switches_in, machine_from as machine_with, machine_of as machine_in, parts_of as parts_in};
-ghost use Rattle.toml.specs.Data.{as_table};
-ghost use Rattle.std.specs.Option.{option_and_then};
+ghost use Rattle.hp_config.specs.Tree.{seen};
+ghost use Rattle.hp_config.specs.Shape.{sizes_of as sizes_in, prompt_in, switches_of as switches_in, machine_from as machine_with, machine_of as platform_in, machine_in, parts_of as parts_in};
 
 use crate::keys::{Form, has_only_known, is_word};
 use crate::parts::{AgentRow, AgentRows, Machine, Parts, Sizes, Switches};
@@ -33,7 +32,7 @@ fn sizes_of(table: &Table) -> Option<Sizes>
 
 /// Whether the text of `delivery` is `prompt`, which it is if absent.
 fn prompt_of(value: Option<&Value>) -> Option<bool>
-    ensures { result ≡ prompt_in (option_map (λ v. view v.now) value.entry) }
+    ensures { result ≡ prompt_in (seen value.entry) }
 {
     match value {
         Some(value) => match value.as_str() {
@@ -81,7 +80,7 @@ fn machine_from(apic: Ids, boot: Ids, sizes: Sizes, switches: Switches) -> Machi
 /// The platform's table.
 #[tactic(auto, unfolding(crate::specs::Shape::machine_of))]
 fn machine_of(alloc: Global, table: &Table) -> Result<Option<Machine>, NoMemory>
-    ensures { IfOk result (λ machine. machine ≡ machine_in (table_view table.now)) }
+    ensures { IfOk result (λ machine. machine ≡ platform_in (table_view table.now)) }
 {
     if !has_only_known(Form::Platform, table) {
         return Ok(None);
@@ -103,7 +102,7 @@ fn machine_of(alloc: Global, table: &Table) -> Result<Option<Machine>, NoMemory>
 
 /// The platform's table in the whole file.
 fn machine_at(alloc: Global, value: Option<&Value>) -> Result<Option<Machine>, NoMemory>
-    ensures { IfOk result (λ machine. machine ≡ option_and_then machine_in (option_and_then as_table (option_map (λ v. view v.now) value.entry))) }
+    ensures { IfOk result (λ machine. machine ≡ machine_in (seen value.entry)) }
 {
     let Some(value) = value else { return Ok(None) };
     match value.as_table() {

@@ -3,7 +3,7 @@
 ghost use Rattle.std.specs.Prelude.{◌≡◌, IfOk, Option, option_map, option_copied};
 ghost use Rattle.toml.specs.Data.{Data, get_member};
 ghost use Rattle.toml.specs.View.{view, table_view, items_view};
-ghost use Rattle.hp_config.specs.Tree.{u32_in, u32_at, text_at, truth_at, all_in, rows_in, numbers_at};
+ghost use Rattle.hp_config.specs.Tree.{seen, u32_in, u32_at, text_at, truth_at, all_in, rows_in, numbers_at};
 
 use hp_model::{Ids, NoMemory};
 use std::alloc::Global;
@@ -11,7 +11,7 @@ use toml::{Table, Value};
 
 /// What stands at a key, if anything.
 pub fn value_at<'a>(table: &'a Table, key: &str) -> Option<&'a Value>
-    ensures { option_map (λ v. view v.now) result ≡ get_member key.now (table_view table.now) }
+    ensures { seen result ≡ get_member key.now (table_view table.now) }
 {
     table.get(key)
 }
