@@ -1,0 +1,4 @@
+pub mod Ejects
+pub mod Sending
+pub mod Sizes
+pub mod PortWrites

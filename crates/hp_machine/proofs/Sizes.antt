@@ -1,0 +1,62 @@
+-- How many processors and slots there are stays.
+use Rattle.std.proofs.Common.{◌≡◌, ℕ, suc, Bool, true, false, List, [], ◌∷◌, length, Option, Some, None, refl, ◌∙◌, ap, arith}
+use Rattle.std.proofs.Math.ListN.{length-set}
+use Rattle.hp_model.specs.declared.processors.Cpu.{Cpu}
+use Rattle.hp_model.specs.declared.processors.Kind.{Kind}
+use Rattle.hp_model.specs.declared.processors.Ipi.{Ipi}
+use Rattle.hp_model.specs.Cpu.{absent}
+use Rattle.std.specs.Prelude.{slice_set, if◌then◌else◌, ◌-◌}
+use Rattle.hp_model.specs.Block.{Block, block_write, with_insert, with_removal}
+use Rattle.hp_model.specs.Interrupts.{is_target, hit_each, sent}
+use Rattle.hp_model.specs.Step.{is_on_block, without_ejected}
+use Rattle.hp_regs.proofs.Ejects.{stays_count, inserted_count, requested_count}
+use Rattle.hp_machine.specs.Machine.{port_block, IsSized}
+
+pub length-without_ejected : (e : Option ℕ) (cs : List Cpu) → length (without_ejected e cs) ≡ length cs
+length-without_ejected None cs = refl
+length-without_ejected (Some k) cs = length-set cs k absent
+
+pub length-hit_each : (aims : ℕ → Bool) (kind : Kind) (ids : List ℕ) (cs : List Cpu) → length (hit_each aims kind ids cs) ≡ length cs
+unfolding hit_each
+length-hit_each aims kind [] cs = refl
+length-hit_each aims kind (id ∷ ids) [] = refl
+length-hit_each aims kind (id ∷ ids) (c ∷ cs) = ap suc (length-hit_each aims kind ids cs)
+
+pub length-sent : (i : Option Ipi) (sender : ℕ) (ids : List ℕ) (cs : List Cpu) → length (sent i sender ids cs) ≡ length cs
+length-sent None sender ids cs = refl
+length-sent (Some ipi) sender ids cs = length-hit_each (is_target ipi.to sender) ipi.kind ids cs
+
+pub length-port_block : (port width value : ℕ) (b : Block) → length (port_block port width value b).slots ≡ length b.slots
+length-port_block port width value b = by (is_on_block port)
+  where
+    by : (on : Bool) → length (if on then block_write b (port - 0xcd8) width value else b).slots ≡ length b.slots
+    by true = stays_count b (port - 0xcd8) width value
+    by false = refl
+
+module _ (apic : List ℕ) (cs : List Cpu) (b : Block) (sized : IsSized apic cs b) where
+  pub sized_port : (port width value : ℕ) (e : Option ℕ) (c : Block) (ds : List Cpu) → c ≡ port_block port width value b → ds ≡ without_ejected e cs → IsSized apic ds c
+  sized_port port width value e c ds block cpus = record {
+    same_cpus = ap length cpus ∙ length-without_ejected e cs ∙ sized.same_cpus;
+    same_slots = ap (λ (x : Block). length x.slots) block ∙ length-port_block port width value b ∙ sized.same_slots;
+    few = sized.few;
+  }
+
+  pub sized_sent : (i : Option Ipi) (sender : ℕ) (ids : List ℕ) (ds : List Cpu) → ds ≡ sent i sender ids cs → IsSized apic ds b
+  sized_sent i sender ids ds cpus = record { same_cpus = ap length cpus ∙ length-sent i sender ids cs ∙ sized.same_cpus; same_slots = sized.same_slots; few = sized.few }
+
+  pub sized_set : (k : ℕ) (x : Cpu) (ds : List Cpu) → ds ≡ slice_set cs k x → IsSized apic ds b
+  sized_set k x ds cpus = record { same_cpus = ap length cpus ∙ length-set cs k x ∙ sized.same_cpus; same_slots = sized.same_slots; few = sized.few }
+
+  pub sized_insert : (k : ℕ) (x : Cpu) (c : Block) (ds : List Cpu) → c ≡ with_insert b k → ds ≡ slice_set cs k x → IsSized apic ds c
+  sized_insert k x c ds block cpus = record {
+    same_cpus = ap length cpus ∙ length-set cs k x ∙ sized.same_cpus;
+    same_slots = ap (λ (y : Block). length y.slots) block ∙ inserted_count b k ∙ sized.same_slots;
+    few = sized.few;
+  }
+
+  pub sized_removal : (k : ℕ) (c : Block) → c ≡ with_removal b k → IsSized apic cs c
+  sized_removal k c block = record {
+    same_cpus = sized.same_cpus;
+    same_slots = ap (λ (y : Block). length y.slots) block ∙ requested_count b k ∙ sized.same_slots;
+    few = sized.few;
+  }
