@@ -1,0 +1,21 @@
+-- What contracts see of a memory, and which writes it stands for.
+use Rattle.std.specs.Prelude.{◌≡◌, ◌⊎◌, ℕ, List}
+use Rattle.hp_model.specs.Memory.{Write, byte_at}
+use Rattle.hp_mem.specs.declared.bytes.Byte.{Byte}
+use Rattle.hp_mem.specs.Bytes.{byte_in}
+
+pub record Kept : Type 0 where
+  pub bytes : List Byte
+  pub spare : ℕ  -- room for so many more bytes
+
+-- the byte at each address, 0 where nothing was written (own rule)
+abbrev pub kept_at : Kept → ℕ → ℕ
+kept_at kept x = byte_in kept.bytes x
+
+-- a memory that holds, at each address, what these writes left there
+pub record Stands (kept : Kept) (ws : List Write) : Type 0 where
+  pub each : (x : ℕ) → kept_at kept x ≡ byte_at ws x
+
+-- the widths of an access, in bytes
+abbrev pub IsWidth : ℕ → Type 0
+IsWidth width = (width ≡ 1) ⊎ ((width ≡ 2) ⊎ ((width ≡ 4) ⊎ (width ≡ 8)))

@@ -1,0 +1,100 @@
+//! The memory.
+
+ghost use Rattle.std.specs.Prelude.{◌≡◌, ◌≢◌, ◌+◌, ◌^◌, ◌≤◌, ℕ, IfOk, IsOk, OnErr, OnOk};
+ghost use Rattle.hp_model.specs.Memory.{byte_over, value_from, write_of};
+ghost use Rattle.hp_mem.specs.Kept.{IsWidth, kept_at};
+
+use crate::bytes::{Byte, put_value, value_at};
+use hp_model::NoMemory;
+use std::alloc::Global;
+use std::marker::Model;
+
+/// The room that `Mem::reserve` makes, in bytes.
+const RESERVED: usize = 272;
+
+/// The bytes at all 32-bit addresses. A byte that was never written is 0.
+///
+/// An access has 1, 2, 4 or 8 bytes, at any alignment, the lowest byte of its value first.
+#[derive(Drop)]
+pub struct Mem {
+    bytes: Vec<Byte>,
+}
+
+impl Model for Mem {
+    ghost use Rattle.std.specs.Prelude.{◌-◌, vec_len, vec_capacity};
+    ghost use Rattle.hp_mem.specs.Kept as kept;
+    ghost use Rattle.hp_mem.specs.Bytes.{Ascends};
+
+    ghost Value = { kept.Kept };
+
+    ghost view = { λ m. record { bytes = m.bytes.items; spare = vec_capacity m.bytes - vec_len m.bytes } };
+
+    ghost invariant = { λ m. Ascends m.bytes.items };
+}
+
+impl Mem {
+    /// A memory of zeros. It keeps the allocator, and takes no memory yet.
+    pub fn new(alloc: Global) -> Mem
+        ensures zeros { (x : ℕ) → kept_at result x ≡ 0 }
+        ensures spare { result.spare ≡ 0 }
+    {
+        Mem {
+            bytes: Vec::new(alloc),
+        }
+    }
+
+    /// The value of the `width` bytes at `addr`, the lowest byte first.
+    pub fn load(&self, addr: u32, width: u8) -> u64
+        requires width { IsWidth width }
+        requires end { addr + width ≤ 2 ^ 32 }
+        ensures value { result ≡ value_from (kept_at self.now) addr width }
+    {
+        value_at(self.bytes.as_slice(), u64::from(addr), width)
+    }
+
+    /// Stores the lowest `width` bytes of `value` at `addr`, the lowest byte first. After `NoMemory` each byte is as it
+    /// was: room for the whole store is taken before its first byte.
+    #[tactic(auto, using(crate::proofs::Places::store_facts))]
+    pub fn store(&mut self, addr: u32, width: u8, value: u64) -> Result<(), NoMemory>
+        requires width { IsWidth width }
+        requires end { addr + width ≤ 2 ^ 32 }
+        ensures written { OnOk result ((x : ℕ) → kept_at self.new x ≡ byte_over (write_of addr width value) (kept_at self.old) x) }
+        ensures no_memory { OnErr result ((x : ℕ) → kept_at self.new x ≡ kept_at self.old x) }
+        ensures succeeds { width ≤ self.old.spare → IsOk result }
+        ensures spare { self.old.spare ≤ self.new.spare + width }
+    {
+        self.bytes.reserve(usize::from(width))?;
+        put_value(&mut self.bytes, u64::from(addr), width, value);
+        Ok(())
+    }
+
+    /// Compare and exchange of 8 bytes: answers what stood at `addr`, and stores `desired` there exactly where that is
+    /// `expected`. After `NoMemory` each byte is as it was.
+    pub fn swap_if(&mut self, addr: u32, expected: u64, desired: u64) -> Result<u64, NoMemory>
+        requires end { addr + 8 ≤ 2 ^ 32 }
+        ensures value { IfOk result (λ v. v ≡ value_from (kept_at self.old) addr 8) }
+        ensures swapped { OnOk result (value_from (kept_at self.old) addr 8 ≡ expected → (x : ℕ) → kept_at self.new x ≡ byte_over (write_of addr 8 desired) (kept_at self.old) x) }
+        ensures unchanged { OnOk result (value_from (kept_at self.old) addr 8 ≢ expected → (x : ℕ) → kept_at self.new x ≡ kept_at self.old x) }
+        ensures no_memory { OnErr result ((x : ℕ) → kept_at self.new x ≡ kept_at self.old x) }
+        ensures succeeds { 8 ≤ self.old.spare → IsOk result }
+        ensures spare { self.old.spare ≤ self.new.spare + 8 }
+    {
+        let old = self.load(addr, 8);
+        if old == expected {
+            self.store(addr, 8, desired)?;
+        }
+        Ok(old)
+    }
+
+    /// Makes room for 272 bytes: the 256 of the largest transfer, and its descriptor's 16. Stores that need no more than
+    /// that are not answered `NoMemory`. No byte changes, whatever the answer.
+    pub fn reserve(&mut self) -> Result<(), NoMemory>
+        ensures reserved { OnOk result (272 ≤ self.new.spare) }
+        ensures unchanged { (x : ℕ) → kept_at self.new x ≡ kept_at self.old x }
+        ensures succeeds { 272 ≤ self.old.spare → IsOk result }
+        ensures spare { self.old.spare ≤ self.new.spare }
+    {
+        self.bytes.reserve(RESERVED)?;
+        Ok(())
+    }
+}
