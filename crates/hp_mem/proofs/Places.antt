@@ -1,5 +1,5 @@
 -- The list of bytes: its places, and what is put into it.
-use Rattle.std.proofs.Common.{◌≡◌, ℕ, zero, suc, ◌+◌, ◌-◌, ◌/◌, ◌%◌, ◌<◌, ◌≤◌, ◌≢◌, ◌==◌, List, [], ◌∷◌, length, get_or, slice_set, insert, refl, ap, arith, if◌then◌else◌}
+use Rattle.std.proofs.Common.{◌≡◌, ℕ, zero, suc, ◌+◌, ◌-◌, ◌/◌, ◌%◌, ◌<◌, ◌≤◌, ◌==◌, List, [], ◌∷◌, length, get_or, slice_set, insert, refl, arith, if◌then◌else◌}
 use Rattle.std.proofs.Common.{ltb, true, false}
 use Rattle.std.specs.List.Sorted.{IsNonDecreasingBy, IsPartitionedBy, IsPartitionPoint}
 use Rattle.std.proofs.lemmas.Bool.Decides.{nat_tests}
@@ -88,6 +88,7 @@ place_is (b ∷ bs) x (suc i) le point =
     grind (arith, nat_tests)
 
 pub ruleset read_facts = (has_at, has_none, has_within, byte_found, byte_missed)
+
 pub ruleset put_facts = (has_within, count_most, put_set, put_insert)
 
 pub put_none : (bs : List Byte) (x n value : ℕ) → n ≤ 0 → put_all bs x (bytes_of n value) ≡ bs

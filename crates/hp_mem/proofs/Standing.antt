@@ -1,6 +1,6 @@
 -- A memory that stands for writes, for the crates above: what a load of it answers, and what it stands for after a store.
 use Rattle.std.proofs.Common.{◌≡◌, ℕ, List, [], ◌∷◌, refl, ◌∙◌}
-use Rattle.hp_model.specs.Memory.{Write, covers, byte_over, byte_at, value_from}
+use Rattle.hp_model.specs.Memory.{Write, byte_over, byte_at, value_from}
 use Rattle.hp_mem.specs.Kept.{Kept, kept_at, Stands}
 use Rattle.hp_mem.proofs.Values.{value_same}
 

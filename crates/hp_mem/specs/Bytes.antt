@@ -1,5 +1,5 @@
 -- The bytes that were written, a list with ascending addresses, and what stands at an address.
-use Rattle.std.specs.Prelude.{ℕ, zero, suc, ◌+◌, ◌≤◌, ◌==◌, nat_lt, Bool, false, List, [], ◌∷◌, if◌then◌else◌}
+use Rattle.std.specs.Prelude.{ℕ, suc, ◌+◌, ◌≤◌, ◌==◌, nat_lt, Bool, false, List, [], ◌∷◌, if◌then◌else◌}
 use Rattle.hp_mem.specs.declared.bytes.Byte.{Byte}
 
 -- ascending addresses, none of them below low

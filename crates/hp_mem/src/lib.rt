@@ -4,6 +4,8 @@
 mod bytes;
 mod laws;
 mod memory;
+#[cfg(test)]
+mod tests;
 
 pub use laws::{a_store_leaves_what_lies_beside_it, a_store_reads_back};
 pub use memory::Mem;
