@@ -1,6 +1,5 @@
--- The list of bytes: its places, and what is put into it.
-use Rattle.std.proofs.Common.{◌≡◌, ℕ, zero, suc, ◌+◌, ◌-◌, ◌/◌, ◌%◌, ◌<◌, ◌≤◌, ◌==◌, List, [], ◌∷◌, length, get_or, slice_set, insert, refl, arith, if◌then◌else◌}
-use Rattle.std.proofs.Common.{ltb, true, false}
+-- The list of bytes: its places, what is put into it, and the writes that puts are.
+use Rattle.std.proofs.Common.{◌≡◌, ℕ, zero, suc, ◌+◌, ◌-◌, ◌/◌, ◌%◌, ◌<◌, ◌≤◌, ◌==◌, List, [], ◌∷◌, length, get_or, slice_set, insert, ltb, true, false, refl, arith, if◌then◌else◌}
 use Rattle.std.specs.List.Sorted.{IsNonDecreasingBy, IsPartitionedBy, IsPartitionPoint}
 use Rattle.std.proofs.lemmas.Bool.Decides.{nat_tests}
 use Rattle.std.proofs.lemmas.List.Sorted.{IsPartitionedBy-ltb}
@@ -37,6 +36,8 @@ byte_missed_from low (b ∷ bs) x up h = grind (arith, nat_tests, byte_missed_fr
 pub byte_missed : (bs : List Byte) (x : ℕ) → Ascends bs → has bs x ≡ false → byte_in bs x ≡ 0
 byte_missed bs x up h = byte_missed_from 0 bs x up.from_zero h
 
+pub ruleset read_facts = (has_at, has_none, has_within, byte_found, byte_missed)
+
 -- what stands once a byte was put
 pub byte_put : (bs : List Byte) (x v y : ℕ) → byte_in (put bs x v) y ≡ (if x == y then v else byte_in bs y)
 byte_put [] x v y = refl
@@ -61,6 +62,8 @@ put_insert (b ∷ bs) x v h = grind (arith, nat_tests, put_insert bs x v)
 pub count_most : (bs : List Byte) (x : ℕ) → count_below bs x ≤ length bs
 count_most [] x = omega arith
 count_most (b ∷ bs) x = grind (arith, nat_tests, count_most bs x)
+
+pub ruleset put_facts = (has_within, count_most, put_set, put_insert)
 
 -- the search for a place
 rises : (low : ℕ) (bs : List Byte) (k : ℕ) (d : Byte) → AscendFrom low bs → k < length bs → low ≤ (get_or bs k d).addr
@@ -87,10 +90,7 @@ place_is (b ∷ bs) x (suc i) le point =
     let rest = place_is bs x i (omega arith) ((λ k d at_least below. point.0 (suc k) d (omega arith) (omega arith)), (λ k d at_least below. point.1 (suc k) d (omega arith) (omega arith))) in
     grind (arith, nat_tests)
 
-pub ruleset read_facts = (has_at, has_none, has_within, byte_found, byte_missed)
-
-pub ruleset put_facts = (has_within, count_most, put_set, put_insert)
-
+-- a value is put byte by byte, the lowest first
 pub put_none : (bs : List Byte) (x n value : ℕ) → n ≤ 0 → put_all bs x (bytes_of n value) ≡ bs
 unfolding bytes_of
 put_none bs x zero value h = refl

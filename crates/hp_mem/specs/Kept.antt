@@ -4,6 +4,7 @@ use Rattle.hp_model.specs.Memory.{Write, byte_at}
 use Rattle.hp_mem.specs.declared.bytes.Byte.{Byte}
 use Rattle.hp_mem.specs.Bytes.{byte_in}
 
+-- contracts speak of kept_at and of the room alone, so that the bytes can be kept in another form
 pub record Kept : Type 0 where
   pub bytes : List Byte
   pub spare : ℕ  -- room for so many more bytes

@@ -19,7 +19,7 @@ fn place_of(bytes: &[Byte], addr: u32) -> usize
     bytes.partition_point(|byte| byte.addr < addr)
 }
 
-/// Whether a byte was written at an address.
+/// Whether a byte was written at an address, whose place is given.
 #[tactic(auto, using(crate::proofs::Places::read_facts))]
 fn is_written(bytes: &[Byte], place: usize, addr: u32) -> bool
     requires { place ≡ count_below bytes.now addr }

@@ -1,6 +1,6 @@
-//! The memory.
+//! Memory: its loads and stores, and the room that it takes.
 
-ghost use Rattle.std.specs.Prelude.{◌≡◌, ◌≢◌, ◌+◌, ◌^◌, ◌≤◌, ℕ, IfOk, IsOk, OnErr, OnOk};
+ghost use Rattle.std.specs.Prelude.{◌≡◌, ◌≢◌, ◌+◌, ◌^◌, ◌<◌, ◌≤◌, ℕ, IfOk, IsOk, OnErr, OnOk};
 ghost use Rattle.hp_model.specs.Memory.{byte_over, value_from, write_of};
 ghost use Rattle.hp_mem.specs.Kept.{IsWidth, kept_at};
 
@@ -48,6 +48,7 @@ impl Mem {
         requires width { IsWidth width }
         requires end { addr + width ≤ 2 ^ 32 }
         ensures value { result ≡ value_from (kept_at self.now) addr width }
+        ensures below { result < 256 ^ width }
     {
         value_at(self.bytes.as_slice(), u64::from(addr), width)
     }
@@ -86,8 +87,8 @@ impl Mem {
         Ok(old)
     }
 
-    /// Makes room for 272 bytes: the 256 of the largest transfer, and its descriptor's 16. Stores that need no more than
-    /// that are not answered `NoMemory`. No byte changes, whatever the answer.
+    /// Makes room for 272 bytes, enough for the 256 of the largest transfer and for the 16 of its control block: stores of
+    /// so many bytes in all are then not answered `NoMemory`. No byte changes, whatever the answer.
     pub fn reserve(&mut self) -> Result<(), NoMemory>
         ensures reserved { OnOk result (272 ≤ self.new.spare) }
         ensures unchanged { (x : ℕ) → kept_at self.new x ≡ kept_at self.old x }
