@@ -9,6 +9,7 @@ use Rattle.hp_model.specs.Memory.{bytes_of, value_from}
 use Rattle.hp_cpu.specs.declared.save_area.SavePlan.{SavePlan}
 use Rattle.hp_cpu.specs.Saving.{packed, unpacked}
 
+-- a byte by its place, and the one after it
 byte_at-pow : (k x : ℕ) → byte_at k x ≡ x / 256 ^ k % 256
 byte_at-pow zero x = ap (λ (y : ℕ). y % 256) (sym (div-one x))
 byte_at-pow (suc k) x = refl
@@ -16,6 +17,7 @@ byte_at-pow (suc k) x = refl
 next_byte : (i x : ℕ) → x / 256 ^ suc i ≡ x / 256 ^ i / 256
 next_byte i x = ap (λ (p : ℕ). x / p) (pow-suc 256 i) ∙ sym (div-div-eq-div-mul x (256 ^ i) 256)
 
+-- the bytes that are written
 bytes_from : (i n x : ℕ) → bytes_low_first i n x ≡ bytes_of n (x / 256 ^ i)
 unfolding bytes_of
 bytes_from i zero x = refl
@@ -24,11 +26,13 @@ bytes_from i (suc n) x = rw (byte_at-pow i x, bytes_from (suc i) n x, next_byte 
 little_bytes_are : (n x : ℕ) → little_bytes n x ≡ bytes_of n x
 little_bytes_are n x = bytes_from 0 n x ∙ ap (bytes_of n) (div-one x)
 
+-- the numbers that are read
 little_from_is : (i n : ℕ) (xs : List ℕ) → little_from i n xs ≡ value_from (slice_index xs) i n
 unfolding value_from
 little_from_is i zero xs = refl
 little_from_is i (suc n) xs = rw (add-one i, little_from_is (suc i) n xs) refl
 
+-- past the first k bytes all places are moved on
 little_from-drop : (k i n : ℕ) (xs : List ℕ) → little_from i n (drop k xs) ≡ little_from (k + i) n xs
 little_from-drop k i zero xs = refl
 little_from-drop k i (suc n) xs = let e : k + suc i ≡ suc (k + i) = omega arith in rw (get_or-drop k xs i 0, little_from-drop k (suc i) n xs, e) refl
@@ -44,6 +48,7 @@ rip_read bytes = sym (little_from-take 0 8 8 (drop 8 bytes) (omega arith) ∙ li
 
 pub ruleset fields_read = (smbase_read, rip_read)
 
+-- what was packed is read back
 pub unpacked_packed : (p : SavePlan) → p.smbase < 2 ^ 32 → p.rip < 2 ^ 64 → unpacked (packed p) ≡ record { smbase = p.smbase; rip = p.rip }
 unpacked_packed p s r =
     let bytes = packed_bytes p in

@@ -18,10 +18,12 @@ boot_more p slot bs cs h =
     ap (λ (ks : List ℕ). boot_cpus p slot ks cs) (drop-cons bs slot 0 h)
     ∙ ap (λ (n : ℕ). boot_cpus p (slot + 1) (drop n bs) (slice_set cs (get_or bs slot 0) (booted (tile p slot)))) (sym (add-one slot))
 
+-- the first of them
 pub boot_first : (p : Platform) → boot_cpus p 0 p.boot (replicate (length p.apic) absent) ≡ cpus_start p
 unfolding cpus_start
 boot_first p = refl
 
+-- the last of them has its tile
 pub boot_done : (p : Platform) (slot : ℕ) (bs : List ℕ) (cs : List Cpu) → length bs ≤ slot → boot_cpus p slot (drop slot bs) cs ≡ cs
 unfolding boot_cpus
 boot_done p slot bs cs h = ap (λ (ks : List ℕ). boot_cpus p slot ks cs) (drop_all slot bs h)
@@ -33,12 +35,14 @@ ascending low count (k ∷ ks) up below h =
     let rest = ascending k count ks (grind (arith, nat_tests, common_steps)) (grind (arith, nat_tests, common_steps)) (grind (arith, nat_tests, common_steps)) in
     grind (arith, nat_tests, common_steps, rest)
 
+-- so the boot processors are no more than the possible ones
 few : (count : ℕ) (ks : List ℕ) → ascends_from_zero ks ≡ true → list_all (λ k. nat_lt k count) ks ≡ true → length ks ≤ count
 few count [] up below = omega arith
 few count (k ∷ ks) up below =
     let rest = ascending 0 count ks (grind (arith, nat_tests, common_steps)) (grind (arith, nat_tests, common_steps)) (grind (arith, nat_tests, common_steps)) in
     omega (arith, rest)
 
+-- each of them is a place
 at_place : (count : ℕ) (ks : List ℕ) (i : ℕ) → list_all (λ k. nat_lt k count) ks ≡ true → i < length ks → get_or ks i 0 < count
 at_place count [] i below h = absurd (omega arith)
 at_place count (k ∷ ks) zero below h = grind (arith, nat_tests, common_steps)

@@ -36,6 +36,15 @@ const ABSENT: Cpu = Cpu {
     base: 0,
 };
 
+/// A present processor with the default SMBASE and no latch.
+fn in_mode(mode: Mode) -> Cpu {
+    Cpu {
+        present: true,
+        mode,
+        ..ABSENT
+    }
+}
+
 /// Three processors with TSEG at 0x7800000, of which the first two are there at boot.
 fn platform(alloc: Global) -> Result<Platform, NoMemory> {
     Ok(Platform {
@@ -135,24 +144,21 @@ fn act(cpus: &mut Cpus, deed: Deed) -> Option<bool>
     }
 }
 
+fn with_smi(cpu: Cpu) -> Cpu {
+    Cpu { smi: true, ..cpu }
+}
+
+fn with_init(cpu: Cpu) -> Cpu {
+    Cpu { init: true, ..cpu }
+}
+
 #[test]
 fn each_mode_meets_each_hit_and_hot_plug(rt: HostRuntime) -> Result<(), Fail> {
-    let waiting = Cpu {
-        present: true,
-        ..ABSENT
-    };
-    let running = Cpu {
-        mode: Mode::Running(0x9f),
-        ..waiting
-    };
-    let halted = Cpu {
-        mode: Mode::Halted(0x9f),
-        ..waiting
-    };
-    let inside = Cpu {
-        mode: Mode::Smm(0x38000),
-        ..waiting
-    };
+    let waiting = in_mode(Mode::Wait);
+    let started = in_mode(Mode::Running(0x12));
+    let running = in_mode(Mode::Running(0x9f));
+    let halted = in_mode(Mode::Halted(0x9f));
+    let inside = in_mode(Mode::Smm(0x38000));
     let smi = Deed::Hit(Kind::Smi);
     let init = Deed::Hit(Kind::Init);
     let sipi = Deed::Hit(Kind::Start(0x12));
@@ -162,87 +168,23 @@ fn each_mode_meets_each_hit_and_hot_plug(rt: HostRuntime) -> Result<(), Fail> {
         (Standing::Absent, sipi, None, ABSENT),
         (Standing::Absent, Deed::Insert, Some(true), waiting),
         (Standing::Absent, Deed::Remove, Some(false), ABSENT),
-        (
-            Standing::Waiting,
-            smi,
-            None,
-            Cpu {
-                smi: true,
-                ..waiting
-            },
-        ),
+        (Standing::Waiting, smi, None, with_smi(waiting)),
         (Standing::Waiting, init, None, waiting),
-        (
-            Standing::Waiting,
-            sipi,
-            None,
-            Cpu {
-                mode: Mode::Running(0x12),
-                ..waiting
-            },
-        ),
+        (Standing::Waiting, sipi, None, started),
         (Standing::Waiting, Deed::Insert, Some(false), waiting),
         (Standing::Waiting, Deed::Remove, Some(true), ABSENT),
-        (
-            Standing::Running,
-            smi,
-            None,
-            Cpu {
-                smi: true,
-                ..running
-            },
-        ),
-        (
-            Standing::Running,
-            init,
-            None,
-            Cpu {
-                init: true,
-                ..running
-            },
-        ),
+        (Standing::Running, smi, None, with_smi(running)),
+        (Standing::Running, init, None, with_init(running)),
         (Standing::Running, sipi, None, running),
         (Standing::Running, Deed::Insert, Some(false), running),
         (Standing::Running, Deed::Remove, Some(true), ABSENT),
-        (
-            Standing::Halted,
-            smi,
-            None,
-            Cpu {
-                smi: true,
-                ..halted
-            },
-        ),
-        (
-            Standing::Halted,
-            init,
-            None,
-            Cpu {
-                init: true,
-                ..halted
-            },
-        ),
+        (Standing::Halted, smi, None, with_smi(halted)),
+        (Standing::Halted, init, None, with_init(halted)),
         (Standing::Halted, sipi, None, halted),
         (Standing::Halted, Deed::Insert, Some(false), halted),
         (Standing::Halted, Deed::Remove, Some(true), ABSENT),
-        (
-            Standing::InSmm,
-            smi,
-            None,
-            Cpu {
-                smi: true,
-                ..inside
-            },
-        ),
-        (
-            Standing::InSmm,
-            init,
-            None,
-            Cpu {
-                init: true,
-                ..inside
-            },
-        ),
+        (Standing::InSmm, smi, None, with_smi(inside)),
+        (Standing::InSmm, init, None, with_init(inside)),
         (Standing::InSmm, sipi, None, inside),
         (Standing::InSmm, Deed::Insert, Some(false), inside),
         (Standing::InSmm, Deed::Remove, Some(true), ABSENT),
@@ -268,41 +210,36 @@ fn an_smi_is_taken_before_init_and_a_halted_processor_runs_after_it(
     assert!(rt; !cpus.can_take_init(2));
     assert!(rt; cpus.can_take_smi(2));
     let plan = cpus.enter(2);
-    assert_eq!(rt;
-        (plan.smbase, plan.revision, plan.rip),
-        (0x30000, 0x20064, 0x9f000)
-    );
+    assert_eq!(rt; plan.smbase, 0x30000);
+    assert_eq!(rt; plan.revision, 0x20064);
+    assert_eq!(rt; plan.rip, 0x9f000);
     assert!(rt; is_inside(cpus.get(2)));
     cpus.go(2, 0x38004, 0x7840000);
-    let inside = Cpu {
-        present: true,
-        mode: Mode::Smm(0x38004),
-        init: true,
+    let moved = Cpu {
         base: 0x7840000,
-        ..ABSENT
+        ..with_init(in_mode(Mode::Smm(0x38004)))
     };
-    assert!(rt; is_cpu(cpus.get(2), inside));
+    assert!(rt; is_cpu(cpus.get(2), moved));
     assert!(rt; !cpus.can_take_smi(2) && !cpus.can_take_init(2));
     assert!(rt; is_inside(cpus.get(2)));
-    cpus.leave(
-        2,
-        Saved {
-            smbase: 0x784ffff,
-            rip: 0x1_0009_fabc,
-        },
-    );
-    let back = Cpu {
+    let saved = Saved {
+        smbase: 0x784ffff,
+        rip: 0x1_0009_fabc,
+    };
+    cpus.leave(2, saved);
+    let resumed = Cpu {
         mode: Mode::Running(0x9f),
         smbase: 0x7840000,
-        ..inside
+        ..moved
     };
-    assert!(rt; is_cpu(cpus.get(2), back));
-    assert!(rt; !cpus.can_take_smi(2) && cpus.can_take_init(2));
+    assert!(rt; is_cpu(cpus.get(2), resumed));
+    assert!(rt; !cpus.can_take_smi(2));
+    assert!(rt; cpus.can_take_init(2));
     cpus.take_init(2);
     let waiting = Cpu {
         mode: Mode::Wait,
         init: false,
-        ..back
+        ..resumed
     };
     assert!(rt; is_cpu(cpus.get(2), waiting));
     Ok(())
@@ -311,46 +248,24 @@ fn an_smi_is_taken_before_init_and_a_halted_processor_runs_after_it(
 #[test]
 fn boot_processors_have_their_tiles_and_an_insert_clears_all(rt: HostRuntime) -> Result<(), Fail> {
     let mut cpus = start(&rt, rt.alloc())?;
-    let booted = Cpu {
-        present: true,
-        mode: Mode::Running(0),
-        smbase: 0x7830000,
-        ..ABSENT
+    let first = Cpu {
+        smbase: 0x7820000,
+        ..in_mode(Mode::Running(0))
     };
-    assert!(rt;
-        is_cpu(
-            cpus.get(0),
-            Cpu {
-                smbase: 0x7820000,
-                ..booted
-            }
-        )
-    );
-    assert!(rt; is_cpu(cpus.get(1), booted));
+    let second = Cpu {
+        smbase: 0x7830000,
+        ..first
+    };
+    assert!(rt; is_cpu(cpus.get(0), first));
+    assert!(rt; is_cpu(cpus.get(1), second));
     assert!(rt; is_cpu(cpus.get(2), ABSENT));
     cpus.hit(1, Kind::Init);
     cpus.hit(1, Kind::Smi);
     assert!(rt; cpus.remove(1));
     assert!(rt; is_cpu(cpus.get(1), ABSENT));
     assert!(rt; cpus.insert(1));
-    assert!(rt;
-        is_cpu(
-            cpus.get(1),
-            Cpu {
-                present: true,
-                ..ABSENT
-            }
-        )
-    );
-    assert!(rt;
-        is_cpu(
-            cpus.get(0),
-            Cpu {
-                smbase: 0x7820000,
-                ..booted
-            }
-        )
-    );
+    assert!(rt; is_cpu(cpus.get(1), in_mode(Mode::Wait)));
+    assert!(rt; is_cpu(cpus.get(0), first));
     Ok(())
 }
 
@@ -363,14 +278,11 @@ fn the_fields_are_packed_with_their_lowest_bytes_first(rt: HostRuntime) -> Resul
     };
     let bytes = put(&plan);
     let want = [
-        0x00, 0x00, 0x83, 0x07, 0x64, 0x00, 0x02, 0x00, 0xf0, 0xde, 0xbc, 0x9a, 0x78, 0x56, 0x34,
-        0x12,
+        0, 0, 0x83, 7, 0x64, 0, 2, 0, 0xf0, 0xde, 0xbc, 0x9a, 0x78, 0x56, 0x34, 0x12,
     ];
     assert_eq!(rt; bytes, want);
     let saved = get(&bytes);
-    assert_eq!(rt;
-        (saved.smbase, saved.rip),
-        (0x7830000, 0x1234_5678_9abc_def0)
-    );
+    assert_eq!(rt; saved.smbase, 0x7830000);
+    assert_eq!(rt; saved.rip, 0x1234_5678_9abc_def0);
     Ok(())
 }
