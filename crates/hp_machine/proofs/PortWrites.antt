@@ -1,5 +1,5 @@
 -- A write to a port leads to the state that the model has after it.
-use Rattle.std.proofs.Common.{◌≡◌, ℕ, ◌-◌, Bool, true, false, List, Option, Some, None, refl, ◌∙◌, ap}
+use Rattle.std.proofs.Common.{◌≡◌, ℕ, ◌-◌, Bool, true, false, List, Option, ◌∙◌, ap}
 use Rattle.std.specs.Prelude.{if◌then◌else◌}
 use Rattle.hp_model.specs.declared.platforms.Platform.{Platform}
 use Rattle.hp_model.specs.declared.processors.Cpu.{Cpu}
@@ -20,8 +20,8 @@ port_state p m s port width value b cs is block cpus = by (is_on_block port) blo
       memory = is.memory;
       locks = is.locks;
       cpus = cpus ∙ ap (λ (x : Block). without_ejected (ejected_by m.block x) m.cpus) e
-        ∙ ap (λ (x : Block). without_ejected (ejected_by x (block_write x (port - 0xcd8) width value)) m.cpus) is.block
-        ∙ ap (λ (xs : List Cpu). without_ejected (ejected_by s.block (block_write s.block (port - 0xcd8) width value)) xs) is.cpus;
+          ∙ ap (λ (x : Block). without_ejected (ejected_by x (block_write x (port - 0xcd8) width value)) m.cpus) is.block
+          ∙ ap (λ (xs : List Cpu). without_ejected (ejected_by s.block (block_write s.block (port - 0xcd8) width value)) xs) is.cpus;
       block = e ∙ ap (λ (x : Block). block_write x (port - 0xcd8) width value) is.block;
     }
     by false e = record {

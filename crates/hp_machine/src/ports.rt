@@ -11,6 +11,7 @@ use hp_regs::Block;
 
 /// The first of the register block's ports, and the one past its last.
 const FIRST_PORT: u16 = 0xcd8;
+
 const PAST_PORT: u16 = 0xce4;
 
 /// The offset in the register block, where the port is one of its ports.
