@@ -21,6 +21,7 @@ pub record Machine : Type 0 where
   pub locks : Locks
   pub cpus : List Cpu
   pub block : Block
+  pub ejected : Option ℕ  -- the processor that the last step ejected
 
 -- the machine stands for this state of the model: its memory by the writes, all else by equality
 pub record IsState (p : Platform) (m : Machine) (s : State) : Type 0 where

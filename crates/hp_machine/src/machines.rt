@@ -9,6 +9,7 @@ ghost use Rattle.hp_model.specs.Step.{State, can_do, stands_in_smm};
 ghost use Rattle.hp_model.specs.Memory.{Write, byte_at};
 ghost use Rattle.hp_model.specs.View.{loaded};
 ghost use Rattle.hp_mem.specs.Kept.{Stands};
+ghost use Rattle.hp_model.specs.Block.{ejected_by};
 ghost use Rattle.hp_image.specs.Cells.{AreCells, cells_fit, stored_cells};
 ghost use Rattle.hp_machine.specs.Machine.{IsState, IsStep, started};
 
@@ -35,6 +36,7 @@ pub struct Machine {
     locks: Locks,
     cpus: Cpus,
     block: Block,
+    ejected: Option<u32>,
 }
 
 impl Model for Machine {
@@ -43,7 +45,7 @@ impl Model for Machine {
 
     ghost Value = { seen.Machine };
 
-    ghost view = { λ m. record { apic = m.apic.items; memory = m.memory; locks = m.locks; cpus = m.cpus; block = m.block } };
+    ghost view = { λ m. record { apic = m.apic.items; memory = m.memory; locks = m.locks; cpus = m.cpus; block = m.block; ejected = m.ejected } };
 
     ghost invariant = { λ m. IsSized m.apic.items m.cpus m.block };
 }
@@ -64,12 +66,15 @@ fn store_cells(memory: &mut Mem, cells: &[Cell], low: u32) -> Result<(), NoMemor
 }
 
 impl Machine {
+    #[tactic(auto, using(crate::proofs::Ejects::ejects))]
     fn access(&mut self, k: u32, access: Access) -> Result<Answer, NoMemory>
         requires { can_do (length self.old.apic) self.old.cpus (Do k access) ≡ true }
         ensures step { (p : Platform) (s : State) → IsState p self.old s → IfOk result (λ answer. IsStep p self.new s (Do k access) answer) }
         ensures no_memory { (p : Platform) (s : State) → IsState p self.old s → OnErr result (IsState p self.new s) }
         ensures succeeds { 272 ≤ self.old.memory.spare → IsOk result }
+        ensures ejected { self.new.ejected ≡ ejected_by self.old.block self.new.block }
     {
+        self.ejected = None;
         let in_smm = is_smm_mode(self.cpus.get(k).mode);
         match access {
             Access::Load { addr, width } => {
@@ -99,7 +104,8 @@ impl Machine {
                 Ok(Answer::Value(u64::from(read_port(&self.block, port, width))))
             }
             Access::Out { port, width, value } => {
-                write_port(&mut self.block, &mut self.cpus, port, width, value);
+                let ejected = write_port(&mut self.block, &mut self.cpus, port, width, value);
+                self.ejected = ejected;
                 Ok(Answer::Quiet)
             }
             Access::CfgRead { reg } => Ok(Answer::Value(u64::from(self.locks.read(reg)))),
@@ -139,6 +145,7 @@ impl Machine {
             locks,
             cpus,
             block,
+            ejected: None,
         })
     }
 
@@ -179,46 +186,61 @@ impl Machine {
     }
 
     /// A processor comes, and the block notes it.
+    #[tactic(auto, using(crate::proofs::Ejects::ejects))]
     fn insert(&mut self, k: u32)
         requires { can_do (length self.old.apic) self.old.cpus (Insert k) ≡ true }
-        ensures { (p : Platform) (s : State) → IsState p self.old s → IsStep p self.new s (Insert k) Answer.Quiet }
+        ensures step { (p : Platform) (s : State) → IsState p self.old s → IsStep p self.new s (Insert k) Answer.Quiet }
+        ensures ejected { self.new.ejected ≡ ejected_by self.old.block self.new.block }
     {
+        self.ejected = None;
         self.cpus.insert(k);
         self.block.insert_event(k);
     }
 
+    #[tactic(auto, using(crate::proofs::Ejects::ejects))]
     fn request_removal(&mut self, k: u32)
         requires { can_do (length self.old.apic) self.old.cpus (Remove k) ≡ true }
-        ensures { (p : Platform) (s : State) → IsState p self.old s → IsStep p self.new s (Remove k) Answer.Quiet }
+        ensures step { (p : Platform) (s : State) → IsState p self.old s → IsStep p self.new s (Remove k) Answer.Quiet }
+        ensures ejected { self.new.ejected ≡ ejected_by self.old.block self.new.block }
     {
+        self.ejected = None;
         self.block.remove_event(k);
     }
 
     /// SMI entry. Room for what it saves is taken before the processor changes.
+    #[tactic(auto, using(crate::proofs::Ejects::ejects))]
     fn enter(&mut self, k: u32) -> Result<Answer, NoMemory>
         requires { can_do (length self.old.apic) self.old.cpus (TakeSmi k) ≡ true }
         ensures step { (p : Platform) (s : State) → IsState p self.old s → IfOk result (λ answer. IsStep p self.new s (TakeSmi k) answer) }
         ensures no_memory { (p : Platform) (s : State) → IsState p self.old s → OnErr result (IsState p self.new s) }
         ensures succeeds { 272 ≤ self.old.memory.spare → IsOk result }
+        ensures ejected { self.new.ejected ≡ ejected_by self.old.block self.new.block }
     {
+        self.ejected = None;
         take_room(&mut self.memory)?;
         let plan = self.cpus.enter(k);
         save(&mut self.memory, &self.locks, &plan).unwrap();
         Ok(Answer::Quiet)
     }
 
+    #[tactic(auto, using(crate::proofs::Ejects::ejects))]
     fn take_init(&mut self, k: u32)
         requires { can_do (length self.old.apic) self.old.cpus (TakeInit k) ≡ true }
-        ensures { (p : Platform) (s : State) → IsState p self.old s → IsStep p self.new s (TakeInit k) Answer.Quiet }
+        ensures step { (p : Platform) (s : State) → IsState p self.old s → IsStep p self.new s (TakeInit k) Answer.Quiet }
+        ensures ejected { self.new.ejected ≡ ejected_by self.old.block self.new.block }
     {
+        self.ejected = None;
         self.cpus.take_init(k);
     }
 
     /// RSM.
+    #[tactic(auto, using(crate::proofs::Ejects::ejects))]
     fn resume(&mut self, k: u32)
         requires { can_do (length self.old.apic) self.old.cpus (Resume k) ≡ true }
-        ensures { (p : Platform) (s : State) → IsState p self.old s → IsStep p self.new s (Resume k) Answer.Quiet }
+        ensures step { (p : Platform) (s : State) → IsState p self.old s → IsStep p self.new s (Resume k) Answer.Quiet }
+        ensures ejected { self.new.ejected ≡ ejected_by self.old.block self.new.block }
     {
+        self.ejected = None;
         let smbase = self.cpus.get(k).smbase;
         let fields = saved(&self.memory, &self.locks, smbase);
         self.cpus.leave(k, fields);
@@ -228,11 +250,13 @@ impl Machine {
     /// bytes that doesn't come.
     ///
     /// Where a processor in SMM goes on to is said by `go`.
+    #[tactic(auto, using(crate::proofs::Ejects::ejects))]
     pub fn step(&mut self, e: &Event) -> Result<Answer, NoMemory>
         requires { can_do (length self.old.apic) self.old.cpus e.now ≡ true }
         ensures step { (p : Platform) (s : State) → IsState p self.old s → IfOk result (λ answer. IsStep p self.new s e.now answer) }
         ensures no_memory { (p : Platform) (s : State) → IsState p self.old s → OnErr result (IsState p self.new s) }
         ensures succeeds { 272 ≤ self.old.memory.spare → IsOk result }
+        ensures ejected { self.new.ejected ≡ ejected_by self.old.block self.new.block }
     {
         match *e {
             Event::Insert(k) => self.insert(k),
@@ -241,9 +265,16 @@ impl Machine {
             Event::TakeSmi(k) => return self.enter(k),
             Event::TakeInit(k) => self.take_init(k),
             Event::Resume(k) => self.resume(k),
-            Event::Tell(_) => {}
+            Event::Tell(_) => self.ejected = None,
         }
         Ok(Answer::Quiet)
+    }
+
+    /// The processor that the last step ejected, None where it ejected none and before the first step.
+    pub fn ejected(&self) -> Option<u32>
+        ensures { result ≡ self.now.ejected }
+    {
+        self.ejected
     }
 
     /// Takes room for what any one step writes, so that the next one can't want for memory. Changes nothing else.
