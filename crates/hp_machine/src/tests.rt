@@ -95,15 +95,15 @@ fn sent_to_1(low: u32) -> Event {
 }
 
 /// Makes an event's step, which is enabled.
-fn take(rt: &impl Abort, machine: &mut Machine, row: usize, e: Event) -> Result<Answer, Fail> {
-    assert!(rt; machine.enabled(&e), "row {row} isn't enabled");
+fn take(rt: &impl Abort, machine: &mut Machine, step: usize, e: Event) -> Result<Answer, Fail> {
+    assert!(rt; machine.enabled(&e), "step {step} isn't enabled");
     Ok(machine.step(&e)?)
 }
 
 /// Makes the steps in order, each with the answer that it is to have.
-fn play(rt: &impl Abort, machine: &mut Machine, rows: &[(Event, Answer)]) -> Result<(), Fail> {
-    for (row, (e, answer)) in rows.iter().enumerate() {
-        assert_eq!(rt; take(rt, machine, row, *e)?, *answer, "row {row}");
+fn play(rt: &impl Abort, machine: &mut Machine, steps: &[(Event, Answer)]) -> Result<(), Fail> {
+    for (step, (e, answer)) in steps.iter().enumerate() {
+        assert_eq!(rt; take(rt, machine, step, *e)?, *answer, "step {step}");
     }
     Ok(())
 }
@@ -170,7 +170,7 @@ fn a_locked_area_reads_all_ones_outside_smm(rt: HostRuntime) -> Result<(), Fail>
     let alloc = rt.alloc();
     let p = platform(alloc, vec![in alloc; 0]?, 1, 0x1000000, 1)?;
     let mut machine = machine(&rt, alloc, &p)?;
-    let rows = [
+    let steps = [
         (store(0, 4, 0x30000, 0x11223344), Answer::Quiet),
         (cfg_write(0, 0x9c, 0x02), Answer::Quiet),
         (cfg_read(0, 0x9c), Answer::Value(0)),
@@ -189,7 +189,7 @@ fn a_locked_area_reads_all_ones_outside_smm(rt: HostRuntime) -> Result<(), Fail>
         (load(0, 4, 0xfffffe), Answer::Value(0xffffffff)),
         (load(0, 2, 0xfffffe), Answer::Value(0)),
     ];
-    play(&rt, &mut machine, &rows)
+    play(&rt, &mut machine, &steps)
 }
 
 #[test]
@@ -238,9 +238,9 @@ fn a_new_processor_goes_through_its_modes(rt: HostRuntime) -> Result<(), Fail> {
         (load(0, 4, 0x3fefc), Answer::Value(0x20064), inside),
         (load(0, 8, 0x3ff78), Answer::Value(0x10000), inside),
     ];
-    for (row, (e, answer, want)) in table.into_iter().enumerate() {
-        assert_eq!(rt; take(&rt, &mut machine, row, e)?, answer, "row {row}");
-        assert!(rt; is_cpu(cpu_of(&rt, &machine, 1), want), "row {row}");
+    for (step, (e, answer, want)) in table.into_iter().enumerate() {
+        assert_eq!(rt; take(&rt, &mut machine, step, e)?, answer, "step {step}");
+        assert!(rt; is_cpu(cpu_of(&rt, &machine, 1), want), "step {step}");
     }
     assert_eq!(rt; mark_of(&rt, &machine, 0), None);
     assert_eq!(rt; mark_of(&rt, &machine, 1), Some(0));
@@ -362,8 +362,8 @@ fn each_mode_has_its_events(rt: HostRuntime) -> Result<(), Fail> {
     ];
     for (mode, events, want) in table {
         let mut machine = two(&rt, rt.alloc(), 1)?;
-        for (row, e) in events.into_iter().enumerate() {
-            take(&rt, &mut machine, row, e)?;
+        for (step, e) in events.into_iter().enumerate() {
+            take(&rt, &mut machine, step, e)?;
         }
         assert_eq!(rt; enabled_at_1(&machine), want, "{mode}");
     }
@@ -408,14 +408,14 @@ fn some_events_are_never_enabled(rt: HostRuntime) -> Result<(), Fail> {
 #[test]
 fn an_ejected_processor_is_absent_and_can_come_again(rt: HostRuntime) -> Result<(), Fail> {
     let mut machine = two(&rt, rt.alloc(), 2)?;
-    let rows = [
+    let steps = [
         // the block in its legacy form, and the ports beside it
         (port_in(1, 4, 0xcd8), Answer::Value(3)),
         (port_in(1, 4, 0xcd7), Answer::Value(0)),
         (port_out(0, 4, 0xce4, 0), Answer::Quiet),
         (port_in(0, 4, 0xce4), Answer::Value(0)),
         (port_in(0, 4, 0xcd8), Answer::Value(3)),
-        // its modern form, with processor 1 selected and its removal requested
+        // its modern form, with processor 1 selected and its removal asked for
         (port_out(0, 4, 0xcd8, 0), Answer::Quiet),
         (port_out(0, 4, 0xcd8, 1), Answer::Quiet),
         (Event::Remove(1), Answer::Quiet),
@@ -423,7 +423,7 @@ fn an_ejected_processor_is_absent_and_can_come_again(rt: HostRuntime) -> Result<
         (port_out(0, 1, 0xcdc, 8), Answer::Quiet),
         (port_in(0, 1, 0xcdc), Answer::Value(0x04)),
     ];
-    play(&rt, &mut machine, &rows)?;
+    play(&rt, &mut machine, &steps)?;
     assert!(rt; !is_present(&machine, 1));
     take(&rt, &mut machine, 11, Event::Insert(1))?;
     assert!(rt; is_cpu(cpu_of(&rt, &machine, 1), in_mode(Mode::Wait)));
@@ -482,11 +482,11 @@ fn cells_are_there_at_the_start_and_reserved_room_takes_a_store(
     assert_eq!(rt; p.low_memory, 0x1000000);
     let mut machine = Machine::new(alloc, &p, &cells)?;
     machine.reserve()?;
-    let rows = [
+    let steps = [
         (load(0, 8, 0x38000), Answer::Value(0x11223344aabb7788)),
         (store(0, 8, 0x1fffc, 1), Answer::Quiet),
         (load(0, 8, 0x1fffc), Answer::Value(1)),
         (load(0, 1, 0x1fffd), Answer::Value(0)),
     ];
-    play(&rt, &mut machine, &rows)
+    play(&rt, &mut machine, &steps)
 }
