@@ -1,6 +1,6 @@
 //! The machine by its public calls, with values that were written by hand.
 
-ghost use Rattle.std.specs.Prelude.{◌≡◌, ◌<◌, IfOk, IsTrue, length};
+ghost use Rattle.std.specs.Prelude.{◌<◌, IsTrue, length};
 
 use crate::Machine;
 use hp_image::{Cell, CellList, Cells};
