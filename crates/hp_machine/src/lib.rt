@@ -6,5 +6,7 @@ mod interrupts;
 mod machines;
 mod ports;
 mod reach;
+#[cfg(test)]
+mod tests;
 
 pub use machines::Machine;

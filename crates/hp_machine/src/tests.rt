@@ -1,0 +1,492 @@
+//! The machine by its public calls, with values that were written by hand.
+
+ghost use Rattle.std.specs.Prelude.{◌<◌, IsTrue, length};
+
+use crate::Machine;
+use hp_image::{Cell, CellList, Cells};
+use hp_model::{Access, Answer, Cpu, Delivery, Event, Ids, Mode, NoMemory, Platform, fits};
+use std::alloc::Global;
+use std::process::Abort;
+use std::test::Fail;
+
+/// Processors of which the first `boot` are there at boot. TSEG has `tseg_mib` MiB.
+fn platform(
+    alloc: Global,
+    apic: Vec<u32>,
+    boot: u32,
+    low_memory: u32,
+    tseg_mib: u32,
+) -> Result<Platform, NoMemory> {
+    let mut places = Vec::new(alloc);
+    for place in 0..boot {
+        places.push(place)?;
+    }
+    Ok(Platform {
+        apic: Ids(apic),
+        boot: Ids(places),
+        low_memory,
+        tseg_mib,
+        features: 7,
+        polls: 8,
+        turns: 0,
+        modern: true,
+        default_smram: true,
+        delivery: Delivery::Prompt,
+    })
+}
+
+/// A machine with nothing in memory.
+fn machine(rt: &impl Abort, alloc: Global, p: &Platform) -> Result<Machine, Fail> {
+    assert!(rt; fits(p).is_ok());
+    let cells = Cells {
+        list: CellList(Vec::new(alloc)),
+    };
+    Ok(Machine::new(alloc, p, &cells)?)
+}
+
+/// Two possible processors with APIC IDs 0 and 1, 128 MiB of RAM and TSEG from 07f00000 on.
+fn two(rt: &impl Abort, alloc: Global, boot: u32) -> Result<Machine, Fail> {
+    let p = platform(alloc, vec![in alloc; 0, 1]?, boot, 0x8000000, 1)?;
+    machine(rt, alloc, &p)
+}
+
+fn load(k: u32, width: u8, addr: u32) -> Event {
+    Event::Do(k, Access::Load { addr, width })
+}
+
+fn store(k: u32, width: u8, addr: u32, value: u64) -> Event {
+    Event::Do(k, Access::Store { addr, width, value })
+}
+
+fn swap(k: u32, addr: u32, expected: u64, desired: u64) -> Event {
+    Event::Do(
+        k,
+        Access::Swap {
+            addr,
+            expected,
+            desired,
+        },
+    )
+}
+
+fn port_in(k: u32, width: u8, port: u16) -> Event {
+    Event::Do(k, Access::In { port, width })
+}
+
+fn port_out(k: u32, width: u8, port: u16, value: u32) -> Event {
+    Event::Do(k, Access::Out { port, width, value })
+}
+
+fn cfg_read(k: u32, reg: u8) -> Event {
+    Event::Do(k, Access::CfgRead { reg })
+}
+
+fn cfg_write(k: u32, reg: u8, value: u8) -> Event {
+    Event::Do(k, Access::CfgWrite { reg, value })
+}
+
+fn icr(k: u32, high: u32, low: u32) -> Event {
+    Event::Do(k, Access::Icr { high, low })
+}
+
+/// An SMI, INIT or SIPI (by the low half of the command) that processor 0 sends to APIC ID 1.
+fn sent_to_1(low: u32) -> Event {
+    icr(0, 0x01000000, low)
+}
+
+/// Makes an event's step, which is enabled.
+fn take(rt: &impl Abort, machine: &mut Machine, step: usize, e: Event) -> Result<Answer, Fail> {
+    assert!(rt; machine.enabled(&e), "step {step} isn't enabled");
+    Ok(machine.step(&e)?)
+}
+
+/// Makes the steps in order, each with the answer that it is to have.
+fn play(rt: &impl Abort, machine: &mut Machine, steps: &[(Event, Answer)]) -> Result<(), Fail> {
+    for (step, (e, answer)) in steps.iter().enumerate() {
+        assert_eq!(rt; take(rt, machine, step, *e)?, *answer, "step {step}");
+    }
+    Ok(())
+}
+
+/// Whether some event shows that a processor is there. One that waits for SIPI in place 0 would not be seen.
+#[tactic(auto, using(crate::proofs::Sizes::past_cpus))]
+fn is_present(machine: &Machine, k: u32) -> bool
+    ensures { IsTrue result → k < length machine.now.cpus }
+{
+    machine.enabled(&Event::Remove(k))
+        || machine.enabled(&Event::Do(k, Access::Nop))
+        || machine.enabled(&Event::TakeSmi(k))
+}
+
+fn cpu_of(rt: &impl Abort, machine: &Machine, k: u32) -> Cpu {
+    assert!(rt; is_present(machine, k), "place {k}");
+    machine.cpu(k)
+}
+
+fn mark_of(rt: &impl Abort, machine: &Machine, k: u32) -> Option<u32> {
+    assert!(rt; is_present(machine, k), "place {k}");
+    machine.mark_at(k)
+}
+
+const ABSENT: Cpu = Cpu {
+    present: false,
+    mode: Mode::Wait,
+    smbase: 0x30000,
+    smi: false,
+    init: false,
+    base: 0,
+};
+
+/// A present processor with the default SMBASE and no latch.
+fn in_mode(mode: Mode) -> Cpu {
+    Cpu {
+        present: true,
+        mode,
+        ..ABSENT
+    }
+}
+
+fn is_mode(got: Mode, want: Mode) -> bool {
+    match (got, want) {
+        (Mode::Wait, Mode::Wait) => true,
+        (Mode::Running(got), Mode::Running(want)) => got == want,
+        (Mode::Halted(got), Mode::Halted(want)) => got == want,
+        (Mode::Smm(got), Mode::Smm(want)) => got == want,
+        _ => false,
+    }
+}
+
+fn is_cpu(got: Cpu, want: Cpu) -> bool {
+    got.present == want.present
+        && is_mode(got.mode, want.mode)
+        && got.smbase == want.smbase
+        && got.smi == want.smi
+        && got.init == want.init
+        && got.base == want.base
+}
+
+#[test]
+fn a_locked_area_reads_all_ones_outside_smm(rt: HostRuntime) -> Result<(), Fail> {
+    let alloc = rt.alloc();
+    let p = platform(alloc, vec![in alloc; 0]?, 1, 0x1000000, 1)?;
+    let mut machine = machine(&rt, alloc, &p)?;
+    let steps = [
+        (store(0, 4, 0x30000, 0x11223344), Answer::Quiet),
+        (cfg_write(0, 0x9c, 0x02), Answer::Quiet),
+        (cfg_read(0, 0x9c), Answer::Value(0)),
+        (cfg_write(0, 0x9c, 0xff), Answer::Quiet),
+        (cfg_read(0, 0x9c), Answer::Value(1)),
+        (swap(0, 0x30000, 0x11223344, 5), Answer::Value(0x11223344)),
+        (load(0, 8, 0x30000), Answer::Value(5)),
+        (cfg_write(0, 0x9c, 0x02), Answer::Quiet),
+        (load(0, 8, 0x30000), Answer::Value(0xffffffffffffffff)),
+        (cfg_write(0, 0x9c, 0x00), Answer::Quiet),
+        (cfg_read(0, 0x9c), Answer::Value(2)),
+        // a store and an exchange that a hole takes nothing of
+        (store(0, 1, 0x4ffff, 7), Answer::Quiet),
+        (swap(0, 0x30000, u64::MAX, 9), Answer::Value(u64::MAX)),
+        // half of it lies past the end of RAM
+        (load(0, 4, 0xfffffe), Answer::Value(0xffffffff)),
+        (load(0, 2, 0xfffffe), Answer::Value(0)),
+    ];
+    play(&rt, &mut machine, &steps)
+}
+
+#[test]
+fn a_new_processor_goes_through_its_modes(rt: HostRuntime) -> Result<(), Fail> {
+    let mut machine = two(&rt, rt.alloc(), 1)?;
+    let waiting = in_mode(Mode::Wait);
+    let running = in_mode(Mode::Running(0x10));
+    let halted = in_mode(Mode::Halted(0x10));
+    let inside = in_mode(Mode::Smm(0x38000));
+    let smi = sent_to_1(0x00000200);
+    let init = sent_to_1(0x00000500);
+    let sipi = sent_to_1(0x00000610);
+    let table = [
+        (Event::Insert(1), Answer::Quiet, waiting),
+        (init, Answer::Quiet, waiting),
+        (sipi, Answer::Quiet, running),
+        (Event::Do(1, Access::Halt), Answer::Quiet, halted),
+        (sipi, Answer::Quiet, halted),
+        (
+            init,
+            Answer::Quiet,
+            Cpu {
+                init: true,
+                ..halted
+            },
+        ),
+        (Event::TakeInit(1), Answer::Quiet, waiting),
+        (
+            smi,
+            Answer::Quiet,
+            Cpu {
+                smi: true,
+                ..waiting
+            },
+        ),
+        (
+            sipi,
+            Answer::Quiet,
+            Cpu {
+                smi: true,
+                ..running
+            },
+        ),
+        (Event::TakeSmi(1), Answer::Quiet, inside),
+        (load(0, 4, 0x3ff00), Answer::Value(0x30000), inside),
+        (load(0, 4, 0x3fefc), Answer::Value(0x20064), inside),
+        (load(0, 8, 0x3ff78), Answer::Value(0x10000), inside),
+    ];
+    for (step, (e, answer, want)) in table.into_iter().enumerate() {
+        assert_eq!(rt; take(&rt, &mut machine, step, e)?, answer, "step {step}");
+        assert!(rt; is_cpu(cpu_of(&rt, &machine, 1), want), "step {step}");
+    }
+    assert_eq!(rt; mark_of(&rt, &machine, 0), None);
+    assert_eq!(rt; mark_of(&rt, &machine, 1), Some(0));
+    assert!(rt; machine.enabled(&Event::Resume(1)) && is_present(&machine, 1));
+    machine.go(1, 0x38004, 0x7f30000);
+    let moved = Cpu {
+        base: 0x7f30000,
+        ..in_mode(Mode::Smm(0x38004))
+    };
+    assert!(rt; is_cpu(cpu_of(&rt, &machine, 1), moved));
+    take(
+        &rt,
+        &mut machine,
+        13,
+        store(0, 8, 0x38000, 0x5533221100000000),
+    )?;
+    assert_eq!(rt; mark_of(&rt, &machine, 1), Some(0x55332211));
+    take(&rt, &mut machine, 14, store(0, 4, 0x3ff00, 0x07f30000))?;
+    take(&rt, &mut machine, 15, Event::Resume(1))?;
+    let resumed = Cpu {
+        smbase: 0x07f30000,
+        mode: Mode::Running(0x10),
+        ..moved
+    };
+    assert!(rt; is_cpu(cpu_of(&rt, &machine, 1), resumed));
+    Ok(())
+}
+
+/// Which events of processor 1 are enabled: Insert, Remove, Do of Nop and of Halt, TakeSmi, TakeInit, Resume.
+fn enabled_at_1(machine: &Machine) -> [bool; 7] {
+    [
+        machine.enabled(&Event::Insert(1)),
+        machine.enabled(&Event::Remove(1)),
+        machine.enabled(&Event::Do(1, Access::Nop)),
+        machine.enabled(&Event::Do(1, Access::Halt)),
+        machine.enabled(&Event::TakeSmi(1)),
+        machine.enabled(&Event::TakeInit(1)),
+        machine.enabled(&Event::Resume(1)),
+    ]
+}
+
+#[test]
+fn each_mode_has_its_events(rt: HostRuntime) -> Result<(), Fail> {
+    const NO: bool = false;
+    let insert = Event::Insert(1);
+    let smi = sent_to_1(0x200);
+    let init = sent_to_1(0x500);
+    let sipi = sent_to_1(0x610);
+    let halt = Event::Do(1, Access::Halt);
+    let enter = Event::TakeSmi(1);
+    let none = Event::Do(0, Access::Nop);
+    let table = [
+        ("absent", [none; 5], [true, NO, NO, NO, NO, NO, NO]),
+        (
+            "waiting",
+            [insert, none, none, none, none],
+            [NO, true, NO, NO, NO, NO, NO],
+        ),
+        (
+            "waiting, SMI",
+            [insert, smi, none, none, none],
+            [NO, true, NO, NO, NO, NO, NO],
+        ),
+        (
+            "running",
+            [insert, sipi, none, none, none],
+            [NO, true, true, true, NO, NO, NO],
+        ),
+        (
+            "running, SMI",
+            [insert, sipi, smi, none, none],
+            [NO, true, NO, NO, true, NO, NO],
+        ),
+        (
+            "running, INIT",
+            [insert, sipi, init, none, none],
+            [NO, true, NO, NO, NO, true, NO],
+        ),
+        (
+            "running, both",
+            [insert, sipi, init, smi, none],
+            [NO, true, NO, NO, true, NO, NO],
+        ),
+        (
+            "halted",
+            [insert, sipi, halt, none, none],
+            [NO, true, NO, NO, NO, NO, NO],
+        ),
+        (
+            "halted, SMI",
+            [insert, sipi, halt, smi, none],
+            [NO, true, NO, NO, true, NO, NO],
+        ),
+        (
+            "halted, INIT",
+            [insert, sipi, halt, init, none],
+            [NO, true, NO, NO, NO, true, NO],
+        ),
+        (
+            "halted, both",
+            [insert, sipi, halt, init, smi],
+            [NO, true, NO, NO, true, NO, NO],
+        ),
+        (
+            "in SMM",
+            [insert, sipi, smi, enter, none],
+            [NO, true, true, NO, NO, NO, true],
+        ),
+        (
+            "in SMM, SMI",
+            [insert, sipi, smi, enter, smi],
+            [NO, true, true, NO, NO, NO, true],
+        ),
+        (
+            "in SMM, INIT",
+            [insert, sipi, smi, enter, init],
+            [NO, true, true, NO, NO, NO, true],
+        ),
+    ];
+    for (mode, events, want) in table {
+        let mut machine = two(&rt, rt.alloc(), 1)?;
+        for (step, e) in events.into_iter().enumerate() {
+            take(&rt, &mut machine, step, e)?;
+        }
+        assert_eq!(rt; enabled_at_1(&machine), want, "{mode}");
+    }
+    Ok(())
+}
+
+#[test]
+fn some_events_are_never_enabled(rt: HostRuntime) -> Result<(), Fail> {
+    let machine = two(&rt, rt.alloc(), 2)?;
+    let table = [
+        ("a load of 3 bytes", load(1, 3, 0x1000)),
+        ("a store of 3 bytes", store(1, 3, 0x1000, 0)),
+        (
+            "a store that is wider than its width",
+            store(1, 2, 0x1000, 0x10000),
+        ),
+        ("a read of a port of 8 bytes", port_in(1, 8, 0xcd8)),
+        ("a write of a port of 0 bytes", port_out(1, 0, 0xcd8, 0)),
+        (
+            "a write of a port that is wider than its width",
+            port_out(1, 1, 0xcd8, 0x100),
+        ),
+        ("a removal of processor 0", Event::Remove(0)),
+        ("an insert of a present processor", Event::Insert(1)),
+        ("an insert past the last place", Event::Insert(2)),
+        ("a removal past the last place", Event::Remove(2)),
+        ("an access past the last place", Event::Do(2, Access::Nop)),
+        (
+            "an access past each place",
+            Event::Do(u32::MAX, Access::Nop),
+        ),
+    ];
+    for (what, e) in table {
+        assert!(rt; !machine.enabled(&e), "{what}");
+    }
+    assert!(rt; machine.enabled(&store(1, 2, 0x1000, 0xffff)));
+    assert!(rt; machine.enabled(&store(1, 8, 0x1000, u64::MAX)));
+    assert!(rt; machine.enabled(&port_out(1, 1, 0xcd8, 0xff)));
+    Ok(())
+}
+
+#[test]
+fn an_ejected_processor_is_absent_and_can_come_again(rt: HostRuntime) -> Result<(), Fail> {
+    let mut machine = two(&rt, rt.alloc(), 2)?;
+    let steps = [
+        // the block in its legacy form, and the ports beside it
+        (port_in(1, 4, 0xcd8), Answer::Value(3)),
+        (port_in(1, 4, 0xcd7), Answer::Value(0)),
+        (port_out(0, 4, 0xce4, 0), Answer::Quiet),
+        (port_in(0, 4, 0xce4), Answer::Value(0)),
+        (port_in(0, 4, 0xcd8), Answer::Value(3)),
+        // its modern form, with processor 1 selected and its removal asked for
+        (port_out(0, 4, 0xcd8, 0), Answer::Quiet),
+        (port_out(0, 4, 0xcd8, 1), Answer::Quiet),
+        (Event::Remove(1), Answer::Quiet),
+        (port_in(0, 1, 0xcdc), Answer::Value(0x05)),
+        (port_out(0, 1, 0xcdc, 8), Answer::Quiet),
+        (port_in(0, 1, 0xcdc), Answer::Value(0x04)),
+    ];
+    play(&rt, &mut machine, &steps)?;
+    assert!(rt; !is_present(&machine, 1));
+    take(&rt, &mut machine, 11, Event::Insert(1))?;
+    assert!(rt; is_cpu(cpu_of(&rt, &machine, 1), in_mode(Mode::Wait)));
+    let status = take(&rt, &mut machine, 12, port_in(0, 1, 0xcdc))?;
+    assert_eq!(rt; status, Answer::Value(0x07));
+    Ok(())
+}
+
+/// 64 boot processors. The APIC ID of place k is what 37 k + 5 leaves by 255: place 0 has 05, place 5 has be.
+fn many(rt: &impl Abort, alloc: Global) -> Result<Machine, Fail> {
+    let mut apic = Vec::new(alloc);
+    for place in 0..64u32 {
+        apic.push((37 * place + 5) % 255)?;
+    }
+    let p = platform(alloc, apic, 64, 0x8000000, 8)?;
+    machine(rt, alloc, &p)
+}
+
+#[test]
+fn interrupts_go_by_apic_id(rt: HostRuntime) -> Result<(), Fail> {
+    let mut machine = many(&rt, rt.alloc())?;
+    // INIT to APIC ID 05, and an SMI from place 7 to all others
+    take(&rt, &mut machine, 0, icr(7, 0x05000000, 0x00000500))?;
+    take(&rt, &mut machine, 1, icr(7, 0, 0x000c0200))?;
+    for place in 0..64u32 {
+        let cpu = cpu_of(&rt, &machine, place);
+        assert_eq!(rt;
+            (cpu.init, cpu.smi),
+            (place == 0, place != 7),
+            "place {place}"
+        );
+    }
+    Ok(())
+}
+
+#[test]
+fn cells_are_there_at_the_start_and_reserved_room_takes_a_store(
+    rt: HostRuntime,
+) -> Result<(), Fail> {
+    let alloc = rt.alloc();
+    let p = platform(alloc, vec![in alloc; 0]?, 1, 0x1000000, 1)?;
+    assert!(rt; fits(&p).is_ok());
+    let first = Cell {
+        addr: 0x38000,
+        width: 8,
+        value: 0x1122334455667788,
+    };
+    let second = Cell {
+        addr: 0x38002,
+        width: 2,
+        value: 0xaabb,
+    };
+    let cells = Cells {
+        list: CellList(vec![in alloc; first, second]?),
+    };
+    assert_eq!(rt; p.low_memory, 0x1000000);
+    let mut machine = Machine::new(alloc, &p, &cells)?;
+    machine.reserve()?;
+    let steps = [
+        (load(0, 8, 0x38000), Answer::Value(0x11223344aabb7788)),
+        (store(0, 8, 0x1fffc, 1), Answer::Quiet),
+        (load(0, 8, 0x1fffc), Answer::Value(1)),
+        (load(0, 1, 0x1fffd), Answer::Value(0)),
+    ];
+    play(&rt, &mut machine, &steps)
+}
