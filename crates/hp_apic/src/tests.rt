@@ -1,8 +1,7 @@
 //! Values of the interrupt command register, by the table of the Intel SDM.
 
 use crate::{decode, hits};
-use hp_model::{Ipi, Kind, Target};
-use std::process::Abort;
+use hp_model::Kind;
 use std::test::Fail;
 
 /// What a low half delivers, the destination shorthand being 0.
@@ -24,21 +23,22 @@ fn is_same(got: Option<Kind>, want: Option<Kind>) -> bool {
 fn three_delivery_modes_do_something(rt: HostRuntime) -> Result<(), Fail> {
     let table = [
         // fixed, lowest priority
-        (0x0000cff, None),
-        (0x00001ff, None),
-        (0x00002ff, Some(Kind::Smi)),
-        (0x00003ff, None),
+        (0x00ff, None),
+        (0x01ff, None),
+        (0x02ff, Some(Kind::Smi)),
+        (0x03ff, None),
         // NMI
-        (0x00004ff, None),
-        (0x00005ff, Some(Kind::Init)),
-        (0x00006ff, Some(Kind::Start(0xff))),
-        (0x000069f, Some(Kind::Start(0x9f))),
-        (0x0000600, Some(Kind::Start(0))),
-        (0x00007ff, None),
-        // the level and trigger bits that firmware sets
-        (0x0004500, Some(Kind::Init)),
-        (0x000c500, Some(Kind::Init)),
-        (0x0004638, Some(Kind::Start(0x38))),
+        (0x04ff, None),
+        (0x05ff, Some(Kind::Init)),
+        (0x06ff, Some(Kind::Start(0xff))),
+        (0x069f, Some(Kind::Start(0x9f))),
+        (0x0600, Some(Kind::Start(0))),
+        (0x07ff, None),
+        // the destination mode, level and trigger bits are ignored
+        (0x0a00, Some(Kind::Smi)),
+        (0x4500, Some(Kind::Init)),
+        (0xc500, Some(Kind::Init)),
+        (0x4638, Some(Kind::Start(0x38))),
     ];
     for (low, want) in table {
         assert!(rt; is_same(delivers(low), want), "low half {low}");

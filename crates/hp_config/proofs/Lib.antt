@@ -4,7 +4,6 @@ pub mod Known
 pub mod Kept
 pub mod HexText
 pub mod Groups
-pub mod ServedFiles
 pub mod StepText
 pub mod StepRead
 pub mod Good

@@ -8,5 +8,4 @@ pub mod Unbuilt
 pub mod Kinds
 pub mod Reading
 pub mod Spelling
-pub mod Served
 pub mod Sound

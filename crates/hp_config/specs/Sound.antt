@@ -4,7 +4,6 @@ use Rattle.std.specs.List.{list_all}
 use Rattle.hp_model.specs.declared.files.File.{File}
 use Rattle.hp_model.specs.Platform.{count_of, IsFit}
 use Rattle.hp_config.specs.Rules.{hosts_fit, stalls_fit}
-use Rattle.hp_config.specs.Unbuilt.{kind_runs}
 
 -- the platform fits, each possible processor has one voice, and events name possible processors
 pub record IsSound (f : File) : Type 0 where
@@ -12,10 +11,3 @@ pub record IsSound (f : File) : Type 0 where
   pub voices : length f.voices ≡ count_of f.platform
   pub hosts : hosts_fit (count_of f.platform) f.hosts ≡ true
   pub stalls : stalls_fit (count_of f.platform) f.stalls ≡ true
-
--- as long as rule 16 stands: one processor, which runs a script of built steps, and no events
-pub record IsRunYet (f : File) : Type 0 where
-  pub one : count_of f.platform ≡ 1
-  pub no_hosts : length f.hosts ≡ 0
-  pub no_stalls : length f.stalls ≡ 0
-  pub voices : list_all (λ v. kind_runs (Some v)) f.voices ≡ true

@@ -1,5 +1,5 @@
 -- What this version doesn't run yet, which is rule 16 of a platform file (own rule).
-use Rattle.std.specs.Prelude.{Bool, false, ◌&&◌, ◌==◌, nat_le, length, Option, Some, None}
+use Rattle.std.specs.Prelude.{Bool, true, false, Option, Some, None}
 use Rattle.std.specs.List.{list_all}
 use Rattle.hp_model.specs.declared.accesses.Access.{Access}
 use Rattle.hp_model.specs.declared.accesses.Access.TheVariants.{Load, Store, Swap, In, Out, CfgRead, CfgWrite, Icr, Halt, Nop}
@@ -8,18 +8,18 @@ use Rattle.hp_model.specs.declared.files.VoiceKind.TheVariants.{Script, Os, Pen,
 use Rattle.hp_model.specs.Step.{is_on_block}
 use Rattle.hp_config.specs.declared.parts.Parts.{Parts}
 
--- port accesses to the register block run
+-- all steps run but port accesses elsewhere than at the register block
 abbrev pub step_runs : Access → Bool
-step_runs (Load addr width) = false
-step_runs (Store addr width value) = false
-step_runs (Swap addr expected desired) = false
+step_runs (Load addr width) = true
+step_runs (Store addr width value) = true
+step_runs (Swap addr expected desired) = true
 step_runs (In port width) = is_on_block port
 step_runs (Out port width value) = is_on_block port
-step_runs (CfgRead reg) = false
-step_runs (CfgWrite reg value) = false
-step_runs (Icr high low) = false
-step_runs Halt = false
-step_runs Nop = false
+step_runs (CfgRead reg) = true
+step_runs (CfgWrite reg value) = true
+step_runs (Icr high low) = true
+step_runs Halt = true
+step_runs Nop = true
 
 -- scripts of them run
 abbrev pub kind_runs : Option VoiceKind → Bool
@@ -30,8 +30,6 @@ kind_runs (Some Pen) = false
 kind_runs (Some (Seeded seed)) = false
 kind_runs (Some Handed) = false
 
--- rule 16: one processor with such scripts, no host event and no stall
+-- rule 16: the agents that the file names are such scripts
 abbrev pub parts_run : Parts → Bool
-parts_run parts =
-    nat_le (length parts.machine.platform.apic) 1
-    && ((length parts.hosts == 0) && ((length parts.stalls == 0) && list_all (λ a. kind_runs a.kind) parts.agents))
+parts_run parts = list_all (λ a. kind_runs a.kind) parts.agents

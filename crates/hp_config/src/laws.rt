@@ -1,12 +1,12 @@
 //! Laws over definitions: public functions with empty bodies, whose clauses are what is proved.
 
-ghost use Rattle.std.specs.Prelude.{◌≡◌, ◌↔◌, ℕ, List, Some};
+ghost use Rattle.std.specs.Prelude.{◌≡◌, ◌↔◌, ℕ, List, Some, Ok};
 ghost use Rattle.hp_model.specs.declared.accesses.Access.{Access};
 ghost use Rattle.hp_model.specs.declared.files.File.{File};
 ghost use Rattle.toml.specs.Data.{Members};
-ghost use Rattle.hp_config.specs.Reading.{file_of, good};
+ghost use Rattle.hp_config.specs.Reading.{file_of, good, IsReadAs};
 ghost use Rattle.hp_config.specs.Script.{script_step};
-ghost use Rattle.hp_config.specs.Sound.{IsSound, IsRunYet};
+ghost use Rattle.hp_config.specs.Sound.{IsSound};
 ghost use Rattle.hp_config.specs.Spelling.{IsSpelled};
 
 /// The script steps that are read as an access are exactly the texts that spell it, and these are of normal accesses
@@ -21,8 +21,7 @@ pub fn good_files_are_sound()
     ensures { (ms : Members) (f : File) → file_of ms ≡ good f → IsSound f }
 {}
 
-/// As long as rule 16 stands, a file that is read has one processor, whose voice is a script of port accesses to the
-/// register block, and no events.
-pub fn good_files_run_yet()
-    ensures { (ms : Members) (f : File) → file_of ms ≡ good f → IsRunYet f }
+/// The same of each text that `read` reads as a file.
+pub fn read_files_are_sound()
+    ensures { (text : List ℕ) (f : File) → IsReadAs text (Ok f) → IsSound f }
 {}

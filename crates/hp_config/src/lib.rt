@@ -9,16 +9,14 @@ mod parts;
 mod reading;
 mod rows;
 mod rules;
-mod served;
 mod shape;
 mod steps;
 mod tree;
 mod unbuilt;
 
 pub use faults::ConfigFault;
-pub use laws::{good_files_are_sound, good_files_run_yet, steps_are_read_as_spelled};
+pub use laws::{good_files_are_sound, read_files_are_sound, steps_are_read_as_spelled};
 pub use reading::read;
-pub use served::files_are_served;
 pub use steps::step_of;
 
 #[cfg(test)]

@@ -129,7 +129,7 @@ fn each_rule_has_its_number(rt: HostRuntime) -> Result<(), Fail> {
             "[[agent]]\ncpu = 2\nkind = 'script'\nsteps = ['halt', 'in 1 0CD8']",
             15,
         ),
-        ("", "", 16),
+        ("", "[[agent]]\ncpu = 0\nkind = 'os'", 16),
         // two rules fail
         ("polls = 8", "polls = 0\ndelivery = 'late'", 9),
         (
@@ -157,8 +157,8 @@ fn what_is_not_built_is_rule_16(rt: HostRuntime) -> Result<(), Fail> {
             "delivery = 'prompt'",
             FINE,
         ),
-        ("host = [{ turn = 7, insert = 0 }]\n", "", 16),
-        ("", "[[stall]]\ncpu = 0\nfrom = 5\nto = 5", 16),
+        ("host = [{ turn = 7, insert = 0 }]\n", "", FINE),
+        ("", "[[stall]]\ncpu = 0\nfrom = 5\nto = 5", FINE),
         ("", "[[agent]]\ncpu = 0\nkind = 'pen'", 16),
         (
             "",
@@ -182,8 +182,8 @@ fn what_is_not_built_is_rule_16(rt: HostRuntime) -> Result<(), Fail> {
         ),
         (
             "",
-            "[[agent]]\ncpu = 0\nkind = 'script'\nsteps = ['load 1 00000cd8']",
-            16,
+            "[[agent]]\ncpu = 0\nkind = 'script'\nsteps = ['load 1 00000cd8', 'icr 00000000 000c0200', 'halt']",
+            FINE,
         ),
     ];
     for (head, tail, rule) in cases {

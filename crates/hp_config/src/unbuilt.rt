@@ -19,7 +19,7 @@ fn does_step_run(step: Access) -> bool
 {
     match step {
         Access::In { port, .. } | Access::Out { port, .. } => is_port_of_block(port),
-        _ => false,
+        _ => true,
     }
 }
 
@@ -48,8 +48,5 @@ fn do_agents_run(agents: &[AgentRow]) -> bool
 pub fn runs(parts: &Parts) -> bool
     ensures { result ≡ parts_run parts.now }
 {
-    parts.machine.platform.apic.0.len() <= 1
-        && parts.hosts.0.is_empty()
-        && parts.stalls.0.is_empty()
-        && do_agents_run(parts.agents.0.as_slice())
+    do_agents_run(parts.agents.0.as_slice())
 }

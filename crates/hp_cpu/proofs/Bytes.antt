@@ -35,7 +35,9 @@ little_from_is i (suc n) xs = rw (add-one i, little_from_is (suc i) n xs) refl
 -- past the first k bytes all places are moved on
 little_from-drop : (k i n : ℕ) (xs : List ℕ) → little_from i n (drop k xs) ≡ little_from (k + i) n xs
 little_from-drop k i zero xs = refl
-little_from-drop k i (suc n) xs = let e : k + suc i ≡ suc (k + i) = omega arith in rw (get_or-drop k xs i 0, little_from-drop k (suc i) n xs, e) refl
+little_from-drop k i (suc n) xs =
+    let e : k + suc i ≡ suc (k + i) = omega arith in
+    rw (get_or-drop k xs i 0, little_from-drop k (suc i) n xs, e) refl
 
 pub packed_bytes : (p : SavePlan) → packed p ≡ little_bytes 4 p.smbase ++ (little_bytes 4 p.revision ++ little_bytes 8 p.rip)
 packed_bytes p = rw (← little_bytes_are 4 p.smbase, ← little_bytes_are 4 p.revision, ← little_bytes_are 8 p.rip) refl
@@ -44,12 +46,14 @@ pub smbase_read : (bytes : List ℕ) → value_from (slice_index bytes) 0 4 ≡ 
 smbase_read bytes = sym (little_from_is 0 4 bytes)
 
 pub rip_read : (bytes : List ℕ) → value_from (slice_index bytes) 8 8 ≡ little_number 8 (take 8 (drop 8 bytes))
-rip_read bytes = sym (little_from-take 0 8 8 (drop 8 bytes) (omega arith) ∙ little_from-drop 8 0 8 bytes ∙ little_from_is 8 8 bytes)
+rip_read bytes =
+    sym (little_from-take 0 8 8 (drop 8 bytes) (omega arith) ∙ little_from-drop 8 0 8 bytes ∙ little_from_is 8 8 bytes)
 
 pub ruleset fields_read = (smbase_read, rip_read)
 
 -- what was packed is read back
-pub unpacked_packed : (p : SavePlan) → p.smbase < 2 ^ 32 → p.rip < 2 ^ 64 → unpacked (packed p) ≡ record { smbase = p.smbase; rip = p.rip }
+pub unpacked_packed : (p : SavePlan) → p.smbase < 2 ^ 32 → p.rip < 2 ^ 64 →
+    unpacked (packed p) ≡ record { smbase = p.smbase; rip = p.rip }
 unpacked_packed p s r =
     let bytes = packed_bytes p in
     let smbase : little_number 4 (packed p) ≡ p.smbase =

@@ -12,11 +12,13 @@ use Rattle.hp_cpu.specs.Smbase.{IsSmbase}
 
 -- one more boot processor has its tile
 pub boot_more : (p : Platform) (slot : ℕ) (bs : List ℕ) (cs : List Cpu) → slot < length bs →
-    boot_cpus p slot (drop slot bs) cs ≡ boot_cpus p (slot + 1) (drop (slot + 1) bs) (slice_set cs (get_or bs slot 0) (booted (tile p slot)))
+    boot_cpus p slot (drop slot bs) cs ≡
+    boot_cpus p (slot + 1) (drop (slot + 1) bs) (slice_set cs (get_or bs slot 0) (booted (tile p slot)))
 unfolding boot_cpus
 boot_more p slot bs cs h =
+    let made = slice_set cs (get_or bs slot 0) (booted (tile p slot)) in
     ap (λ (ks : List ℕ). boot_cpus p slot ks cs) (drop-cons bs slot 0 h)
-    ∙ ap (λ (n : ℕ). boot_cpus p (slot + 1) (drop n bs) (slice_set cs (get_or bs slot 0) (booted (tile p slot)))) (sym (add-one slot))
+    ∙ ap (λ (n : ℕ). boot_cpus p (slot + 1) (drop n bs) made) (sym (add-one slot))
 
 -- the first of them
 pub boot_first : (p : Platform) → boot_cpus p 0 p.boot (replicate (length p.apic) absent) ≡ cpus_start p
@@ -24,23 +26,21 @@ unfolding cpus_start
 boot_first p = refl
 
 -- the last of them has its tile
-pub boot_done : (p : Platform) (slot : ℕ) (bs : List ℕ) (cs : List Cpu) → length bs ≤ slot → boot_cpus p slot (drop slot bs) cs ≡ cs
+pub boot_done : (p : Platform) (slot : ℕ) (bs : List ℕ) (cs : List Cpu) → length bs ≤ slot →
+    boot_cpus p slot (drop slot bs) cs ≡ cs
 unfolding boot_cpus
 boot_done p slot bs cs h = ap (λ (ks : List ℕ). boot_cpus p slot ks cs) (drop_all slot bs h)
 
 -- places that ascend from above `low`, all below `count`, are so few
-ascending : (low count : ℕ) (ks : List ℕ) → ascends_from low ks ≡ true → list_all (λ k. nat_lt k count) ks ≡ true → low < count → low + length ks < count
+ascending : (low count : ℕ) (ks : List ℕ) → ascends_from low ks ≡ true → list_all (λ k. nat_lt k count) ks ≡ true →
+    low < count → low + length ks < count
 ascending low count [] up below h = omega (arith, h)
-ascending low count (k ∷ ks) up below h =
-    let rest = ascending k count ks (grind (arith, nat_tests, common_steps)) (grind (arith, nat_tests, common_steps)) (grind (arith, nat_tests, common_steps)) in
-    grind (arith, nat_tests, common_steps, rest)
+ascending low count (k ∷ ks) up below h = grind (arith, nat_tests, common_steps, ascending k count ks)
 
 -- so the boot processors are no more than the possible ones
 few : (count : ℕ) (ks : List ℕ) → ascends_from_zero ks ≡ true → list_all (λ k. nat_lt k count) ks ≡ true → length ks ≤ count
 few count [] up below = omega arith
-few count (k ∷ ks) up below =
-    let rest = ascending 0 count ks (grind (arith, nat_tests, common_steps)) (grind (arith, nat_tests, common_steps)) (grind (arith, nat_tests, common_steps)) in
-    omega (arith, rest)
+few count (k ∷ ks) up below = grind (arith, nat_tests, common_steps, ascending 0 count ks)
 
 -- each of them is a place
 at_place : (count : ℕ) (ks : List ℕ) (i : ℕ) → list_all (λ k. nat_lt k count) ks ≡ true → i < length ks → get_or ks i 0 < count

@@ -12,7 +12,8 @@ ghost use Rattle.hp_cpu.specs.Saving.{packed, unpacked};
 
 /// Of all that happens to a processor that is present before and after it, RSM alone changes SMBASE.
 pub fn smbase_changes_at_rsm_alone()
-    ensures { (e : Change) (c : Cpu) → c.present ≡ true → (changed e c).present ≡ true → is_rsm e ≡ false → (changed e c).smbase ≡ c.smbase }
+    ensures { (e : Change) (c : Cpu) → c.present ≡ true → (changed e c).present ≡ true → is_rsm e ≡ false
+        → (changed e c).smbase ≡ c.smbase }
 {}
 
 /// INIT and SIPI leave SMBASE, INIT both when it is latched and when it is taken.
@@ -48,7 +49,8 @@ pub fn presence_changes_by_hot_plug_alone()
 /// Where both latches are set the SMI is taken, and after RSM the INIT.
 pub fn an_smi_goes_before_init()
     ensures first { (c : Cpu) → may_take_smi c ≡ true → may_take_init c ≡ false }
-    ensures later { (smbase rip : ℕ) (c : Cpu) → may_take_smi c ≡ true → c.init ≡ true → may_take_init (resumed smbase rip (take_smi c)) ≡ true }
+    ensures later { (smbase rip : ℕ) (c : Cpu) → may_take_smi c ≡ true → c.init ≡ true
+        → may_take_init (resumed smbase rip (take_smi c)) ≡ true }
 {}
 
 /// RSM with what SMI entry saved leads back to the page that the SMI interrupted. A halted processor then runs.
@@ -60,5 +62,6 @@ pub fn an_smi_returns_to_its_page()
 /// `get` of what `put` packs has the plan's SMBASE and RIP.
 #[tactic(auto, using(crate::proofs::Bytes::unpacked_packed))]
 pub fn what_is_put_is_read_back()
-    ensures { (plan : SavePlan) → plan.smbase < 2 ^ 32 → plan.rip < 2 ^ 64 → unpacked (packed plan) ≡ record { smbase = plan.smbase; rip = plan.rip } }
+    ensures { (plan : SavePlan) → plan.smbase < 2 ^ 32 → plan.rip < 2 ^ 64
+        → unpacked (packed plan) ≡ record { smbase = plan.smbase; rip = plan.rip } }
 {}

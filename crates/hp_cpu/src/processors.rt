@@ -1,7 +1,7 @@
 //! One processor, and what happens to it.
 
 ghost use Rattle.std.specs.Prelude.{◌≡◌, true, not, IsTrue, IsFalse};
-ghost use Rattle.hp_model.specs.Cpu.{absent as absent_cpu, booted as booted_cpu, inserted, is_running, is_waiting, is_outside, is_in_smm, page_of, started, hit as hit_cpu, may_take_smi, take_smi, may_take_init, take_init as take_init_cpu, resumed, moved, halt as halt_cpu};
+ghost use Rattle.hp_model.specs.Cpu.{absent as absent_cpu, booted as booted_cpu, inserted, is_outside, page_of, hit as hit_cpu, may_take_smi, take_smi, may_take_init, take_init as take_init_cpu, resumed, moved, halt as halt_cpu};
 ghost use Rattle.hp_cpu.specs.Saving.{plan_of};
 ghost use Rattle.hp_cpu.specs.Smbase.{IsSmbase};
 
@@ -15,7 +15,7 @@ const REVISION: u32 = 0x20064;
 /// SMBASE of a processor that no firmware has relocated (Intel SDM vol. 3, System Management Mode).
 const DEFAULT_SMBASE: u32 = 0x30000;
 
-/// A possible processor. Its SMBASE is one that RSM can make, so what lies at an offset of 16 bits from it has an address.
+/// A possible processor. Its SMBASE is one that RSM can make, so the entry point and the state save area have addresses.
 #[derive(Clone, Copy)]
 pub struct Processor {
     cpu: Cpu,

@@ -2,3 +2,4 @@ pub mod Ejects
 pub mod Sending
 pub mod Sizes
 pub mod PortWrites
+pub mod Entry

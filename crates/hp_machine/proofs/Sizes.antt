@@ -1,10 +1,11 @@
 -- How many processors and slots there are stays.
-use Rattle.std.proofs.Common.{◌≡◌, ℕ, suc, Bool, true, false, List, [], ◌∷◌, length, Option, Some, None, refl, ◌∙◌, ap, arith}
+use Rattle.std.proofs.Common.{◌≡◌, ◌≤◌, ℕ, suc, Bool, true, false, List, [], ◌∷◌, length, Option, Some, None, refl, ◌∙◌, ap}
 use Rattle.std.proofs.Math.ListN.{length-set}
+use Rattle.std.proofs.lemmas.List.{get_or_past}
 use Rattle.hp_model.specs.declared.processors.Cpu.{Cpu}
 use Rattle.hp_model.specs.declared.processors.Kind.{Kind}
 use Rattle.hp_model.specs.declared.processors.Ipi.{Ipi}
-use Rattle.hp_model.specs.Cpu.{absent}
+use Rattle.hp_model.specs.Cpu.{absent, cpu_at}
 use Rattle.std.specs.Prelude.{slice_set, if◌then◌else◌, ◌-◌}
 use Rattle.hp_model.specs.Block.{Block, block_write, with_insert, with_removal}
 use Rattle.hp_model.specs.Interrupts.{is_target, hit_each, sent}
@@ -60,3 +61,8 @@ module _ (apic : List ℕ) (cs : List Cpu) (b : Block) (sized : IsSized apic cs 
     same_slots = ap (λ (y : Block). length y.slots) block ∙ requested_count b k ∙ sized.same_slots;
     few = sized.few;
   }
+
+pub cpu_at-past : (cs : List Cpu) (k : ℕ) → length cs ≤ k → cpu_at cs k ≡ absent
+cpu_at-past cs k past = get_or_past cs k absent past
+
+pub ruleset past_cpus = (cpu_at-past)

@@ -1,5 +1,5 @@
 -- What contracts see of a machine, and which states of the model it stands for.
-use Rattle.std.specs.Prelude.{◌≡◌, ℕ, Bool, ◌-◌, ◌++◌, take, drop, slice_set, length, ◌≤◌, List, Option, Some, None, if◌then◌else◌}
+use Rattle.std.specs.Prelude.{◌≡◌, ℕ, Bool, ◌-◌, ◌++◌, take, drop, slice_set, length, ◌≤◌, List, [], Option, Some, None, if◌then◌else◌}
 use Rattle.hp_model.specs.declared.platforms.Platform.{Platform}
 use Rattle.hp_model.specs.declared.processors.Cpu.{Cpu}
 use Rattle.hp_model.specs.declared.accesses.Answer.{Answer}
@@ -9,7 +9,9 @@ use Rattle.hp_model.specs.Cpu.{hit, cpu_at}
 use Rattle.hp_model.specs.Interrupts.{hit_each}
 use Rattle.hp_model.specs.View.{Locks}
 use Rattle.hp_model.specs.Block.{Block, block_read, block_write}
-use Rattle.hp_model.specs.Step.{State, is_on_block, answer_of, effect_of}
+use Rattle.hp_model.specs.Step.{State, start, is_on_block, answer_of, effect_of}
+use Rattle.hp_image.specs.declared.stores.Cell.{Cell}
+use Rattle.hp_image.specs.Cells.{stored_cells}
 use Rattle.hp_mem.specs.Kept.{Kept, Stands}
 
 -- the memory's bytes are all that is seen of the writes that made them
@@ -19,6 +21,7 @@ pub record Machine : Type 0 where
   pub locks : Locks
   pub cpus : List Cpu
   pub block : Block
+  pub ejected : Option ℕ  -- the processor that the last step ejected
 
 -- the machine stands for this state of the model: its memory by the writes, all else by equality
 pub record IsState (p : Platform) (m : Machine) (s : State) : Type 0 where
@@ -57,3 +60,7 @@ pub record IsSized (apic : List ℕ) (cpus : List Cpu) (block : Block) : Type 0 
   pub same_cpus : length cpus ≡ length apic
   pub same_slots : length block.slots ≡ length apic
   pub few : length apic ≤ 64
+
+-- the machine before its first step, with these cells in memory
+abbrev pub started : Platform → List Cell → State
+started p cells = record (start p) { writes = stored_cells cells [] }

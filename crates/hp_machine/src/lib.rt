@@ -1,10 +1,10 @@
 //! The machine: memory behind its locks, processors and the register block, one step an event.
 #![tactic(auto)]
 
+mod enabling;
 mod interrupts;
 mod machines;
 mod ports;
 mod reach;
 
 pub use machines::Machine;
-

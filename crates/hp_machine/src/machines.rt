@@ -1,23 +1,30 @@
 //! The machine, one step an event.
 
-ghost use Rattle.std.specs.Prelude.{◌≡◌, ◌≤◌, ◌<◌, true, List, IfOk, OnErr, OnOk, IsOk, length, map, option_map};
+ghost use Rattle.std.specs.Prelude.{◌≡◌, ◌≤◌, ◌<◌, true, List, IfOk, OnErr, OnOk, IsOk, length, option_map, slice_set};
 ghost use Rattle.hp_model.specs.declared.platforms.Platform.{Platform};
 ghost use Rattle.hp_model.specs.declared.entries.Event.TheVariants.{Do, Insert, Remove, TakeSmi, TakeInit, Resume};
 ghost use Rattle.hp_model.specs.Platform.{IsFit};
-ghost use Rattle.hp_model.specs.Cpu.{cpu_at, is_in_smm};
-ghost use Rattle.hp_model.specs.Step.{State, can_do, start};
-ghost use Rattle.hp_image.specs.Cells.{AreCells, stored_cells};
-ghost use Rattle.hp_machine.specs.Machine.{IsState, IsStep};
+ghost use Rattle.hp_model.specs.Cpu.{cpu_at, is_in_smm, smm_address, moved};
+ghost use Rattle.hp_model.specs.Step.{State, can_do, stands_in_smm};
+ghost use Rattle.hp_model.specs.Memory.{Write, byte_at};
+ghost use Rattle.hp_model.specs.View.{loaded};
+ghost use Rattle.hp_mem.specs.Kept.{Stands};
+ghost use Rattle.hp_model.specs.Block.{ejected_by};
+ghost use Rattle.hp_image.specs.Cells.{AreCells, cells_fit, stored_cells};
+ghost use Rattle.hp_machine.specs.Machine.{IsState, IsStep, started};
 
+use crate::enabling::{
+    can_access, can_take_init, can_take_smi, is_in_smm_now, is_normal, is_smm_mode,
+};
 use crate::interrupts::send;
 use crate::ports::{read_port, write_port};
 use crate::reach::{load, save, saved, store, swap, take_room};
 use hp_cpu::Cpus;
-use hp_image::Cells;
+use hp_image::{Cell, Cells};
 use hp_mem::Mem;
 use hp_model::{Access, Answer, Cpu, Event, Mode, NoMemory, Platform};
 use hp_regs::Block;
-use hp_smram::Locks;
+use hp_smram::{Locks, locks_start_as_the_machine};
 use std::alloc::Global;
 use std::marker::Model;
 
@@ -29,6 +36,7 @@ pub struct Machine {
     locks: Locks,
     cpus: Cpus,
     block: Block,
+    ejected: Option<u32>,
 }
 
 impl Model for Machine {
@@ -37,25 +45,37 @@ impl Model for Machine {
 
     ghost Value = { seen.Machine };
 
-    ghost view = { λ m. record { apic = m.apic.items; memory = m.memory; locks = m.locks; cpus = m.cpus; block = m.block } };
+    ghost view = { λ m. record { apic = m.apic.items; memory = m.memory; locks = m.locks; cpus = m.cpus; block = m.block; ejected = m.ejected } };
 
     ghost invariant = { λ m. IsSized m.apic.items m.cpus m.block };
 }
 
-fn is_in_smm_mode(mode: Mode) -> bool
-    ensures { result ≡ is_in_smm mode }
+/// The initial stores, in their order.
+#[tactic(auto, using(hp_mem::proofs::Standing::standing), unfolding(hp_image::specs::Cells::stored_cells))]
+fn store_cells(memory: &mut Mem, cells: &[Cell], low: u32) -> Result<(), NoMemory>
+    requires { cells_fit low cells.now ≡ true }
+    ensures { (ws : List Write) → Stands memory.old ws → OnOk result (Stands memory.new (stored_cells cells.now ws)) }
 {
-    matches!(mode, Mode::Smm(_))
+    match cells {
+        [] => Ok(()),
+        [first, rest @ ..] => {
+            memory.store(first.addr, first.width, first.value)?;
+            store_cells(memory, rest, low)
+        }
+    }
 }
 
 impl Machine {
+    #[tactic(auto, using(crate::proofs::Ejects::ejects))]
     fn access(&mut self, k: u32, access: Access) -> Result<Answer, NoMemory>
         requires { can_do (length self.old.apic) self.old.cpus (Do k access) ≡ true }
         ensures step { (p : Platform) (s : State) → IsState p self.old s → IfOk result (λ answer. IsStep p self.new s (Do k access) answer) }
         ensures no_memory { (p : Platform) (s : State) → IsState p self.old s → OnErr result (IsState p self.new s) }
         ensures succeeds { 272 ≤ self.old.memory.spare → IsOk result }
+        ensures ejected { self.new.ejected ≡ ejected_by self.old.block self.new.block }
     {
-        let in_smm = is_in_smm_mode(self.cpus.get(k).mode);
+        self.ejected = None;
+        let in_smm = is_smm_mode(self.cpus.get(k).mode);
         match access {
             Access::Load { addr, width } => {
                 let value = load(&self.memory, &self.locks, in_smm, addr, width);
@@ -70,14 +90,22 @@ impl Machine {
                 expected,
                 desired,
             } => {
-                let seen = swap(&mut self.memory, &self.locks, in_smm, addr, expected, desired)?;
+                let seen = swap(
+                    &mut self.memory,
+                    &self.locks,
+                    in_smm,
+                    addr,
+                    expected,
+                    desired,
+                )?;
                 Ok(Answer::Value(seen))
             }
             Access::In { port, width } => {
                 Ok(Answer::Value(u64::from(read_port(&self.block, port, width))))
             }
             Access::Out { port, width, value } => {
-                write_port(&mut self.block, &mut self.cpus, port, width, value);
+                let ejected = write_port(&mut self.block, &mut self.cpus, port, width, value);
+                self.ejected = ejected;
                 Ok(Answer::Quiet)
             }
             Access::CfgRead { reg } => Ok(Answer::Value(u64::from(self.locks.read(reg)))),
@@ -95,6 +123,196 @@ impl Machine {
                 Ok(Answer::Quiet)
             }
             Access::Nop => Ok(Answer::Quiet),
+        }
+    }
+
+    /// The machine before its first step: memory holds the cells, all else is at its start.
+    pub fn new(alloc: Global, p: &Platform, cells: &Cells) -> Result<Machine, NoMemory>
+        requires fit { IsFit p.now }
+        requires cells { AreCells p.now.low_memory cells.now.list }
+        ensures { IfOk result (λ m. IsState p.now m (started p.now cells.now.list)) }
+    {
+        let apic = Vec::from_slice(alloc, p.apic.0.as_slice())?;
+        let cpus = Cpus::new(alloc, p)?;
+        let block = Block::new(alloc, p)?;
+        let locks = Locks::new(p.low_memory, p.default_smram);
+        locks_start_as_the_machine();
+        let mut memory = Mem::new(alloc);
+        store_cells(&mut memory, cells.list.0.as_slice(), p.low_memory)?;
+        Ok(Machine {
+            apic,
+            memory,
+            locks,
+            cpus,
+            block,
+            ejected: None,
+        })
+    }
+
+    /// The processor in a place; in a place that isn't possible there is none.
+    #[tactic(auto, using(crate::proofs::Sizes::past_cpus))]
+    fn cpu_or_absent(&self, k: u32) -> Cpu
+        ensures { result ≡ cpu_at self.now.cpus k }
+    {
+        if (k as usize) < self.apic.len() {
+            return self.cpus.get(k);
+        }
+        Cpu {
+            present: false,
+            mode: Mode::Wait,
+            smbase: 0x30000,
+            smi: false,
+            init: false,
+            base: 0,
+        }
+    }
+
+    /// Whether the machine has the event as a step, by presence, modes and latches alone: for an access also that it is
+    /// normal, and for a halt that the processor is running.
+    pub fn enabled(&self, e: &Event) -> bool
+        ensures { result ≡ can_do (length self.now.apic) self.now.cpus e.now }
+    {
+        match *e {
+            Event::Insert(k) => (k as usize) < self.apic.len() && !self.cpu_or_absent(k).present,
+            Event::Remove(k) => k != 0 && self.cpu_or_absent(k).present,
+            Event::Do(k, access) => {
+                is_normal(access) && can_access(&self.cpu_or_absent(k), access)
+            }
+            Event::TakeSmi(k) => can_take_smi(&self.cpu_or_absent(k)),
+            Event::TakeInit(k) => can_take_init(&self.cpu_or_absent(k)),
+            Event::Resume(k) => is_in_smm_now(&self.cpu_or_absent(k)),
+            Event::Tell(_) => is_in_smm_now(&self.cpu_or_absent(0)),
+        }
+    }
+
+    /// A processor comes, and the block notes it.
+    #[tactic(auto, using(crate::proofs::Ejects::ejects))]
+    fn insert(&mut self, k: u32)
+        requires { can_do (length self.old.apic) self.old.cpus (Insert k) ≡ true }
+        ensures step { (p : Platform) (s : State) → IsState p self.old s → IsStep p self.new s (Insert k) Answer.Quiet }
+        ensures ejected { self.new.ejected ≡ ejected_by self.old.block self.new.block }
+    {
+        self.ejected = None;
+        self.cpus.insert(k);
+        self.block.insert_event(k);
+    }
+
+    #[tactic(auto, using(crate::proofs::Ejects::ejects))]
+    fn request_removal(&mut self, k: u32)
+        requires { can_do (length self.old.apic) self.old.cpus (Remove k) ≡ true }
+        ensures step { (p : Platform) (s : State) → IsState p self.old s → IsStep p self.new s (Remove k) Answer.Quiet }
+        ensures ejected { self.new.ejected ≡ ejected_by self.old.block self.new.block }
+    {
+        self.ejected = None;
+        self.block.remove_event(k);
+    }
+
+    /// SMI entry. Room for what it saves is taken before the processor changes.
+    #[tactic(auto, using(crate::proofs::Ejects::ejects))]
+    fn enter(&mut self, k: u32) -> Result<Answer, NoMemory>
+        requires { can_do (length self.old.apic) self.old.cpus (TakeSmi k) ≡ true }
+        ensures step { (p : Platform) (s : State) → IsState p self.old s → IfOk result (λ answer. IsStep p self.new s (TakeSmi k) answer) }
+        ensures no_memory { (p : Platform) (s : State) → IsState p self.old s → OnErr result (IsState p self.new s) }
+        ensures succeeds { 272 ≤ self.old.memory.spare → IsOk result }
+        ensures ejected { self.new.ejected ≡ ejected_by self.old.block self.new.block }
+    {
+        self.ejected = None;
+        take_room(&mut self.memory)?;
+        let plan = self.cpus.enter(k);
+        save(&mut self.memory, &self.locks, &plan).unwrap();
+        Ok(Answer::Quiet)
+    }
+
+    #[tactic(auto, using(crate::proofs::Ejects::ejects))]
+    fn take_init(&mut self, k: u32)
+        requires { can_do (length self.old.apic) self.old.cpus (TakeInit k) ≡ true }
+        ensures step { (p : Platform) (s : State) → IsState p self.old s → IsStep p self.new s (TakeInit k) Answer.Quiet }
+        ensures ejected { self.new.ejected ≡ ejected_by self.old.block self.new.block }
+    {
+        self.ejected = None;
+        self.cpus.take_init(k);
+    }
+
+    /// RSM.
+    #[tactic(auto, using(crate::proofs::Ejects::ejects))]
+    fn resume(&mut self, k: u32)
+        requires { can_do (length self.old.apic) self.old.cpus (Resume k) ≡ true }
+        ensures step { (p : Platform) (s : State) → IsState p self.old s → IsStep p self.new s (Resume k) Answer.Quiet }
+        ensures ejected { self.new.ejected ≡ ejected_by self.old.block self.new.block }
+    {
+        self.ejected = None;
+        let smbase = self.cpus.get(k).smbase;
+        let fields = saved(&self.memory, &self.locks, smbase);
+        self.cpus.leave(k, fields);
+    }
+
+    /// Makes the event's step. After `NoMemory` the machine stands for the state that it stood for; with room for 272
+    /// bytes that doesn't come.
+    ///
+    /// Where a processor in SMM goes on to is said by `go`.
+    #[tactic(auto, using(crate::proofs::Ejects::ejects))]
+    pub fn step(&mut self, e: &Event) -> Result<Answer, NoMemory>
+        requires { can_do (length self.old.apic) self.old.cpus e.now ≡ true }
+        ensures step { (p : Platform) (s : State) → IsState p self.old s → IfOk result (λ answer. IsStep p self.new s e.now answer) }
+        ensures no_memory { (p : Platform) (s : State) → IsState p self.old s → OnErr result (IsState p self.new s) }
+        ensures succeeds { 272 ≤ self.old.memory.spare → IsOk result }
+        ensures ejected { self.new.ejected ≡ ejected_by self.old.block self.new.block }
+    {
+        match *e {
+            Event::Insert(k) => self.insert(k),
+            Event::Remove(k) => self.request_removal(k),
+            Event::Do(k, access) => return self.access(k, access),
+            Event::TakeSmi(k) => return self.enter(k),
+            Event::TakeInit(k) => self.take_init(k),
+            Event::Resume(k) => self.resume(k),
+            Event::Tell(_) => self.ejected = None,
+        }
+        Ok(Answer::Quiet)
+    }
+
+    /// The processor that the last step ejected, None where it ejected none and before the first step.
+    pub fn ejected(&self) -> Option<u32>
+        ensures { result ≡ self.now.ejected }
+    {
+        self.ejected
+    }
+
+    /// Takes room for what any one step writes, so that the next one can't want for memory. Changes nothing else.
+    pub fn reserve(&mut self) -> Result<(), NoMemory>
+        ensures room { OnOk result (272 ≤ self.new.memory.spare) }
+        ensures unchanged { (p : Platform) (s : State) → IsState p self.old s → IsState p self.new s }
+    {
+        take_room(&mut self.memory)
+    }
+
+    /// Where a processor in SMM goes on: its next instruction address, and the base that the first handler has loaded.
+    pub fn go(&mut self, s: u32, address: u32, base: u32)
+        requires place { s < length self.old.cpus }
+        requires in_smm { stands_in_smm (cpu_at self.old.cpus s) ≡ true }
+        ensures { self.new ≡ record self.old { cpus = slice_set self.old.cpus s (moved address base (cpu_at self.old.cpus s)) } }
+    {
+        self.cpus.go(s, address, base);
+    }
+
+    /// The processor in a possible place.
+    pub fn cpu(&self, s: u32) -> Cpu
+        requires { s < length self.now.cpus }
+        ensures { result ≡ cpu_at self.now.cpus s }
+    {
+        self.cpu_or_absent(s)
+    }
+
+    /// What stands at the instruction address of a processor in SMM: its handler's mark. None outside SMM.
+    pub fn mark_at(&self, s: u32) -> Option<u32>
+        requires { s < length self.now.cpus }
+        ensures { (p : Platform) (state : State) → IsState p self.now state → result ≡ option_map (λ address. loaded state.locks true (byte_at state.writes) address 4) (smm_address (cpu_at self.now.cpus s)) }
+    {
+        let cpu = self.cpu_or_absent(s);
+        match cpu.mode {
+            Mode::Smm(address) if cpu.present => {
+                Some(load(&self.memory, &self.locks, true, address, 4) as u32)
+            }
+            _ => None,
         }
     }
 }

@@ -11,6 +11,7 @@ use hp_regs::Block;
 
 /// The first of the register block's ports, and the one past its last.
 const FIRST_PORT: u16 = 0xcd8;
+
 const PAST_PORT: u16 = 0xce4;
 
 /// The offset in the register block, where the port is one of its ports.
@@ -35,18 +36,27 @@ pub fn read_port(block: &Block, port: u16, width: u8) -> u32
     }
 }
 
-/// Writes a port. Ports that no rule names ignore it. A processor that the write ejects is absent.
+/// Writes a port. Ports that no rule names ignore it. A processor that the write ejects is absent, and answered.
 #[tactic(auto, using(crate::proofs::Ejects::ejects))]
-pub fn write_port(block: &mut Block, cpus: &mut Cpus, port: u16, width: u8, value: u32)
+pub fn write_port(
+    block: &mut Block,
+    cpus: &mut Cpus,
+    port: u16,
+    width: u8,
+    value: u32,
+) -> Option<u32>
     requires width { IsWidth width }
     requires count { length cpus.old ≡ length block.old.slots }
     ensures block { block.new ≡ port_block port width value block.old }
     ensures cpus { cpus.new ≡ without_ejected (ejected_by block.old block.new) cpus.old }
+    ensures ejected { result ≡ ejected_by block.old block.new }
 {
     let Some(offset) = block_offset(port) else {
-        return;
+        return None;
     };
-    if let Some(ejected) = block.write(offset, width, value) {
-        cpus.remove(ejected);
+    let ejected = block.write(offset, width, value);
+    if let Some(place) = ejected {
+        cpus.remove(place);
     }
+    ejected
 }

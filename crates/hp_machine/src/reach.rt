@@ -16,7 +16,9 @@ use hp_smram::{Locks, Touch};
 
 /// Where the fields of the state save area lie, from SMBASE (own layout).
 const SMBASE_FIELD: u32 = 0xff00;
+
 const REVISION_FIELD: u32 = 0xfefc;
+
 const RIP_FIELD: u32 = 0xff78;
 
 /// As many bytes of ff as the width.
@@ -97,8 +99,24 @@ pub fn save(memory: &mut Mem, locks: &Locks, plan: &SavePlan) -> Result<(), NoMe
     ensures succeeds { 272 ≤ memory.old.spare → IsOk result }
 {
     take_room(memory)?;
-    store(memory, locks, true, plan.smbase + SMBASE_FIELD, 4, u64::from(plan.smbase)).unwrap();
-    store(memory, locks, true, plan.smbase + REVISION_FIELD, 4, u64::from(plan.revision)).unwrap();
+    store(
+        memory,
+        locks,
+        true,
+        plan.smbase + SMBASE_FIELD,
+        4,
+        u64::from(plan.smbase),
+    )
+    .unwrap();
+    store(
+        memory,
+        locks,
+        true,
+        plan.smbase + REVISION_FIELD,
+        4,
+        u64::from(plan.revision),
+    )
+    .unwrap();
     store(memory, locks, true, plan.smbase + RIP_FIELD, 8, plan.rip).unwrap();
     Ok(())
 }

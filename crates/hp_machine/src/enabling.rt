@@ -1,0 +1,115 @@
+//! What a processor may do, by its presence, mode and latches.
+
+ghost use Rattle.std.specs.Prelude.{◌≡◌, ◌^◌, true, nat_lt};
+ghost use Rattle.hp_model.specs.Cpu.{is_free as free, is_running, is_in_smm, is_outside, may_take_smi, may_take_init};
+ghost use Rattle.hp_model.specs.Step.{is_memory_width as memory_width, is_port_width as port_width, is_normal as normal, is_halt as halt, stands_in_smm, may_access};
+
+use hp_model::{Access, Cpu, Mode};
+
+fn is_memory_width(width: u8) -> bool
+    ensures { result ≡ memory_width width }
+{
+    width == 1 || width == 2 || width == 4 || width == 8
+}
+
+fn is_port_width(width: u8) -> bool
+    ensures { result ≡ port_width width }
+{
+    width == 1 || width == 2 || width == 4
+}
+
+/// Whether so many bytes hold the value.
+fn holds(width: u8, value: u64) -> bool
+    requires { memory_width width ≡ true }
+    ensures { result ≡ nat_lt value (256 ^ width) }
+{
+    match width {
+        1 => value < 0x100,
+        2 => value < 0x1_0000,
+        4 => value < 0x1_0000_0000,
+        _ => true,
+    }
+}
+
+/// Whether the access has a width that there is, and no value that its width can't hold.
+pub fn is_normal(access: Access) -> bool
+    ensures { result ≡ normal access }
+{
+    match access {
+        Access::Load { addr: _, width } => is_memory_width(width),
+        Access::Store {
+            addr: _,
+            width,
+            value,
+        } => is_memory_width(width) && holds(width, value),
+        Access::In { port: _, width } => is_port_width(width),
+        Access::Out {
+            port: _,
+            width,
+            value,
+        } => is_port_width(width) && holds(width, u64::from(value)),
+        Access::Swap { .. }
+        | Access::CfgRead { .. }
+        | Access::CfgWrite { .. }
+        | Access::Icr { .. }
+        | Access::Halt
+        | Access::Nop => true,
+    }
+}
+
+fn is_halt(access: Access) -> bool
+    ensures { result ≡ halt access }
+{
+    matches!(access, Access::Halt)
+}
+
+fn is_running_mode(mode: Mode) -> bool
+    ensures { result ≡ is_running mode }
+{
+    matches!(mode, Mode::Running(_))
+}
+
+pub fn is_smm_mode(mode: Mode) -> bool
+    ensures { result ≡ is_in_smm mode }
+{
+    matches!(mode, Mode::Smm(_))
+}
+
+fn is_outside_mode(mode: Mode) -> bool
+    ensures { result ≡ is_outside mode }
+{
+    matches!(mode, Mode::Running(_) | Mode::Halted(_))
+}
+
+/// Whether the processor may make any access: present, running, nothing latched.
+fn is_free(cpu: &Cpu) -> bool
+    ensures { result ≡ free cpu.now }
+{
+    cpu.present && is_running_mode(cpu.mode) && !cpu.smi && !cpu.init
+}
+
+/// Whether a present processor is in SMM.
+pub fn is_in_smm_now(cpu: &Cpu) -> bool
+    ensures { result ≡ stands_in_smm cpu.now }
+{
+    cpu.present && is_smm_mode(cpu.mode)
+}
+
+/// Whether the processor may make this access, which is normal.
+pub fn can_access(cpu: &Cpu, access: Access) -> bool
+    ensures { result ≡ may_access cpu.now access }
+{
+    is_free(cpu) || is_in_smm_now(cpu) && !is_halt(access)
+}
+
+pub fn can_take_smi(cpu: &Cpu) -> bool
+    ensures { result ≡ may_take_smi cpu.now }
+{
+    cpu.present && cpu.smi && is_outside_mode(cpu.mode)
+}
+
+pub fn can_take_init(cpu: &Cpu) -> bool
+    ensures { result ≡ may_take_init cpu.now }
+{
+    cpu.present && !cpu.smi && cpu.init && is_outside_mode(cpu.mode)
+}
