@@ -1,4 +1,5 @@
+pub mod Acting
+pub mod Rising
+pub mod Schedule
 pub mod Sending
-pub mod Alone
 pub mod Turning
-pub mod Completeness

@@ -1,121 +1,147 @@
--- A file of one processor, turn by turn.
-use Rattle.std.proofs.Common.{◌≡◌, ℕ, suc, ◌+◌, ◌-◌, ◌<◌, ◌≤◌, ◌%◌, List, [], ◌∷◌, ◌++◌, length, map, Option, refl, sym, ◌∙◌, ap, subst, append_assoc, length-append, arith}
+-- The parts of a scheduled run, one after another.
+use Rattle.std.proofs.Common.{◌≡◌, ℕ, ◌+◌, List, [], ◌∷◌, ◌++◌, length, Option, Some, None, refl, sym, ◌∙◌, ap, subst, append_assoc, length-append, eq-eqb, ◌≢◌, arith}
+use Rattle.std.proofs.lemmas.Bool.{ne_eqb}
 use Rattle.std.proofs.lemmas.List.{append-nil}
 use Rattle.std.specs.Io.KnownBytes.{Appends}
-use Rattle.hp_model.specs.declared.accesses.Access.{Access}
-use Rattle.hp_model.specs.declared.entries.Actor.TheVariants.{Cpu}
+use Rattle.std.proofs.KnownBytes.{Appends-nil, Appends-trans}
+use Rattle.hp_model.specs.declared.platforms.Platform.{Platform}
+use Rattle.hp_model.specs.declared.entries.Actor.{Actor}
+use Rattle.hp_model.specs.declared.files.HostEvent.{HostEvent}
 use Rattle.hp_model.specs.declared.entries.Entry.{Entry}
-use Rattle.hp_model.specs.declared.files.File.{File}
-use Rattle.hp_model.specs.Schedule.{Scene, act, act_all, actors_of, turns_from, scheduled, scene_start, script, voice_of}
-use Rattle.hp_model.specs.Step.{start}
-use Rattle.hp_model.specs.Text.{line_text, lines_text, end_text, head_text}
-use Rattle.hp_top.proofs.Sending.{sent_none, sent_more, sent_all, front_part}
-use Rattle.hp_top.specs.Sent.{IsSent, HoldsFront}
-use Rattle.hp_top.specs.Turns.{IsAlone, IsTurn, entries_from, run_text}
+use Rattle.hp_model.specs.Schedule.{Scene, Made, both_make, act, act_all}
+use Rattle.hp_model.specs.Text.{line_text, lines_text}
+use Rattle.hp_top.proofs.Sending.{sent_none, sent_more, sent_all, front_part, front_none}
+use Rattle.hp_top.specs.Scenes.{Seen, Shows, Acts}
+use Rattle.hp_top.specs.Sent.{HoldsFront}
+use Rattle.hp_top.specs.Turns.{Sends, due, past, DoneHosts}
 
 pub lines_text-append : (es fs : List Entry) → lines_text (es ++ fs) ≡ lines_text es ++ lines_text fs
 lines_text-append [] fs = refl
 lines_text-append (e ∷ es) fs = ap (λ t. line_text e ++ t) (lines_text-append es fs) ∙ sym (append_assoc (line_text e) (lines_text es) (lines_text fs))
 
--- one entry, one line
-pub lines_text-one : (e : Entry) → lines_text (e ∷ []) ≡ line_text e
+lines_text-one : (e : Entry) → lines_text (e ∷ []) ≡ line_text e
 lines_text-one e = append-nil (line_text e)
 
--- each turn is that of processor 0 alone
-actors-alone : (f : File) (turn : ℕ) → IsAlone f → actors_of f turn ≡ Cpu 0 ∷ []
-unfolding actors_of
-actors-alone f turn alone = rw (alone.hosts, alone.stalls, alone.one) (let first : turn % 1 ≡ 0 = omega arith in ap (λ k. Cpu k ∷ []) first)
+module _ (p : Platform) (seen : Seen) (m : Made) (a b : Option (List ℕ)) where
+  -- an actor made no entry
+  pub sends_none : Acts p seen m None → Sends p seen m 0 a a
+  sends_none acts = record { scene = acts.scene; count = ap length acts.entries; lines = subst (λ (es : List Entry). Appends a a (lines_text es)) (sym acts.entries) (Appends-nil a) }
 
-turns_from-more : (f : File) (n turn : ℕ) (w : Scene) → IsAlone f →
-    (turns_from f (suc n) turn w).entries ≡ (act f.platform w (Cpu 0)).entries ++ (turns_from f n (turn + 1) (act f.platform w (Cpu 0)).scene).entries
-unfolding turns_from act_all
-turns_from-more f n turn w alone =
-    rw (actors-alone f turn alone) (ap (λ (es : List Entry). es ++ (turns_from f n (turn + 1) (act f.platform w (Cpu 0)).scene).entries) (append-nil (act f.platform w (Cpu 0)).entries))
+  -- or one, whose line was sent
+  pub sends_one : (e : Entry) → Acts p seen m (Some e) → Appends a b (line_text e) → Sends p seen m 1 a b
+  sends_one e acts grown = record {
+    scene = acts.scene;
+    count = ap length acts.entries;
+    lines = subst (λ (es : List Entry). Appends a b (lines_text es)) (sym acts.entries) (subst (Appends a b) (sym (lines_text-one e)) grown);
+  }
 
--- a turn, and the turns after it
-pub entries_from-more : (f : File) (turn : ℕ) (w : Scene) → IsAlone f → turn < f.platform.turns →
-    entries_from f turn w ≡ (act f.platform w (Cpu 0)).entries ++ entries_from f (turn + 1) (act f.platform w (Cpu 0)).scene
-unfolding entries_from
-entries_from-more f turn w alone within =
-    let left : f.platform.turns - turn ≡ suc (f.platform.turns - (turn + 1)) = omega arith in
-    ap (λ n. (turns_from f n turn w).entries) left ∙ turns_from-more f (f.platform.turns - (turn + 1)) turn w alone
+  -- or sent in part
+  pub front_one : (e : Entry) → Acts p seen m (Some e) → HoldsFront a b (line_text e) → HoldsFront a b (lines_text m.entries)
+  front_one e acts part = subst (λ (es : List Entry). HoldsFront a b (lines_text es)) (sym acts.entries) (subst (HoldsFront a b) (sym (lines_text-one e)) part)
 
--- no turn is left
-pub entries_from-none : (f : File) (turn : ℕ) (w : Scene) → f.platform.turns ≤ turn → entries_from f turn w ≡ []
-unfolding entries_from turns_from
-entries_from-none f turn w past = let none : f.platform.turns - turn ≡ 0 = omega arith in ap (λ n. (turns_from f n turn w).entries) none
+pub ruleset one_actor = (sends_none, sends_one, front_one, front_none)
 
-module _ (f : File) (turn : ℕ) (w v : Scene) (made : ℕ) (a b c : Option (List ℕ)) (whole : List ℕ)
-    (alone : IsAlone f) (within : turn < f.platform.turns) where
-  -- what a turn leaves still to come
-  pub sent_turn : IsTurn f.platform w v made b c → IsSent a b (lines_text (entries_from f turn w)) whole → IsSent a c (lines_text (entries_from f (turn + 1) v)) whole
-  sent_turn is sent =
-      sent_more a b c (lines_text (act f.platform w (Cpu 0)).entries) (lines_text (entries_from f (turn + 1) v)) whole
-      (subst (λ (t : List ℕ). IsSent a b t whole) (split is) sent) is.lines
+-- one part and then another
+pub sends_both : (p : Platform) (mid new : Seen) (m n : Made) (j k : ℕ) (a b c : Option (List ℕ)) → Sends p mid m j a b → Sends p new n k b c → Sends p new (both_make m n) (j + k) a c
+sends_both p mid new m n j k a b c first second = record {
+  scene = second.scene;
+  count = length-append m.entries n.entries ∙ omega (arith, first.count, second.count);
+  lines = subst (Appends a c) (sym (lines_text-append m.entries n.entries)) (Appends-trans a b c (lines_text m.entries) (lines_text n.entries) first.lines second.lines);
+}
+
+-- a part, and then another that stopped
+pub front_both : (p : Platform) (mid : Seen) (m n : Made) (j : ℕ) (a b c : Option (List ℕ)) → Sends p mid m j a b → HoldsFront b c (lines_text n.entries) → HoldsFront a c (lines_text (both_make m n).entries)
+front_both p mid m n j a b c first part =
+    subst (HoldsFront a c) (sym (lines_text-append m.entries n.entries))
+    (front_part a b c (lines_text n.entries) [] (lines_text m.entries ++ lines_text n.entries)
+    (record { front = lines_text m.entries; text = ap (λ (t : List ℕ). lines_text m.entries ++ t) (append-nil (lines_text n.entries)); grown = first.lines }) part)
+
+-- more follows what stopped
+pub front_more : (m n : Made) (a b : Option (List ℕ)) → HoldsFront a b (lines_text m.entries) → HoldsFront a b (lines_text (both_make m n).entries)
+front_more m n a b part =
+    subst (HoldsFront a b) (sym (lines_text-append m.entries n.entries)) (record {
+      rest = part.rest ++ lines_text n.entries;
+      sent = record {
+        front = part.sent.front;
+        text = sym (append_assoc part.sent.front part.rest (lines_text n.entries)) ∙ ap (λ (t : List ℕ). t ++ lines_text n.entries) part.sent.text;
+        grown = part.sent.grown;
+      };
+    })
+
+pub both-assoc : (l m n : Made) → both_make (both_make l m) n ≡ both_make l (both_make m n)
+both-assoc l m n = ap (λ (es : List Entry). made_of es n.scene) (append_assoc l.entries m.entries n.entries)
+  where
+    made_of : List Entry → Scene → Made
+    made_of es w = record { entries = es; scene = w }
+
+pub act_all-append : (p : Platform) (as' bs : List Actor) (w : Scene) → act_all p w (as' ++ bs) ≡ both_make (act_all p w as') (act_all p (act_all p w as').scene bs)
+unfolding act_all
+act_all-append p [] bs w = refl
+act_all-append p (x ∷ as') bs w =
+    ap (both_make (act p w x)) (act_all-append p as' bs (act p w x).scene)
+    ∙ sym (both-assoc (act p w x) (act_all p (act p w x).scene as') (act_all p (act_all p (act p w x).scene as').scene bs))
+
+pub act_all-one : (p : Platform) (w : Scene) (x : Actor) → act_all p w (x ∷ []) ≡ act p w x
+unfolding act_all
+act_all-one p w x = ap (λ (es : List Entry). made_of es (act p w x).scene) (append-nil (act p w x).entries)
+  where
+    made_of : List Entry → Scene → Made
+    made_of es v = record { entries = es; scene = v }
+
+act_all-cons : (p : Platform) (w : Scene) (x : Actor) (xs : List Actor) → act_all p w (x ∷ xs) ≡ both_make (act p w x) (act_all p (act p w x).scene xs)
+unfolding act_all
+act_all-cons p w x xs = refl
+
+pub sends_empty : (p : Platform) (w : Scene) (seen : Seen) (a : Option (List ℕ)) → Shows p seen w → Sends p seen (act_all p w []) 0 a a
+unfolding act_all
+sends_empty p w seen a shows = record { scene = shows; count = refl; lines = Appends-nil a }
+
+pub due-first : (turn : ℕ) (h : HostEvent) (hs : List HostEvent) → h.turn ≡ turn → due turn (h ∷ hs) ≡ h.actor ∷ due turn hs
+due-first turn h hs is = rw (eq-eqb h.turn turn is) refl
+
+module _ (p : Platform) (w : Scene) (turn : ℕ) (all rest more : List HostEvent) (x : Actor) (seen : Seen) (made : ℕ) (a b c : Option (List ℕ))
+    (is : due turn rest ≡ x ∷ due turn more) (done : DoneHosts p w turn all rest seen made a b) where
+  -- the next event of the turn was made
+  pub done_more : (new : Seen) (count : ℕ) → ((v : Scene) → Shows p seen v → Sends p new (act p v x) count b c) → DoneHosts p w turn all more new (made + count) a c
+  done_more new count next = record {
+    front = done.front ++ x ∷ [];
+    actors = append_assoc done.front (x ∷ []) (due turn more) ∙ ap (λ (xs : List Actor). done.front ++ xs) (sym is) ∙ done.actors;
+    sends = subst (λ (m : Made). Sends p new m (made + count) a c)
+        (ap (both_make (act_all p w done.front)) (sym (act_all-one p (act_all p w done.front).scene x)) ∙ sym (act_all-append p done.front (x ∷ []) w))
+        (sends_both p seen new (act_all p w done.front) (act p (act_all p w done.front).scene x) made count a b c done.sends (next (act_all p w done.front).scene done.sends.scene));
+  }
+
+  -- or it stopped
+  pub done_front : ((v : Scene) → Shows p seen v → HoldsFront b c (lines_text (act p v x).entries)) → HoldsFront a c (lines_text (act_all p w (due turn all)).entries)
+  done_front next =
+      subst (λ (m : Made). HoldsFront a c (lines_text m.entries)) whole
+      (front_both p seen (act_all p w done.front) (act_all p v (x ∷ due turn more)) made a b c done.sends
+      (subst (λ (m : Made). HoldsFront b c (lines_text m.entries)) (sym (act_all-cons p v x (due turn more)))
+      (front_more (act p v x) (act_all p (act p v x).scene (due turn more)) b c (next v done.sends.scene))))
     where
-      split : IsTurn f.platform w v made b c → lines_text (entries_from f turn w) ≡ lines_text (act f.platform w (Cpu 0)).entries ++ lines_text (entries_from f (turn + 1) v)
-      split is = ap lines_text (entries_from-more f turn w alone within) ∙ lines_text-append (act f.platform w (Cpu 0)).entries (entries_from f (turn + 1) (act f.platform w (Cpu 0)).scene)
-          ∙ ap (λ (u : Scene). lines_text (act f.platform w (Cpu 0)).entries ++ lines_text (entries_from f (turn + 1) u)) is.scene
+      v : Scene
+      v = (act_all p w done.front).scene
 
-  -- and what a turn that stopped has sent
-  pub front_turn : HoldsFront b c (lines_text (act f.platform w (Cpu 0)).entries) → IsSent a b (lines_text (entries_from f turn w)) whole → HoldsFront a c whole
-  front_turn part sent =
-      front_part a b c (lines_text (act f.platform w (Cpu 0)).entries) (lines_text (entries_from f (turn + 1) (act f.platform w (Cpu 0)).scene)) whole
-      (subst (λ (t : List ℕ). IsSent a b t whole) (ap lines_text (entries_from-more f turn w alone within) ∙ lines_text-append (act f.platform w (Cpu 0)).entries (entries_from f (turn + 1) (act f.platform w (Cpu 0)).scene)) sent) part
+      whole : both_make (act_all p w done.front) (act_all p v (x ∷ due turn more)) ≡ act_all p w (due turn all)
+      whole = sym (act_all-append p done.front (x ∷ due turn more) w) ∙ ap (act_all p w) (ap (λ (xs : List Actor). done.front ++ xs) (sym is) ∙ done.actors)
 
-  pub count_turn : IsTurn f.platform w v made b c → length (entries_from f turn w) ≡ made + length (entries_from f (turn + 1) v)
-  count_turn is =
-      ap length (entries_from-more f turn w alone within) ∙ length-append (act f.platform w (Cpu 0)).entries (entries_from f (turn + 1) (act f.platform w (Cpu 0)).scene)
-      ∙ ap (λ n. n + length (entries_from f (turn + 1) (act f.platform w (Cpu 0)).scene)) is.count ∙ ap (λ (u : Scene). made + length (entries_from f (turn + 1) u)) is.scene
+-- nothing of the turn is left
+pub done_all : (p : Platform) (w : Scene) (turn : ℕ) (all rest : List HostEvent) (seen : Seen) (made : ℕ) (a b : Option (List ℕ)) →
+    DoneHosts p w turn all rest seen made a b → due turn rest ≡ [] → Sends p seen (act_all p w (due turn all)) made a b
+done_all p w turn all rest seen made a b done none =
+    subst (λ (xs : List Actor). Sends p seen (act_all p w xs) made a b) (sym (append-nil done.front) ∙ ap (λ (xs : List Actor). done.front ++ xs) (sym none) ∙ done.actors) done.sends
 
--- a file of one processor starts with its script
-pub scene_start-one : (f : File) (steps : List Access) → map voice_of f.voices ≡ script steps ∷ [] → scene_start f ≡ record { state = start f.platform; voices = script steps ∷ [] }
-scene_start-one f steps voices = rw voices refl
+-- nothing was made yet
+pub done_start : (p : Platform) (w : Scene) (turn : ℕ) (all : List HostEvent) (seen : Seen) (a : Option (List ℕ)) → Shows p seen w → DoneHosts p w turn all all seen 0 a a
+done_start p w turn all seen a shows = record { front = []; actors = refl; sends = sends_empty p w seen a shows }
 
-scheduled-entries : (f : File) → scheduled f ≡ entries_from f 0 (scene_start f)
-unfolding scheduled entries_from
-scheduled-entries f = let all : f.platform.turns ≡ f.platform.turns - 0 = omega arith in ap (λ n. (turns_from f n 0 (scene_start f)).entries) all
+pub due-other : (turn : ℕ) (h : HostEvent) (hs : List HostEvent) → h.turn ≢ turn → due turn (h ∷ hs) ≡ []
+due-other turn h hs other = rw (ne_eqb h.turn turn other) refl
 
-module _ (f : File) (w : Scene) (is : scene_start f ≡ w) where
-  -- the whole text: header, the lines of all turns, end line
-  run_text-parts : run_text f ≡ head_text f.platform ++ (lines_text (entries_from f 0 w) ++ end_text (length (entries_from f 0 w)))
-  unfolding run_text
-  run_text-parts =
-      ap (λ (es : List Entry). head_text f.platform ++ (lines_text es ++ end_text (length es))) (scheduled-entries f ∙ ap (entries_from f 0) is)
+pub past-first : (turn : ℕ) (h : HostEvent) (hs : List HostEvent) → h.turn ≡ turn → past turn (h ∷ hs) ≡ past turn hs
+past-first turn h hs is = rw (eq-eqb h.turn turn is) refl
 
-  module _ (a b : Option (List ℕ)) where
-    -- the header was sent
-    head_sent : Appends a b (head_text f.platform) → IsSent a b (lines_text (entries_from f 0 w) ++ end_text (length (entries_from f 0 w))) (run_text f)
-    head_sent head =
-        sent_more a a b (head_text f.platform) _ (run_text f)
-        (subst (λ (t : List ℕ). IsSent a a t (run_text f)) run_text-parts (sent_none a (run_text f))) head
+pub past-other : (turn : ℕ) (h : HostEvent) (hs : List HostEvent) → h.turn ≢ turn → past turn (h ∷ hs) ≡ h ∷ hs
+past-other turn h hs other = rw (ne_eqb h.turn turn other) refl
 
-    pub head_front : HoldsFront a b (head_text f.platform) → HoldsFront a b (run_text f)
-    head_front part =
-        front_part a a b (head_text f.platform) (lines_text (entries_from f 0 w) ++ end_text (length (entries_from f 0 w))) (run_text f)
-        (subst (λ (t : List ℕ). IsSent a a t (run_text f)) run_text-parts (sent_none a (run_text f))) part
-
-    module _ (c : Option (List ℕ)) (head : Appends a b (head_text f.platform)) where
-      pub lines_front : HoldsFront b c (lines_text (entries_from f 0 w)) → HoldsFront a c (run_text f)
-      lines_front part =
-          front_part a b c (lines_text (entries_from f 0 w)) (end_text (length (entries_from f 0 w))) (run_text f) (head_sent head) part
-
-      -- the lines were sent too
-      lines_sent : Appends b c (lines_text (entries_from f 0 w)) → IsSent a c (end_text (length (entries_from f 0 w)) ++ []) (run_text f)
-      lines_sent lines =
-          subst (λ (t : List ℕ). IsSent a c t (run_text f)) (sym (append-nil (end_text (length (entries_from f 0 w)))))
-          (sent_more a b c (lines_text (entries_from f 0 w)) (end_text (length (entries_from f 0 w))) (run_text f) (head_sent head) lines)
-
-      module _ (d : Option (List ℕ)) (made : ℕ) (count : made ≡ length (entries_from f 0 w)) (lines : Appends b c (lines_text (entries_from f 0 w))) where
-        pub end_front : HoldsFront c d (end_text made) → HoldsFront a d (run_text f)
-        end_front part =
-            front_part a c d (end_text (length (entries_from f 0 w))) [] (run_text f) (lines_sent lines) (subst (λ n. HoldsFront c d (end_text n)) count part)
-
-        pub all_sent : Appends c d (end_text made) → Appends a d (run_text f)
-        all_sent end =
-            sent_all a d [] (run_text f)
-            (sent_more a c d (end_text (length (entries_from f 0 w))) [] (run_text f) (lines_sent lines) (subst (λ n. Appends c d (end_text n)) count end)) refl
-
-pub ruleset one_turn = (lines_text-one)
-
-pub ruleset all_turns = (sent_none, sent_all, sent_turn, front_turn, count_turn, entries_from-none)
+pub ruleset host_events = (due-first, due-other, past-first, past-other)

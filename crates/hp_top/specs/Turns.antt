@@ -1,31 +1,44 @@
--- The part of a scheduled run that one processor alone still makes.
-use Rattle.std.specs.Prelude.{◌≡◌, ℕ, ◌-◌, List, [], length, Option}
-use Rattle.hp_model.specs.declared.entries.Entry.{Entry}
-use Rattle.hp_model.specs.declared.files.File.{File}
-use Rattle.hp_model.specs.Platform.{IsFit}
-use Rattle.hp_model.specs.declared.platforms.Platform.{Platform}
-use Rattle.hp_model.specs.declared.entries.Actor.TheVariants.{Cpu}
+-- Parts of a scheduled run, and the text of the whole.
+use Rattle.std.specs.Prelude.{◌≡◌, ℕ, ◌==◌, ◌≤◌, List, [], ◌∷◌, ◌++◌, length, map, filter, Option, if◌then◌else◌}
 use Rattle.std.specs.Io.KnownBytes.{Appends}
-use Rattle.hp_model.specs.Schedule.{Scene, act, turns_from, scheduled}
+use Rattle.hp_model.specs.declared.platforms.Platform.{Platform}
+use Rattle.hp_model.specs.declared.entries.Actor.{Actor}
+use Rattle.hp_model.specs.declared.files.HostEvent.{HostEvent}
+use Rattle.hp_model.specs.declared.files.File.{File}
+use Rattle.hp_model.specs.Schedule.{Scene, Made, act_all, scheduled}
 use Rattle.hp_model.specs.Text.{lines_text, trace_text}
+use Rattle.hp_top.specs.Scenes.{Seen, Shows}
 
--- a file of one processor, with no event of the host and no stall
-pub record IsAlone (f : File) : Type 0 where
-  pub fit : IsFit f.platform
-  pub one : length f.platform.apic ≡ 1
-  pub hosts : f.hosts ≡ []
-  pub stalls : f.stalls ≡ []
+-- a part of the schedule was made: the scene after it, how many entries it has, and their lines in the sink
+pub record Sends (p : Platform) (seen : Seen) (m : Made) (made : ℕ) (old new : Option (List ℕ)) : Type 0 where
+  pub scene : Shows p seen m.scene
+  pub count : length m.entries ≡ made
+  pub lines : Appends old new (lines_text m.entries)
 
--- the entries of the turns from this one on
-unfoldable pub entries_from : File → ℕ → Scene → List Entry
-entries_from f turn w = (turns_from f (f.platform.turns - turn) turn w).entries
+-- the actors of the host events of a turn, in their order
+abbrev pub at_turn : ℕ → List HostEvent → List Actor
+at_turn turn hs = map (λ h. h.actor) (filter (λ h. h.turn == turn) hs)
+
+-- of host events by turn, the actors of those at the front that are due at this one, and the events after them
+abbrev pub due : ℕ → List HostEvent → List Actor
+due turn [] = []
+due turn (h ∷ hs) = if h.turn == turn then h.actor ∷ due turn hs else []
+
+abbrev pub past : ℕ → List HostEvent → List HostEvent
+past turn [] = []
+past turn (h ∷ hs) = if h.turn == turn then past turn hs else h ∷ hs
+
+-- none is before this turn, and they ascend
+abbrev pub Rises : ℕ → List HostEvent → Type 0
+Rises n [] = Unit {0}
+Rises n (h ∷ hs) = (n ≤ h.turn) × Rises h.turn hs
 
 -- the text of the run that a file's schedule makes
 unfoldable pub run_text : File → List ℕ
 run_text f = trace_text f.platform (scheduled f)
 
--- a turn of processor 0: the scene after it, how many entries it made, and their lines
-pub record IsTurn (p : Platform) (w v : Scene) (made : ℕ) (old new : Option (List ℕ)) : Type 0 where
-  pub scene : (act p w (Cpu 0)).scene ≡ v
-  pub count : length (act p w (Cpu 0)).entries ≡ made
-  pub lines : Appends old new (lines_text (act p w (Cpu 0)).entries)
+-- the host events of a turn, at the front of these by turn, as far as they were made
+pub record DoneHosts (p : Platform) (w : Scene) (turn : ℕ) (all rest : List HostEvent) (seen : Seen) (made : ℕ) (old new : Option (List ℕ)) : Type 0 where
+  pub front : List Actor
+  pub actors : front ++ due turn rest ≡ due turn all
+  pub sends : Sends p seen (act_all p w front) made old new

@@ -1,9 +1,8 @@
 //! The top call.
 
-ghost use Rattle.std.specs.Prelude.{◌≡◌, ◌≤◌, ◌↔◌, List, [], ◌∷◌, codes, map, length, string_bytes, true, false};
+ghost use Rattle.std.specs.Prelude.{◌≡◌, ◌≤◌, ◌↔◌, codes, map, string_bytes, true, false};
 ghost use Rattle.std.specs.Str.{bytes_eq};
-ghost use Rattle.hp_model.specs.Schedule.{voice_of, script};
-ghost use Rattle.hp_config.specs.Served.{IsServed};
+ghost use Rattle.hp_config.specs.Sound.{IsSound};
 ghost use Rattle.hp_top.specs.Faults.{Rose};
 ghost use Rattle.hp_top.specs.Answers.{are_run as are_the_run, EndsFile, EndsRun, Ends, HoldsFile, IsDoneOrNoMemory};
 
@@ -11,8 +10,8 @@ use crate::outside::{Sink, Source, WriteStop};
 use crate::reading::{ReadStop, read_all};
 use crate::running::run_file;
 use crate::statuses::Status;
-use hp_config::{ConfigFault, files_are_served, read};
-use hp_model::{Access, File, VoiceKind, schedule_is_a_run};
+use hp_config::{ConfigFault, read, read_files_are_sound};
+use hp_model::{File, schedule_is_a_run};
 use std::alloc::Global;
 
 fn is_run(word: &str) -> bool
@@ -31,25 +30,14 @@ fn are_run(words: &[String]) -> bool
     }
 }
 
-/// What the processor of a script is to do; nothing but halts where it has none.
-fn steps_of(voices: &[VoiceKind]) -> &[Access]
-    requires { length voices.now ≡ 1 }
-    ensures { map voice_of voices.now ≡ script result.now ∷ [] }
-{
-    match voices {
-        [VoiceKind::Script(steps)] => steps.0.as_slice(),
-        _ => &[],
-    }
-}
-
 /// Runs the file that was read.
 fn run_read<K: Sink>(alloc: Global, file: &File, out: &mut K) -> Status
-    requires { IsServed file.now }
+    requires { IsSound file.now }
     ensures ends { EndsFile file.now (K.held out.old) (K.held out.new) result }
     ensures fault { result ≡ Status.WriteFault → Rose (K.faults out.old) (K.faults out.new) }
     ensures later { K.faults out.old ≤ K.faults out.new }
 {
-    match run_file(alloc, file, steps_of(file.voices.0.as_slice()), out) {
+    match run_file(alloc, file, out) {
         Ok(()) => Status::Done,
         Err(WriteStop::Failed) => Status::WriteFault,
         Err(WriteStop::NoMemory) => Status::NoMemory,
@@ -63,7 +51,7 @@ fn run_bytes<K: Sink>(alloc: Global, bytes: &[u8], out: &mut K) -> Status
     ensures later { K.faults out.old ≤ K.faults out.new }
 {
     schedule_is_a_run();
-    files_are_served();
+    read_files_are_sound();
     match read(alloc, bytes) {
         Ok(file) => run_read(alloc, &file, out),
         Err(ConfigFault::NotToml) => Status::NotToml,

@@ -3,11 +3,13 @@
 
 mod answering;
 mod in_memory;
-mod lone;
 mod outside;
 mod reading;
 mod running;
+mod scenes;
 mod scripted;
+mod sorting;
+mod stalling;
 mod statuses;
 mod streams;
 #[cfg(test)]

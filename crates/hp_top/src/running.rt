@@ -1,18 +1,23 @@
 //! The run of a file: each line is handed to the sink when its entry is made.
 
-ghost use Rattle.std.specs.Prelude.{◌≡◌, ◌≤◌, ◌∷◌, [], ℕ, IfOk, IfErr, OnOk, OnErr, length, map};
+ghost use Rattle.std.specs.Prelude.{ℕ, ◌≡◌, ◌≤◌, ◌+◌, ◌∷◌, [], IfOk, IfSome, OnOk, OnErr, None, length};
 ghost use Rattle.std.specs.Io.KnownBytes.{Appends};
+ghost use Rattle.std.specs.List.Sorted.{IsNonDecreasingBy};
 ghost use Rattle.hp_model.specs.declared.platforms.Platform.{Platform};
-ghost use Rattle.hp_model.specs.Schedule.{act, script, voice_of};
+ghost use Rattle.hp_model.specs.Schedule.{Scene as Shown, act, act_all, actors_of, cpus_of, hosts_of as of_turn, scene_start, turns_from};
+ghost use Rattle.hp_config.specs.Sound.{IsSound};
 ghost use Rattle.hp_model.specs.Text.{head_text, line_text, lines_text, end_text};
 ghost use Rattle.hp_top.specs.Faults.{StopsFor};
+ghost use Rattle.hp_top.specs.Scenes.{Shows};
 ghost use Rattle.hp_top.specs.Sent.{HoldsFront};
-ghost use Rattle.hp_top.specs.Turns.{IsAlone, IsTurn, entries_from, run_text};
+ghost use Rattle.hp_top.specs.Turns.{Sends, Rises, at_turn, due, past, run_text};
 
-use crate::lone::Lone;
 use crate::outside::{Sink, WriteStop};
+use crate::scenes::Scene;
+use crate::sorting::by_turn;
+use crate::stalling::is_stalled;
 use crate::writing::write_all;
-use hp_model::{Access, Actor, Entry, File, NoMemory, Platform};
+use hp_model::{Actor, Entry, File, HostEvent, NoMemory, Platform, VoiceKind};
 use std::alloc::Global;
 
 /// Makes the line of an entry in the buffer, whose content goes, and hands it to the sink.
@@ -54,17 +59,23 @@ fn send_end<K: Sink>(entries: u64, text: &mut Vec<u8>, out: &mut K) -> Result<()
     write_all(out, text.as_slice())
 }
 
-/// One turn of the machine, and how many entries it made.
-#[tactic(auto, using(crate::proofs::Turning::one_turn))]
-fn make_turn<K: Sink>(lone: &mut Lone, text: &mut Vec<u8>, out: &mut K) -> Result<u64, WriteStop>
+/// What one actor does, and how many entries that made.
+#[tactic(auto, using(crate::proofs::Turning::one_actor))]
+fn make_step<K: Sink>(
+    scene: &mut Scene,
+    actor: Actor,
+    text: &mut Vec<u8>,
+    out: &mut K,
+) -> Result<u64, WriteStop>
     ensures bound { IfOk result (λ made. made ≤ 1) }
-    ensures made { (p : Platform) → IfOk result (λ made. IsTurn p lone.old lone.new made (K.held out.old) (K.held out.new)) }
-    ensures part { (p : Platform) → OnErr result
-        (HoldsFront (K.held out.old) (K.held out.new) (lines_text (act p lone.old (Actor.Cpu 0)).entries)) }
+    ensures made { (p : Platform) (w : Shown) → Shows p scene.old w → IfOk result (λ made. Sends p scene.new (act p w actor) made (K.held out.old) (K.held out.new)) }
+    ensures part { (p : Platform) (w : Shown) → Shows p scene.old w → OnErr result (HoldsFront (K.held out.old) (K.held out.new) (lines_text (act p w actor).entries)) }
     ensures cause { StopsFor (K.faults out.old) (K.faults out.new) result }
 {
-    let Some(entry) = lone.turn() else {
-        return Ok(0);
+    let entry = match scene.act(actor) {
+        Ok(Some(entry)) => entry,
+        Ok(None) => return Ok(0),
+        Err(NoMemory) => return Err(WriteStop::NoMemory),
     };
     match send_line(&entry, text, out) {
         Ok(()) => Ok(1),
@@ -72,53 +83,183 @@ fn make_turn<K: Sink>(lone: &mut Lone, text: &mut Vec<u8>, out: &mut K) -> Resul
     }
 }
 
-/// All turns of the file's one processor, and how many entries they made.
-#[tactic(auto, using(crate::proofs::Turning::all_turns))]
-fn make_turns<K: Sink>(
-    file: &File,
-    lone: &mut Lone,
+/// The first of these events if it is due at this turn, and those after it.
+#[tactic(auto, using(crate::proofs::Turning::host_events))]
+fn next_host(hosts: &[HostEvent], turn: u32) -> Option<(Actor, &[HostEvent])>
+    ensures due { IfSome result (λ next. due turn hosts.now ≡ next.0 ∷ due turn next.1.now) }
+    ensures past { IfSome result (λ next. past turn hosts.now ≡ past turn next.1.now) }
+    ensures fewer { IfSome result (λ next. length hosts.now ≡ 1 + length next.1.now) }
+    ensures none { result ≡ None → due turn hosts.now ≡ [] }
+    ensures kept { result ≡ None → past turn hosts.now ≡ hosts.now }
+{
+    match hosts {
+        [first, more @ ..] => {
+            if first.turn == turn {
+                Some((first.actor, more))
+            } else {
+                None
+            }
+        }
+        [] => None,
+    }
+}
+
+/// The host events of a turn, which are at the front of these: how many entries they made, and the events after them.
+#[tactic(auto, using(crate::proofs::Turning::host_events))]
+fn make_hosts<'h, K: Sink>(
+    scene: &mut Scene,
+    hosts: &'h [HostEvent],
+    turn: u32,
     text: &mut Vec<u8>,
     out: &mut K,
-) -> Result<u64, WriteStop>
-    requires { IsAlone file.now }
-    ensures count { IfOk result (λ made. made ≡ length (entries_from file.now 0 lone.old)) }
-    ensures all { OnOk result (Appends (K.held out.old) (K.held out.new) (lines_text (entries_from file.now 0 lone.old))) }
-    ensures part { OnErr result (HoldsFront (K.held out.old) (K.held out.new) (lines_text (entries_from file.now 0 lone.old))) }
+) -> Result<(u64, &'h [HostEvent]), WriteStop>
+    ensures bound { IfOk result (λ done. done.0 + length done.1.now ≤ length hosts.now) }
+    ensures rest { IfOk result (λ done. done.1.now ≡ past turn hosts.now) }
+    ensures made { (p : Platform) (w : Shown) → Shows p scene.old w
+        → IfOk result (λ done. Sends p scene.new (act_all p w (due turn hosts.now)) done.0 (K.held out.old) (K.held out.new)) }
+    ensures part { (p : Platform) (w : Shown) → Shows p scene.old w
+        → OnErr result (HoldsFront (K.held out.old) (K.held out.new) (lines_text (act_all p w (due turn hosts.now)).entries)) }
     ensures cause { StopsFor (K.faults out.old) (K.faults out.new) result }
 {
     let mut made = 0u64;
-    'turns: for _turn in 0..file.platform.turns {
-        match make_turn(lone, text, out) {
+    let mut rest = hosts;
+    'hosts: while let Some((actor, more)) = next_host(rest, turn) {
+        match make_step(scene, actor, text, out) {
             Ok(count) => made += count,
+            Err(stop) => return Err(stop),
+        }
+        rest = more;
+    }
+    Ok((made, rest))
+}
+
+/// The processor whose turn it is; none where a stall covers it.
+fn cpu_of(file: &File, turn: u32) -> Option<u32>
+    requires { IsSound file.now }
+    ensures some { IfSome result (λ k. cpus_of file.now turn ≡ Actor.Cpu k ∷ []) }
+    ensures none { result ≡ None → cpus_of file.now turn ≡ [] }
+{
+    let k = turn % file.platform.apic.0.len() as u32;
+    if is_stalled(file.stalls.0.as_slice(), k, turn) {
+        None
+    } else {
+        Some(k)
+    }
+}
+
+/// One turn: the host's events, and then the processor whose turn it is unless a stall covers it. How many entries they
+/// made, and the host events that are left.
+fn make_turn<'h, K: Sink>(
+    scene: &mut Scene,
+    file: &File,
+    hosts: &'h [HostEvent],
+    turn: u32,
+    text: &mut Vec<u8>,
+    out: &mut K,
+) -> Result<(u64, &'h [HostEvent]), WriteStop>
+    requires sound { IsSound file.now }
+    requires due { due turn hosts.now ≡ of_turn file.now turn }
+    ensures bound { IfOk result (λ done. done.0 + length done.1.now ≤ length hosts.now + 1) }
+    ensures rest { IfOk result (λ done. done.1.now ≡ past turn hosts.now) }
+    ensures made { (w : Shown) → Shows file.now.platform scene.old w
+        → IfOk result (λ done. Sends file.now.platform scene.new (act_all file.now.platform w (actors_of file.now turn)) done.0 (K.held out.old) (K.held out.new)) }
+    ensures part { (w : Shown) → Shows file.now.platform scene.old w
+        → OnErr result (HoldsFront (K.held out.old) (K.held out.new) (lines_text (act_all file.now.platform w (actors_of file.now turn)).entries)) }
+    ensures cause { StopsFor (K.faults out.old) (K.faults out.new) result }
+{
+    let (made, rest) = match make_hosts(scene, hosts, turn, text, out) {
+        Ok(done) => done,
+        Err(stop) => return Err(stop),
+    };
+    let Some(k) = cpu_of(file, turn) else {
+        return Ok((made, rest));
+    };
+    match make_step(scene, Actor::Cpu(k), text, out) {
+        Ok(count) => Ok((made + count, rest)),
+        Err(stop) => Err(stop),
+    }
+}
+
+/// All turns of the file, and how many entries they made. Takes its host events by turn.
+fn make_turns<K: Sink>(
+    scene: &mut Scene,
+    file: &File,
+    hosts: &[HostEvent],
+    text: &mut Vec<u8>,
+    out: &mut K,
+) -> Result<u64, WriteStop>
+    requires sound { IsSound file.now }
+    requires rises { Rises 0 hosts.now }
+    requires same { (turn : ℕ) → at_turn turn hosts.now ≡ of_turn file.now turn }
+    ensures made { (w : Shown) → Shows file.now.platform scene.old w
+        → IfOk result (λ made. Sends file.now.platform scene.new (turns_from file.now file.now.platform.turns 0 w) made (K.held out.old) (K.held out.new)) }
+    ensures part { (w : Shown) → Shows file.now.platform scene.old w
+        → OnErr result (HoldsFront (K.held out.old) (K.held out.new) (lines_text (turns_from file.now file.now.platform.turns 0 w).entries)) }
+    ensures cause { StopsFor (K.faults out.old) (K.faults out.new) result }
+{
+    let mut made = 0u64;
+    let mut rest = hosts;
+    'turns: for turn in 0..file.platform.turns {
+        match make_turn(scene, file, rest, turn, text, out) {
+            Ok((count, more)) => {
+                made += count;
+                rest = more;
+            }
             Err(stop) => return Err(stop),
         }
     }
     Ok(made)
 }
 
-/// Runs the file, whose one processor has this script: header, one line an entry, end line.
+fn voices_in(file: &File) -> &[VoiceKind]
+    ensures { result.now ≡ file.now.voices }
+{
+    file.voices.0.as_slice()
+}
+
+fn hosts_in(file: &File) -> &[HostEvent]
+    ensures { result.now ≡ file.now.hosts }
+{
+    file.hosts.0.as_slice()
+}
+
+/// A scene of the file, before its first step.
+fn scene_of<'f>(alloc: Global, file: &'f File) -> Result<Scene<'f>, NoMemory>
+    requires { IsSound file.now }
+    ensures { IfOk result (λ scene. Shows file.now.platform scene (scene_start file.now)) }
+{
+    Scene::new(alloc, &file.platform, voices_in(file))
+}
+
+/// The host events of the file, by turn.
+fn hosts_of(alloc: Global, file: &File) -> Result<Vec<HostEvent>, NoMemory>
+    ensures rises { IfOk result (λ sorted. IsNonDecreasingBy (λ h. h.turn) sorted.items) }
+    ensures same { IfOk result (λ sorted. (turn : ℕ) → at_turn turn sorted.items ≡ of_turn file.now turn) }
+{
+    by_turn(alloc, hosts_in(file))
+}
+
+/// Runs the file: header, one line an entry, end line.
 #[tactic(auto, using(crate::proofs::Sending::sending))]
-pub(crate) fn run_file<K: Sink>(
-    alloc: Global,
-    file: &File,
-    steps: &[Access],
-    out: &mut K,
-) -> Result<(), WriteStop>
-    requires alone { IsAlone file.now }
-    requires script { map voice_of file.now.voices ≡ script steps.now ∷ [] }
+pub(crate) fn run_file<K: Sink>(alloc: Global, file: &File, out: &mut K) -> Result<(), WriteStop>
+    requires { IsSound file.now }
     ensures all { OnOk result (Appends (K.held out.old) (K.held out.new) (run_text file.now)) }
     ensures part { OnErr result (HoldsFront (K.held out.old) (K.held out.new) (run_text file.now)) }
     ensures cause { StopsFor (K.faults out.old) (K.faults out.new) result }
 {
     let mut text = Vec::new(alloc);
-    let mut lone = match Lone::new(alloc, &file.platform, steps) {
-        Ok(lone) => lone,
+    let mut scene = match scene_of(alloc, file) {
+        Ok(scene) => scene,
+        Err(NoMemory) => return Err(WriteStop::NoMemory),
+    };
+    let hosts = match hosts_of(alloc, file) {
+        Ok(hosts) => hosts,
         Err(NoMemory) => return Err(WriteStop::NoMemory),
     };
     if let Err(stop) = send_head(&file.platform, &mut text, out) {
         return Err(stop);
     }
-    let made = match make_turns(file, &mut lone, &mut text, out) {
+    let made = match make_turns(&mut scene, file, hosts.as_slice(), &mut text, out) {
         Ok(made) => made,
         Err(stop) => return Err(stop),
     };

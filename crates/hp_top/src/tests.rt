@@ -34,6 +34,152 @@ const LINES: [&[u8]; 9] = [
     b"end 7\n",
 ];
 
+/// A run as a whole: a platform file, and the trace that was written down by hand.
+struct Run {
+    file: &'static [u8],
+    text: &'static [u8],
+}
+
+/// The default area is hidden once it is locked, and an access that crosses the end of RAM meets a hole.
+const LOCKED: Run = Run {
+    file: b"[platform]
+apic = [0]
+boot = [0]
+low_memory = 0x1000000
+tseg_mib = 1
+features = 7
+polls = 8
+turns = 12
+
+[[agent]]
+cpu = 0
+kind = \"script\"
+steps = [\"store 4 00030000 11223344\", \"cfgw 9c 02\", \"cfgr 9c\", \"cfgw 9c ff\", \"cfgr 9c\", \"cas 00030000 0000000011223344 0000000000000005\", \"cfgw 9c 02\", \"load 8 00030000\", \"cfgw 9c 00\", \"cfgr 9c\", \"load 4 00fffffe\"]
+",
+    text: b"held
+platform apic=0 boot=0 low=01000000 tseg=1 features=7 polls=8 turns=12 modern=true smram=true delivery=prompt
+p0 store 4 00030000 11223344
+p0 cfgw 9c 02
+p0 cfgr 9c = 00
+p0 cfgw 9c ff
+p0 cfgr 9c = 01
+p0 cas 00030000 0000000011223344 0000000000000005 = 0000000011223344
+p0 cfgw 9c 02
+p0 load 8 00030000 = ffffffffffffffff
+p0 cfgw 9c 00
+p0 cfgr 9c = 02
+p0 load 4 00fffffe = ffffffff
+p0 halt
+end 12
+",
+};
+
+/// A processor that is added starts by SIPI alone, halts, and takes the INIT and the SMI that are latched for it.
+const ADDED: Run = Run {
+    file: b"[platform]
+apic = [0, 1]
+boot = [0]
+low_memory = 0x8000000
+tseg_mib = 1
+features = 7
+polls = 8
+turns = 20
+
+[[host]]
+turn = 0
+insert = 1
+
+[[agent]]
+cpu = 0
+kind = \"script\"
+steps = [\"icr 01000000 00000500\", \"icr 01000000 00000610\", \"icr 01000000 00000610\", \"icr 01000000 00000500\", \"icr 01000000 00000200\", \"icr 01000000 00000610\", \"load 4 0003ff00\", \"load 4 0003fefc\", \"load 8 0003ff78\"]
+",
+    text: b"held
+platform apic=0,1 boot=0 low=08000000 tseg=1 features=7 polls=8 turns=20 modern=true smram=true delivery=prompt
+host insert 1
+p0 icr 01000000 00000500
+p0 icr 01000000 00000610
+p1 halt
+p0 icr 01000000 00000610
+p0 icr 01000000 00000500
+p1 init
+p0 icr 01000000 00000200
+p0 icr 01000000 00000610
+p1 smi
+p0 load 4 0003ff00 = 00030000
+p0 load 4 0003fefc = 00020064
+p0 load 8 0003ff78 = 0000000000010000
+p0 halt
+end 14
+",
+};
+
+/// Host events come by turn, those of one turn in the order of the file and before its processor; a stall keeps turns
+/// 1 and 5 from processor 1, and once it is ejected its script is over.
+const EJECTED: Run = Run {
+    file: b"[platform]
+apic = [0, 1, 5, 9]
+boot = [0, 1]
+low_memory = 0x8000000
+tseg_mib = 1
+features = 7
+polls = 8
+turns = 24
+
+[[host]]
+turn = 4
+remove = 1
+
+[[host]]
+turn = 2
+insert = 3
+
+[[host]]
+turn = 2
+insert = 2
+
+[[host]]
+turn = 15
+insert = 1
+
+[[stall]]
+cpu = 1
+from = 5
+to = 5
+
+[[stall]]
+cpu = 1
+from = 0
+to = 3
+
+[[agent]]
+cpu = 0
+kind = \"script\"
+steps = [\"out 4 0cd8 00000000\", \"out 4 0cd8 00000001\", \"in 1 0cdc\", \"out 1 0cdc 08\", \"icr 01000000 00000610\"]
+
+[[agent]]
+cpu = 1
+kind = \"script\"
+steps = [\"nop\", \"nop\", \"nop\"]
+",
+    text: b"held
+platform apic=0,1,5,9 boot=0,1 low=08000000 tseg=1 features=7 polls=8 turns=24 modern=true smram=true delivery=prompt
+p0 out 4 0cd8 00000000
+host insert 3
+host insert 2
+host remove 1
+p0 out 4 0cd8 00000001
+p0 in 1 0cdc = 05
+p1 nop
+p0 out 1 0cdc 08
+host insert 1
+p0 icr 01000000 00000610
+p1 halt
+p0 halt
+end 12
+",
+};
+
 fn words_of(alloc: Global, words: &[&str]) -> Result<Vec<String>, AllocError> {
     let mut all = Vec::new(alloc);
     for word in words {
@@ -66,6 +212,16 @@ fn the_run_of_a_script_is_written_line_by_line(rt: HostRuntime) -> Result<(), Fa
     assert_eq!(rt; status, Status::Done);
     let want = first_lines(rt.alloc(), LINES.len())?;
     assert_eq!(rt; held.as_slice(), want.as_slice());
+    Ok(())
+}
+
+#[test]
+fn runs_are_written_as_they_were_by_hand(rt: HostRuntime) -> Result<(), Fail> {
+    for run in [LOCKED, ADDED, EJECTED].iter() {
+        let (status, held) = answer_to(rt.alloc(), &["run"], run.file)?;
+        assert_eq!(rt; status, Status::Done);
+        assert_eq!(rt; held.as_slice(), run.text);
+    }
     Ok(())
 }
 

@@ -1,22 +1,37 @@
--- A turn adds its lines to what was sent, whether it ends or stops.
-use Rattle.std.proofs.Common.{◌≡◌, ◌+◌, [], length, arith}
-use Rattle.hp_top.specs.Turns.{entries_from}
-use Rattle.hp_top.proofs.Turning.{sent_turn, front_turn, count_turn}
+-- A turn after those before it.
+use Rattle.std.proofs.Common.{◌≡◌, ◌+◌, sym, ◌∙◌, ap, subst, arith}
+use Rattle.hp_model.specs.Schedule.{turns_from}
+use Rattle.hp_top.specs.Turns.{Sends, Rises, at_turn}
+use Rattle.hp_top.proofs.Rising.{due-is, past-at, past-rises}
+use Rattle.hp_top.proofs.Schedule.{turns_start, turns_more, turns_front}
 use Rattle.hp_top.proofs.running.make_turns.Goals as goal
+
+pub turns-init : goal.turns-init
+turns-init g c = record {
+  done = λ w shows. turns_start c.args.file.now w _ _ shows;
+  rises = c.requires.rises;
+  same = λ t later. c.requires.same t;
+  bound = omega arith;
+  later = omega arith;
+}
+
+pub make_turn-requires-clause-due : goal.make_turn-requires-clause-due
+make_turn-requires-clause-due g c = due-is c.turns.turn c.turns.rest.now c.turns.invariant.rises ∙ c.turns.invariant.same c.turns.turn (omega arith)
+
+pub turns-preserved : goal.turns-preserved
+turns-preserved g c = record {
+  done = λ w shows. turns_more c.args.file.now c.turns.turn w _ _ _ _ _ (c.turns.invariant.done w shows) _ _ (λ v seen. c.in-Ok.ensures.made v seen);
+  rises = subst (Rises (c.turns.turn + 1)) (sym c.in-Ok.ensures.rest) (past-rises c.turns.turn c.turns.rest.now c.turns.invariant.rises);
+  same = λ t later. ap (at_turn t) c.in-Ok.ensures.rest ∙ past-at c.turns.turn t c.turns.rest.now (omega (arith, later)) ∙ c.turns.invariant.same t (omega (arith, later));
+  bound = omega (arith, c.in-Ok.ensures.bound, c.turns.invariant.bound);
+  later = omega (arith, c.in-Ok.ensures.cause.later, c.turns.invariant.later);
+}
 
 pub returns-in-Err-clause-part : goal.returns-in-Err-clause-part
 returns-in-Err-clause-part g c =
-    front_turn c.args.file.now c.turns._turn c.turns.lone c.turns.lone 0 _ _ _ _ c.requires c.turns-test.true
-    (c.in-Err.ensures.part c.args.file.now.platform) c.turns.invariant.sent
+    λ w shows. turns_front c.args.file.now c.turns.turn w _ _ _ _ _ (c.turns.invariant.done w shows) c.args.file.now.platform.turns c.turns-test.true (λ v seen. c.in-Err.ensures.part v seen)
 
-pub turns-preserved : goal.turns-preserved
-turns-preserved g c =
-    let is = c.in-Ok.ensures.made c.args.file.now.platform in
-    let counted : length (entries_from c.args.file.now c.turns._turn c.turns.lone) ≡ c.in-Ok.count + length (entries_from c.args.file.now (c.turns._turn + 1) c.make_turn.new.lone) =
-    count_turn c.args.file.now c.turns._turn c.turns.lone c.make_turn.new.lone c.in-Ok.count (g.K.Sink.held c.args.out.now) _ _ [] c.requires c.turns-test.true is in
-    record {
-      sent = sent_turn c.args.file.now c.turns._turn c.turns.lone c.make_turn.new.lone c.in-Ok.count _ _ _ _ c.requires c.turns-test.true is c.turns.invariant.sent;
-      count = omega (arith, c.turns.invariant.count, counted);
-      bound = omega (arith, c.in-Ok.ensures.bound, c.turns.invariant.bound);
-      later = omega (arith, c.in-Ok.ensures.cause.later, c.turns.invariant.later);
-    }
+pub returns-clause-made : goal.returns-clause-made
+returns-clause-made g c =
+    λ w shows. let all : c.turns.turn ≡ c.args.file.now.platform.turns = omega arith in
+    subst (λ n. Sends c.args.file.now.platform c.turns.scene (turns_from c.args.file.now n 0 w) c.turns.made (g.K.Sink.held c.args.out.now) (g.K.Sink.held c.turns.out)) all (c.turns.invariant.done w shows)

@@ -1,14 +1,15 @@
--- The lines of the turns that are left are still to come, and the count is that of the entries made.
-use Rattle.std.proofs.Common.{◌≡◌, ◌+◌, ◌≤◌, length}
-use Rattle.hp_model.specs.Text.{lines_text}
-use Rattle.hp_top.specs.Sent.{IsSent}
-use Rattle.hp_top.specs.Turns.{entries_from}
+-- The turns before this one were made, and the host events from it on are left.
+use Rattle.std.proofs.Common.{◌≡◌, ℕ, ◌+◌, ◌≤◌, length}
+use Rattle.hp_model.specs.Schedule.{Scene, turns_from, hosts_of}
+use Rattle.hp_top.specs.Scenes.{Shows}
+use Rattle.hp_top.specs.Turns.{Sends, Rises, at_turn}
 use Rattle.hp_top.proofs.running.make_turns.Given as goal
 
 abbrev pub invariant-turns : goal.invariant-turns
 invariant-turns g l = record {
-  sent : IsSent (g.K.Sink.held l.fn.out) (g.K.Sink.held l.out) (lines_text (entries_from l.file l._turn l.lone)) (lines_text (entries_from l.file 0 l.fn.lone));
-  count : l.made + length (entries_from l.file l._turn l.lone) ≡ length (entries_from l.file 0 l.fn.lone);
-  bound : l.made ≤ l._turn;
+  done : (w : Scene) → Shows l.file.platform l.fn.scene w → Sends l.file.platform l.scene (turns_from l.file l.turn 0 w) l.made (g.K.Sink.held l.fn.out) (g.K.Sink.held l.out);
+  rises : Rises l.turn l.rest;
+  same : (t : ℕ) → l.turn ≤ t → at_turn t l.rest ≡ hosts_of l.file t;
+  bound : l.made + length l.rest ≤ length l.hosts + l.turn;
   later : g.K.Sink.faults l.fn.out ≤ g.K.Sink.faults l.out;
 }
