@@ -2,4 +2,5 @@ pub mod Acting
 pub mod Rising
 pub mod Schedule
 pub mod Sending
+pub mod Tracking
 pub mod Turning

@@ -7,7 +7,7 @@ use Rattle.std.specs.List.Sorted.{IsNonDecreasingBy, ties, IsStableByKey}
 use Rattle.hp_model.specs.declared.entries.Actor.{Actor}
 use Rattle.hp_model.specs.declared.entries.Actor.TheVariants as actor
 use Rattle.hp_model.specs.declared.files.HostEvent.{HostEvent}
-use Rattle.hp_top.specs.Turns.{due, past, at_turn, Rises}
+use Rattle.hp_top.specs.Turns.{due, past, at_turn, turn_of, Rises}
 
 is_lt-is : (x y : ℕ) → is_lt (nat_cmp x y) ≡ nat_lt x y
 is_lt-is x y = by (nat_lt x y) (x == y)
@@ -43,28 +43,29 @@ at_turn-sorted hs sorted stable turn =
     tie : (h : HostEvent) → ties (λ x y. is_lt (nat_cmp x.turn y.turn)) event h ≡ (h.turn == turn)
     tie h = tie-is turn h.turn
 
--- from the order by places
-pub rises : (n : ℕ) (hs : List HostEvent) → ((d : HostEvent) → 0 < length hs → n ≤ (slice_index_or hs 0 d).turn) → IsNonDecreasingBy (λ h. h.turn) hs → Rises n hs
-rises n [] first order = tt
-rises n (h ∷ hs) first order =
-    (first h (omega arith), rises h.turn hs (λ d more. order 0 1 d (omega arith) (omega arith)) (λ i j d up within. order (suc i) (suc j) d (omega arith) (omega arith)))
+module _ {X : Type 0} (key : X → ℕ) where
+  -- from the order by places
+  pub rises : (n : ℕ) (xs : List X) → ((d : X) → 0 < length xs → n ≤ key (slice_index_or xs 0 d)) → IsNonDecreasingBy key xs → Rises key n xs
+  rises n [] first order = tt
+  rises n (x ∷ xs) first order =
+      (first x (omega arith), rises (key x) xs (λ d more. order 0 1 d (omega arith) (omega arith)) (λ i j d up within. order (suc i) (suc j) d (omega arith) (omega arith)))
 
-lower : (m n : ℕ) (hs : List HostEvent) → m ≤ n → Rises n hs → Rises m hs
-lower m n [] below up = tt
-lower m n (h ∷ hs) below up = (omega (arith, up.0, below), up.1)
+  pub lower : (m n : ℕ) (xs : List X) → m ≤ n → Rises key n xs → Rises key m xs
+  lower m n [] below up = tt
+  lower m n (x ∷ xs) below up = (omega (arith, up.0, below), up.1)
 
 -- those of a turn before the first are none
-at_turn-none : (m n : ℕ) (hs : List HostEvent) → Rises m hs → n < m → at_turn n hs ≡ []
+at_turn-none : (m n : ℕ) (hs : List HostEvent) → Rises turn_of m hs → n < m → at_turn n hs ≡ []
 at_turn-none m n [] up below = refl
 at_turn-none m n (h ∷ hs) up below = rw (ne_eqb h.turn n (λ same. omega (arith, up.0, below))) (at_turn-none h.turn n hs up.1 (omega (arith, up.0, below)))
 
 -- those of the first turn are at the front
-pub due-is : (n : ℕ) (hs : List HostEvent) → Rises n hs → due n hs ≡ at_turn n hs
+pub due-is : (n : ℕ) (hs : List HostEvent) → Rises turn_of n hs → due n hs ≡ at_turn n hs
 due-is n [] up = refl
 due-is n (h ∷ hs) up = by (due-is n hs) (h.turn == n) refl
   where
-    by : (Rises n hs → due n hs ≡ at_turn n hs) → (b : Bool) → (h.turn == n) ≡ b → due n (h ∷ hs) ≡ at_turn n (h ∷ hs)
-    by more true e = rw e (ap (λ (xs : List Actor). h.actor ∷ xs) (more (subst (λ (m : ℕ). Rises m hs) (eqb-true h.turn n e) up.1)))
+    by : (Rises turn_of n hs → due n hs ≡ at_turn n hs) → (b : Bool) → (h.turn == n) ≡ b → due n (h ∷ hs) ≡ at_turn n (h ∷ hs)
+    by more true e = rw e (ap (λ (xs : List Actor). h.actor ∷ xs) (more (subst (λ (m : ℕ). Rises turn_of m hs) (eqb-true h.turn n e) up.1)))
     by more false e = rw e (sym (at_turn-none h.turn n hs up.1 (let other : h.turn ≢ n = eqb-false h.turn n e in omega (arith, up.0, other))))
 
 -- and what is after them keeps those of each later turn
@@ -76,10 +77,10 @@ past-at n t (h ∷ hs) below = by (past-at n t hs below) (h.turn == n) refl
     by more true e = rw e (rw (ne_eqb h.turn t (λ same. omega (arith, eqb-true h.turn n e, below))) more)
     by more false e = rw e refl
 
-pub past-rises : (n : ℕ) (hs : List HostEvent) → Rises n hs → Rises (n + 1) (past n hs)
+pub past-rises : (n : ℕ) (hs : List HostEvent) → Rises turn_of n hs → Rises turn_of (n + 1) (past n hs)
 past-rises n [] up = tt
 past-rises n (h ∷ hs) up = by (past-rises n hs) (h.turn == n) refl
   where
-    by : (Rises n hs → Rises (n + 1) (past n hs)) → (b : Bool) → (h.turn == n) ≡ b → Rises (n + 1) (past n (h ∷ hs))
-    by more true e = subst (λ (c : Bool). Rises (n + 1) (if c then past n hs else h ∷ hs)) (sym e) (more (subst (λ (m : ℕ). Rises m hs) (eqb-true h.turn n e) up.1))
-    by more false e = subst (λ (c : Bool). Rises (n + 1) (if c then past n hs else h ∷ hs)) (sym e) (let other : h.turn ≢ n = eqb-false h.turn n e in (omega (arith, up.0, other), up.1))
+    by : (Rises turn_of n hs → Rises turn_of (n + 1) (past n hs)) → (b : Bool) → (h.turn == n) ≡ b → Rises turn_of (n + 1) (past n (h ∷ hs))
+    by more true e = subst (λ (c : Bool). Rises turn_of (n + 1) (if c then past n hs else h ∷ hs)) (sym e) (more (subst (λ (m : ℕ). Rises turn_of m hs) (eqb-true h.turn n e) up.1))
+    by more false e = subst (λ (c : Bool). Rises turn_of (n + 1) (if c then past n hs else h ∷ hs)) (sym e) (let other : h.turn ≢ n = eqb-false h.turn n e in (omega (arith, up.0, other), up.1))

@@ -1,8 +1,9 @@
+pub mod Answers
+pub mod Codes
 pub mod Faults
 pub mod Input
-pub mod Sent
-pub mod Scripted
 pub mod Scenes
+pub mod Scripted
+pub mod Sent
+pub mod Stalls
 pub mod Turns
-pub mod Codes
-pub mod Answers

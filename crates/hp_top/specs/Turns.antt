@@ -4,6 +4,7 @@ use Rattle.std.specs.Io.KnownBytes.{Appends}
 use Rattle.hp_model.specs.declared.platforms.Platform.{Platform}
 use Rattle.hp_model.specs.declared.entries.Actor.{Actor}
 use Rattle.hp_model.specs.declared.files.HostEvent.{HostEvent}
+use Rattle.hp_model.specs.declared.files.Stall.{Stall}
 use Rattle.hp_model.specs.declared.files.File.{File}
 use Rattle.hp_model.specs.Schedule.{Scene, Made, act_all, scheduled}
 use Rattle.hp_model.specs.Text.{lines_text, trace_text}
@@ -28,10 +29,17 @@ abbrev pub past : ℕ → List HostEvent → List HostEvent
 past turn [] = []
 past turn (h ∷ hs) = if h.turn == turn then past turn hs else h ∷ hs
 
+-- what a list is sorted by
+abbrev pub turn_of : HostEvent → ℕ
+turn_of h = h.turn
+
+abbrev pub start_of : Stall → ℕ
+start_of s = s.from
+
 -- none is before this turn, and they ascend
-abbrev pub Rises : ℕ → List HostEvent → Type 0
-Rises n [] = Unit {0}
-Rises n (h ∷ hs) = (n ≤ h.turn) × Rises h.turn hs
+abbrev pub Rises : {X : Type 0} → (X → ℕ) → ℕ → List X → Type 0
+Rises key n [] = Unit {0}
+Rises key n (x ∷ xs) = (n ≤ key x) × Rises key (key x) xs
 
 -- the text of the run that a file's schedule makes
 unfoldable pub run_text : File → List ℕ

@@ -4,20 +4,21 @@ ghost use Rattle.std.specs.Prelude.{ℕ, ◌≡◌, ◌≤◌, ◌+◌, ◌∷�
 ghost use Rattle.std.specs.Io.KnownBytes.{Appends};
 ghost use Rattle.std.specs.List.Sorted.{IsNonDecreasingBy};
 ghost use Rattle.hp_model.specs.declared.platforms.Platform.{Platform};
-ghost use Rattle.hp_model.specs.Schedule.{Scene as Shown, act, act_all, actors_of, cpus_of, hosts_of as of_turn, scene_start, turns_from};
+ghost use Rattle.hp_model.specs.Schedule.{Scene as Shown, act, act_all, actors_of, cpus_of, hosts_of as of_turn, is_stalled, scene_start, turns_from};
 ghost use Rattle.hp_config.specs.Sound.{IsSound};
 ghost use Rattle.hp_model.specs.Text.{head_text, line_text, lines_text, end_text};
 ghost use Rattle.hp_top.specs.Faults.{StopsFor};
 ghost use Rattle.hp_top.specs.Scenes.{Shows};
 ghost use Rattle.hp_top.specs.Sent.{HoldsFront};
-ghost use Rattle.hp_top.specs.Turns.{Sends, Rises, at_turn, due, past, run_text};
+ghost use Rattle.hp_top.specs.Stalls.{IsTracking};
+ghost use Rattle.hp_top.specs.Turns.{Sends, Rises, at_turn, due, past, run_text, start_of, turn_of};
 
 use crate::outside::{Sink, WriteStop};
 use crate::scenes::Scene;
 use crate::sorting::by_turn;
-use crate::stalling::is_stalled;
+use crate::stalling::{Stalled, by_start};
 use crate::writing::write_all;
-use hp_model::{Actor, Entry, File, HostEvent, NoMemory, Platform, VoiceKind};
+use hp_model::{Actor, Entry, File, HostEvent, NoMemory, Platform, Stall, VoiceKind};
 use std::alloc::Global;
 
 /// Makes the line of an entry in the buffer, whose content goes, and hands it to the sink.
@@ -134,13 +135,15 @@ fn make_hosts<'h, K: Sink>(
 }
 
 /// The processor whose turn it is; none where a stall covers it.
-fn cpu_of(file: &File, turn: u32) -> Option<u32>
-    requires { IsSound file.now }
+fn cpu_of(file: &File, stalled: &mut Stalled, turn: u32) -> Option<u32>
+    requires sound { IsSound file.now }
+    requires tracking { IsTracking file.now turn stalled.old }
     ensures some { IfSome result (λ k. cpus_of file.now turn ≡ Actor.Cpu k ∷ []) }
     ensures none { result ≡ None → cpus_of file.now turn ≡ [] }
+    ensures tracking { IsTracking file.now (turn + 1) stalled.new }
 {
     let k = turn % file.platform.apic.0.len() as u32;
-    if is_stalled(file.stalls.0.as_slice(), k, turn) {
+    if stalled.holds(k, turn) {
         None
     } else {
         Some(k)
@@ -153,14 +156,17 @@ fn make_turn<'h, K: Sink>(
     scene: &mut Scene,
     file: &File,
     hosts: &'h [HostEvent],
+    stalled: &mut Stalled,
     turn: u32,
     text: &mut Vec<u8>,
     out: &mut K,
 ) -> Result<(u64, &'h [HostEvent]), WriteStop>
     requires sound { IsSound file.now }
+    requires tracking { IsTracking file.now turn stalled.old }
     requires due { due turn hosts.now ≡ of_turn file.now turn }
     ensures bound { IfOk result (λ done. done.0 + length done.1.now ≤ length hosts.now + 1) }
     ensures rest { IfOk result (λ done. done.1.now ≡ past turn hosts.now) }
+    ensures tracking { IfOk result (λ done. IsTracking file.now (turn + 1) stalled.new) }
     ensures made { (w : Shown) → Shows file.now.platform scene.old w
         → IfOk result (λ done. Sends file.now.platform scene.new (act_all file.now.platform w (actors_of file.now turn)) done.0 (K.held out.old) (K.held out.new)) }
     ensures part { (w : Shown) → Shows file.now.platform scene.old w
@@ -171,7 +177,7 @@ fn make_turn<'h, K: Sink>(
         Ok(done) => done,
         Err(stop) => return Err(stop),
     };
-    let Some(k) = cpu_of(file, turn) else {
+    let Some(k) = cpu_of(file, stalled, turn) else {
         return Ok((made, rest));
     };
     match make_step(scene, Actor::Cpu(k), text, out) {
@@ -180,16 +186,18 @@ fn make_turn<'h, K: Sink>(
     }
 }
 
-/// All turns of the file, and how many entries they made. Takes its host events by turn.
+/// All turns of the file, and how many entries they made. Takes its host events by turn, and its stalls before their first.
 fn make_turns<K: Sink>(
     scene: &mut Scene,
     file: &File,
     hosts: &[HostEvent],
+    stalled: &mut Stalled,
     text: &mut Vec<u8>,
     out: &mut K,
 ) -> Result<u64, WriteStop>
     requires sound { IsSound file.now }
-    requires rises { Rises 0 hosts.now }
+    requires tracking { IsTracking file.now 0 stalled.old }
+    requires rises { Rises turn_of 0 hosts.now }
     requires same { (turn : ℕ) → at_turn turn hosts.now ≡ of_turn file.now turn }
     ensures made { (w : Shown) → Shows file.now.platform scene.old w
         → IfOk result (λ made. Sends file.now.platform scene.new (turns_from file.now file.now.platform.turns 0 w) made (K.held out.old) (K.held out.new)) }
@@ -200,7 +208,7 @@ fn make_turns<K: Sink>(
     let mut made = 0u64;
     let mut rest = hosts;
     'turns: for turn in 0..file.platform.turns {
-        match make_turn(scene, file, rest, turn, text, out) {
+        match make_turn(scene, file, rest, stalled, turn, text, out) {
             Ok((count, more)) => {
                 made += count;
                 rest = more;
@@ -239,6 +247,29 @@ fn hosts_of(alloc: Global, file: &File) -> Result<Vec<HostEvent>, NoMemory>
     by_turn(alloc, hosts_in(file))
 }
 
+fn stalls_in(file: &File) -> &[Stall]
+    ensures { result.now ≡ file.now.stalls }
+{
+    file.stalls.0.as_slice()
+}
+
+/// The stalls of the file, by the turn they start.
+fn stalls_of(alloc: Global, file: &File) -> Result<Vec<Stall>, NoMemory>
+    ensures rises { IfOk result (λ sorted. Rises start_of 0 sorted.items) }
+    ensures same { IfOk result (λ sorted. (k t : ℕ) → is_stalled sorted.items k t ≡ is_stalled file.now.stalls k t) }
+{
+    by_start(alloc, stalls_in(file))
+}
+
+/// The stalls of the file before its first turn. Takes them by the turn they start.
+fn stalled_of<'s>(alloc: Global, file: &File, sorted: &'s [Stall]) -> Result<Stalled<'s>, NoMemory>
+    requires rises { Rises start_of 0 sorted.now }
+    requires same { (k t : ℕ) → is_stalled sorted.now k t ≡ is_stalled file.now.stalls k t }
+    ensures { IfOk result (IsTracking file.now 0) }
+{
+    Stalled::new(alloc, sorted, file.platform.apic.0.len())
+}
+
 /// Runs the file: header, one line an entry, end line.
 #[tactic(auto, using(crate::proofs::Sending::sending))]
 pub(crate) fn run_file<K: Sink>(alloc: Global, file: &File, out: &mut K) -> Result<(), WriteStop>
@@ -256,10 +287,25 @@ pub(crate) fn run_file<K: Sink>(alloc: Global, file: &File, out: &mut K) -> Resu
         Ok(hosts) => hosts,
         Err(NoMemory) => return Err(WriteStop::NoMemory),
     };
+    let stalls = match stalls_of(alloc, file) {
+        Ok(stalls) => stalls,
+        Err(NoMemory) => return Err(WriteStop::NoMemory),
+    };
+    let mut stalled = match stalled_of(alloc, file, stalls.as_slice()) {
+        Ok(stalled) => stalled,
+        Err(NoMemory) => return Err(WriteStop::NoMemory),
+    };
     if let Err(stop) = send_head(&file.platform, &mut text, out) {
         return Err(stop);
     }
-    let made = match make_turns(&mut scene, file, hosts.as_slice(), &mut text, out) {
+    let made = match make_turns(
+        &mut scene,
+        file,
+        hosts.as_slice(),
+        &mut stalled,
+        &mut text,
+        out,
+    ) {
         Ok(made) => made,
         Err(stop) => return Err(stop),
     };

@@ -1,7 +1,7 @@
 -- A turn after those before it.
 use Rattle.std.proofs.Common.{◌≡◌, ◌+◌, sym, ◌∙◌, ap, subst, arith}
 use Rattle.hp_model.specs.Schedule.{turns_from}
-use Rattle.hp_top.specs.Turns.{Sends, Rises, at_turn}
+use Rattle.hp_top.specs.Turns.{Sends, Rises, at_turn, turn_of}
 use Rattle.hp_top.proofs.Rising.{due-is, past-at, past-rises}
 use Rattle.hp_top.proofs.Schedule.{turns_start, turns_more, turns_front}
 use Rattle.hp_top.proofs.running.make_turns.Goals as goal
@@ -11,6 +11,7 @@ turns-init g c = record {
   done = λ w shows. turns_start c.args.file.now w _ _ shows;
   rises = c.requires.rises;
   same = λ t later. c.requires.same t;
+  stalls = c.requires.tracking;
   bound = omega arith;
   later = omega arith;
 }
@@ -21,8 +22,9 @@ make_turn-requires-clause-due g c = due-is c.turns.turn c.turns.rest.now c.turns
 pub turns-preserved : goal.turns-preserved
 turns-preserved g c = record {
   done = λ w shows. turns_more c.args.file.now c.turns.turn w _ _ _ _ _ (c.turns.invariant.done w shows) _ _ (λ v seen. c.in-Ok.ensures.made v seen);
-  rises = subst (Rises (c.turns.turn + 1)) (sym c.in-Ok.ensures.rest) (past-rises c.turns.turn c.turns.rest.now c.turns.invariant.rises);
+  rises = subst (Rises turn_of (c.turns.turn + 1)) (sym c.in-Ok.ensures.rest) (past-rises c.turns.turn c.turns.rest.now c.turns.invariant.rises);
   same = λ t later. ap (at_turn t) c.in-Ok.ensures.rest ∙ past-at c.turns.turn t c.turns.rest.now (omega (arith, later)) ∙ c.turns.invariant.same t (omega (arith, later));
+  stalls = c.in-Ok.ensures.tracking;
   bound = omega (arith, c.in-Ok.ensures.bound, c.turns.invariant.bound);
   later = omega (arith, c.in-Ok.ensures.cause.later, c.turns.invariant.later);
 }

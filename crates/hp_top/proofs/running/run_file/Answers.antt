@@ -2,16 +2,16 @@
 use Rattle.std.proofs.Common.{refl, sym, ◌∙◌, ap, subst, arith}
 use Rattle.std.proofs.lemmas.Result.{on_ok_weaker, on_err_weaker}
 use Rattle.hp_model.specs.Schedule.{scene_start}
-use Rattle.hp_top.specs.Turns.{Rises, at_turn}
+use Rattle.hp_top.specs.Turns.{Rises, at_turn, turn_of}
 use Rattle.hp_top.proofs.Rising.{rises}
 use Rattle.hp_top.proofs.Schedule.{head_front, lines_front, end_front, all_sent}
 use Rattle.hp_top.proofs.running.run_file.Goals as goal
 
 pub make_turns-requires-clause-rises : goal.make_turns-requires-clause-rises
-make_turns-requires-clause-rises g c = subst (Rises 0) (sym c.as_slice.ensures.value) (rises 0 c.in-Ok-hosts_of.hosts.items (λ d some. omega arith) c.in-Ok-hosts_of.ensures.rises)
+make_turns-requires-clause-rises g c = subst (Rises turn_of 0) (sym c.as_slice-2.ensures.value) (rises turn_of 0 c.in-Ok-hosts_of.hosts.items (λ d some. omega arith) c.in-Ok-hosts_of.ensures.rises)
 
 pub make_turns-requires-clause-same : goal.make_turns-requires-clause-same
-make_turns-requires-clause-same g c = λ turn. ap (at_turn turn) c.as_slice.ensures.value ∙ c.in-Ok-hosts_of.ensures.same turn
+make_turns-requires-clause-same g c = λ turn. ap (at_turn turn) c.as_slice-2.ensures.value ∙ c.in-Ok-hosts_of.ensures.same turn
 
 pub returns-in-Err-send_head-clause-part : goal.returns-in-Err-send_head-clause-part
 returns-in-Err-send_head-clause-part g c = head_front c.args.file.now _ refl _ _ c.in-Err-send_head.ensures.part
