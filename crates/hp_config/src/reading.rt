@@ -62,9 +62,9 @@ fn read_table(alloc: Global, table: &Table) -> Result<File, ConfigFault>
     }
 }
 
-/// Reads the text of a platform file, of any length. `NotToml` comes exactly where the kit's `toml` refuses the text for
-/// another cause than memory; a rule that fails is the first of docs/FORMATS.md that does. After an error nothing
-/// remains allocated.
+/// Reads the text of a platform file, of any length. `NotToml` comes only where the kit's `toml` refuses the text for
+/// another cause than memory, and neither a file nor a rule comes there; a rule that fails is the first of
+/// docs/FORMATS.md that does.
 pub fn read(alloc: Global, text: &[u8]) -> Result<File, ConfigFault>
     ensures { IsReadAs text.now result }
 {

@@ -270,7 +270,7 @@ impl Machine {
         Ok(Answer::Quiet)
     }
 
-    /// The processor that the last step ejected, None where it ejected none and before the first step.
+    /// The processor that the last step ejected; None where it ejected none.
     pub fn ejected(&self) -> Option<u32>
         ensures { result ≡ self.now.ejected }
     {
@@ -280,6 +280,7 @@ impl Machine {
     /// Takes room for what any one step writes, so that the next one can't want for memory. Changes nothing else.
     pub fn reserve(&mut self) -> Result<(), NoMemory>
         ensures room { OnOk result (272 ≤ self.new.memory.spare) }
+        ensures succeeds { 272 ≤ self.old.memory.spare → IsOk result }
         ensures unchanged { (p : Platform) (s : State) → IsState p self.old s → IsState p self.new s }
     {
         take_room(&mut self.memory)

@@ -1,4 +1,4 @@
--- The processor hot-plug register block (after QEMU docs/specs/acpi_cpu_hotplug; all rules as they stand here are own rules).
+-- The processor hot-plug register block (source: QEMU docs/specs/acpi_cpu_hotplug; docs/MACHINE.md marks what is our own).
 use Rattle.std.specs.Prelude.{ℕ, Bool, true, false, ◌+◌, ◌*◌, ◌%◌, ◌^◌, ◌==◌, ◌&&◌, ◌||◌, not, nat_lt, if◌then◌else◌, List, [], ◌∷◌, length, take, drop, Option, Some, None, option_map, slice_index_or, bit_and, slice_set}
 use Rattle.hp_model.specs.declared.platforms.Platform.{Platform}
 

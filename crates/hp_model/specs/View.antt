@@ -1,4 +1,4 @@
--- Lockable SMRAM (Q35 memory controller, registers 9c, 9d and 9e, as they stand here own rules): which bytes an access reaches.
+-- Lockable SMRAM (source: Q35 memory controller, registers 9c, 9d and 9e; docs/MACHINE.md marks what is our own): which bytes an access reaches.
 use Rattle.std.specs.Prelude.{ℕ, zero, suc, Bool, false, ◌&&◌, ◌||◌, not, ◌==◌, nat_lt, nat_le, ◌+◌, ◌-◌, ◌*◌, ◌^◌, List, ◌∷◌, bit_and, if◌then◌else◌}
 use Rattle.hp_model.specs.declared.platforms.Platform.{Platform}
 use Rattle.hp_model.specs.Memory.{Write, byte_at, value_from, write_of}

@@ -5,8 +5,8 @@ use std::marker::Model;
 
 /// One access of a processor: one atomic step of the machine.
 ///
-/// Widths are in bytes: 1, 2, 4 or 8 in memory, 1, 2 or 4 at a port. An access of another width is taken as `Nop`, and
-/// a value is cut to its width before it is recorded; an access that is left as it is by this is called normal.
+/// Widths are in bytes: 1, 2, 4 or 8 in memory, 1, 2 or 4 at a port. An access of such a width whose value fits it is
+/// called normal (own rule). The machine has a step for normal accesses alone.
 #[derive(Clone, Copy, Debug, PartialEq)]
 pub enum Access {
     /// Reads memory at a 32-bit address.

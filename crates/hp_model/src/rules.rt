@@ -117,7 +117,7 @@ fn has_fitting_turns(p: &Platform) -> bool
     p.turns <= 200000
 }
 
-/// Whether the machine can be built: Ok exactly where rules 2 to 11 of docs/FORMATS.md hold, else the first that fails.
+/// Whether the machine can be built: Ok exactly where rules 2 to 10 of docs/FORMATS.md hold, else the first that fails.
 ///
 /// The type already meets rule 11, which is about the text of `delivery`.
 pub fn fits(p: &Platform) -> Result<(), Rule>
