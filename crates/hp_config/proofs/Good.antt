@@ -1,18 +1,15 @@
 -- What the rules give of each file that is read.
-use Rattle.std.proofs.Common.{◌≡◌, ℕ, zero, suc, ◌==◌, ◌<◌, ◌≤◌, Bool, true, false, not, nat_lt, nat_le, List, [], ◌∷◌, length, slice_set, Option, Some, None, if◌then◌else◌, refl, sym, subst, ◌∙◌, arith}
-use Rattle.std.proofs.lemmas.Bool.{false≢true, and_parts, and_from, ltb-true, leb-true, eqb-true}
+use Rattle.std.proofs.Common.{◌≡◌, ℕ, zero, suc, Bool, true, false, not, List, [], ◌∷◌, length, Option, Some, None, if◌then◌else◌, refl, sym, subst, ◌∙◌, arith}
 use Rattle.std.proofs.lemmas.List.{length-set, length_push}
 use Rattle.std.proofs.lemmas.Option.{none-some}
-use Rattle.std.specs.List.{list_all}
 use Rattle.toml.specs.Data.{Members}
-use Rattle.hp_model.specs.declared.platforms.Platform.{Platform}
 use Rattle.hp_model.specs.declared.files.File.{File}
 use Rattle.hp_model.specs.declared.files.VoiceKind.{VoiceKind}
-use Rattle.hp_model.specs.Platform.{count_of, counts_fit, ids_fit, boot_fits, ascends_from, ascends_from_zero, IsFit}
+use Rattle.hp_model.specs.Platform.{count_of, IsFit}
 use Rattle.hp_config.specs.declared.parts.AgentRow.{AgentRow}
 use Rattle.hp_config.specs.declared.parts.Parts.{Parts}
 use Rattle.hp_config.specs.Rules.{hosts_fit, stalls_fit, agents_fit, steps_fit}
-use Rattle.hp_config.specs.Unbuilt.{kind_runs, parts_run}
+use Rattle.hp_config.specs.Unbuilt.{parts_run}
 use Rattle.hp_config.specs.Kinds.{default_kind, default_kinds, put_kind, put_kinds, kinds_of}
 use Rattle.hp_config.specs.Shape.{parts_of}
 use Rattle.hp_config.specs.Reading.{good, platform_fault, later_fault, first_of, file_from, judged, reading_of, file_of}

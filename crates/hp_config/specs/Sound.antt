@@ -1,6 +1,5 @@
 -- What holds of each file that is read, for the crates above (own rules).
-use Rattle.std.specs.Prelude.{◌≡◌, true, length, Some}
-use Rattle.std.specs.List.{list_all}
+use Rattle.std.specs.Prelude.{◌≡◌, true, length}
 use Rattle.hp_model.specs.declared.files.File.{File}
 use Rattle.hp_model.specs.Platform.{count_of, IsFit}
 use Rattle.hp_config.specs.Rules.{hosts_fit, stalls_fit}

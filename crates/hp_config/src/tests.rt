@@ -172,13 +172,8 @@ fn what_is_not_built_is_rule_16(rt: HostRuntime) -> Result<(), Fail> {
         ),
         (
             "",
-            "[[agent]]\ncpu = 0\nkind = 'script'\nsteps = ['in 1 0cd7']",
-            16,
-        ),
-        (
-            "",
-            "[[agent]]\ncpu = 0\nkind = 'script'\nsteps = ['in 1 0ce4']",
-            16,
+            "[[agent]]\ncpu = 0\nkind = 'script'\nsteps = ['in 1 0cd7', 'out 4 ffff 00000000', 'in 2 00b2']",
+            FINE,
         ),
         (
             "",

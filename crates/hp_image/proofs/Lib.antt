@@ -1,1 +1,3 @@
+pub mod Found
+pub mod Tiles
 pub mod Writes

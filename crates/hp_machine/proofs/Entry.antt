@@ -20,4 +20,6 @@ entry_state p m s e k memory cs is stands cpus = record {
   locks = is.locks;
   cpus = cpus ∙ ap (λ (xs : List Cpu). slice_set xs k (take_smi (cpu_at xs k))) is.cpus;
   block = is.block;
+  ich9 = is.ich9;
+  fw_cfg = is.fw_cfg;
 }

@@ -1,3 +1,4 @@
+pub mod Bytes
 pub mod Ejects
 pub mod Sending
 pub mod Sizes

@@ -5,13 +5,14 @@ use Rattle.std.proofs.lemmas.List.{get_or_past}
 use Rattle.hp_model.specs.declared.processors.Cpu.{Cpu}
 use Rattle.hp_model.specs.declared.processors.Kind.{Kind}
 use Rattle.hp_model.specs.declared.processors.Ipi.{Ipi}
-use Rattle.hp_model.specs.Cpu.{absent, cpu_at}
-use Rattle.std.specs.Prelude.{slice_set, if◌then◌else◌, ◌-◌}
+use Rattle.hp_model.specs.declared.processors.Kind.TheVariants.{Smi}
+use Rattle.hp_model.specs.Cpu.{absent, cpu_at, hit}
+use Rattle.std.specs.Prelude.{slice_set, if◌then◌else◌}
 use Rattle.hp_model.specs.Block.{Block, block_write, with_insert, with_removal}
-use Rattle.hp_model.specs.Interrupts.{is_target, hit_each, sent}
-use Rattle.hp_model.specs.Step.{is_on_block, without_ejected}
+use Rattle.hp_model.specs.Interrupts.{is_target, hit_each, sent, smi_raised}
+use Rattle.hp_model.specs.Step.{without_ejected}
 use Rattle.hp_regs.proofs.Ejects.{stays_count, inserted_count, requested_count}
-use Rattle.hp_machine.specs.Machine.{port_block, IsSized}
+use Rattle.hp_machine.specs.Machine.{IsSized}
 
 pub length-without_ejected : (e : Option ℕ) (cs : List Cpu) → length (without_ejected e cs) ≡ length cs
 length-without_ejected None cs = refl
@@ -27,20 +28,24 @@ pub length-sent : (i : Option Ipi) (sender : ℕ) (ids : List ℕ) (cs : List Cp
 length-sent None sender ids cs = refl
 length-sent (Some ipi) sender ids cs = length-hit_each (is_target ipi.to sender) ipi.kind ids cs
 
-pub length-port_block : (port width value : ℕ) (b : Block) → length (port_block port width value b).slots ≡ length b.slots
-length-port_block port width value b = by (is_on_block port)
-  where
-    by : (on : Bool) → length (if on then block_write b (port - 0xcd8) width value else b).slots ≡ length b.slots
-    by true = stays_count b (port - 0xcd8) width value
-    by false = refl
+pub length-smi_raised : (all : Bool) (k : ℕ) (ids : List ℕ) (cs : List Cpu) → length (smi_raised all k ids cs) ≡ length cs
+length-smi_raised true k ids cs = length-hit_each (λ id. true) Smi ids cs
+length-smi_raised false k ids cs = length-set cs k (hit Smi (cpu_at cs k))
+
+length-raised : (raises all : Bool) (k : ℕ) (ids : List ℕ) (cs : List Cpu) → length (if raises then smi_raised all k ids cs else cs) ≡ length cs
+length-raised true all k ids cs = length-smi_raised all k ids cs
+length-raised false all k ids cs = refl
 
 module _ (apic : List ℕ) (cs : List Cpu) (b : Block) (sized : IsSized apic cs b) where
-  pub sized_port : (port width value : ℕ) (e : Option ℕ) (c : Block) (ds : List Cpu) → c ≡ port_block port width value b → ds ≡ without_ejected e cs → IsSized apic ds c
-  sized_port port width value e c ds block cpus = record {
+  pub sized_block : (offset width value : ℕ) (e : Option ℕ) (c : Block) (ds : List Cpu) → c ≡ block_write b offset width value → ds ≡ without_ejected e cs → IsSized apic ds c
+  sized_block offset width value e c ds block cpus = record {
     same_cpus = ap length cpus ∙ length-without_ejected e cs ∙ sized.same_cpus;
-    same_slots = ap (λ (x : Block). length x.slots) block ∙ length-port_block port width value b ∙ sized.same_slots;
+    same_slots = ap (λ (x : Block). length x.slots) block ∙ stays_count b offset width value ∙ sized.same_slots;
     few = sized.few;
   }
+
+  pub sized_raised : (raises all : Bool) (k : ℕ) (ids : List ℕ) (ds : List Cpu) → ds ≡ (if raises then smi_raised all k ids cs else cs) → IsSized apic ds b
+  sized_raised raises all k ids ds cpus = record { same_cpus = ap length cpus ∙ length-raised raises all k ids cs ∙ sized.same_cpus; same_slots = sized.same_slots; few = sized.few }
 
   pub sized_sent : (i : Option Ipi) (sender : ℕ) (ids : List ℕ) (ds : List Cpu) → ds ≡ sent i sender ids cs → IsSized apic ds b
   sized_sent i sender ids ds cpus = record { same_cpus = ap length cpus ∙ length-sent i sender ids cs ∙ sized.same_cpus; same_slots = sized.same_slots; few = sized.few }

@@ -1,15 +1,19 @@
 -- What contracts see of a machine, and which states of the model it stands for.
-use Rattle.std.specs.Prelude.{◌≡◌, ℕ, Bool, ◌-◌, ◌++◌, take, drop, slice_set, length, ◌≤◌, List, [], Option, Some, None, if◌then◌else◌}
+use Rattle.std.specs.Prelude.{◌≡◌, ℕ, Bool, ◌-◌, ◌++◌, take, drop, slice_set, length, ◌≤◌, List, [], Option, if◌then◌else◌}
 use Rattle.hp_model.specs.declared.platforms.Platform.{Platform}
 use Rattle.hp_model.specs.declared.processors.Cpu.{Cpu}
 use Rattle.hp_model.specs.declared.accesses.Answer.{Answer}
 use Rattle.hp_model.specs.declared.entries.Event.{Event}
+use Rattle.hp_model.specs.declared.entries.Event.TheVariants.{Insert, Remove, Do, TakeSmi, TakeInit, Resume, Tell}
 use Rattle.hp_model.specs.declared.processors.Kind.{Kind}
 use Rattle.hp_model.specs.Cpu.{hit, cpu_at}
 use Rattle.hp_model.specs.Interrupts.{hit_each}
 use Rattle.hp_model.specs.View.{Locks}
-use Rattle.hp_model.specs.Block.{Block, block_read, block_write}
-use Rattle.hp_model.specs.Step.{State, start, is_on_block, answer_of, effect_of}
+use Rattle.hp_model.specs.Block.{Block, block_read}
+use Rattle.hp_model.specs.Ich9.{Ich9, ich9_read}
+use Rattle.hp_model.specs.FwCfg.{FwCfg, next_byte, advanced}
+use Rattle.hp_model.specs.Fitting.{IsQuiet, FitsAccess}
+use Rattle.hp_model.specs.Step.{State, start, is_on_block, is_fw_cfg_data, answer_of, effect_of}
 use Rattle.hp_image.specs.declared.stores.Cell.{Cell}
 use Rattle.hp_image.specs.Cells.{stored_cells}
 use Rattle.hp_mem.specs.Kept.{Kept, Stands}
@@ -21,31 +25,45 @@ pub record Machine : Type 0 where
   pub locks : Locks
   pub cpus : List Cpu
   pub block : Block
+  pub ich9 : Ich9
+  pub fw_cfg : FwCfg
   pub ejected : Option ℕ  -- the processor that the last step ejected
 
--- the machine stands for this state of the model: its memory by the writes, all else by equality
+-- the machine stands for this state of the model: its memory by the writes, all else by equality.
+-- Where the boot stands isn't the machine's to know.
 pub record IsState (p : Platform) (m : Machine) (s : State) : Type 0 where
   pub apic : m.apic ≡ p.apic
   pub memory : Stands m.memory s.writes
   pub locks : m.locks ≡ s.locks
   pub cpus : m.cpus ≡ s.cpus
   pub block : m.block ≡ s.block
+  pub ich9 : m.ich9 ≡ s.ich9
+  pub fw_cfg : m.fw_cfg ≡ s.fw_cfg
 
 -- the answer is the event's in this state, and the machine stands for the state after it
 pub record IsStep (p : Platform) (m : Machine) (s : State) (e : Event) (answer : Answer) : Type 0 where
   pub answers : answer ≡ answer_of s e
   pub state : IsState p m (effect_of p s e)
 
--- the offset in the register block of one of its ports
-abbrev pub offset_in : ℕ → Option ℕ
-offset_in port = if is_on_block port then Some (port - 0xcd8) else None
+-- the answer fits the event: a value of the width that an access asks for, or none
+abbrev pub FitsEvent : Event → Answer → Type 0
+FitsEvent (Insert k) answer = IsQuiet answer
+FitsEvent (Remove k) answer = IsQuiet answer
+FitsEvent (Do k a) answer = FitsAccess a answer
+FitsEvent (TakeSmi k) answer = IsQuiet answer
+FitsEvent (TakeInit k) answer = IsQuiet answer
+FitsEvent (Resume k) answer = IsQuiet answer
+FitsEvent (Tell o) answer = IsQuiet answer
 
--- what a port reads, and what a write to it leaves of the block and of the processors
-abbrev pub port_value : ℕ → ℕ → Block → ℕ
-port_value port width b = if is_on_block port then block_read b (port - 0xcd8) width else 0
+-- what a port reads, and what the read leaves of fw_cfg
+abbrev pub port_value : ℕ → ℕ → Block → Ich9 → FwCfg → ℕ
+port_value port width b i f =
+    if is_on_block port then block_read b (port - 0xcd8) width
+    else if is_fw_cfg_data port width then next_byte f
+    else ich9_read i port width
 
-abbrev pub port_block : ℕ → ℕ → ℕ → Block → Block
-port_block port width value b = if is_on_block port then block_write b (port - 0xcd8) width value else b
+abbrev pub port_read : ℕ → ℕ → FwCfg → FwCfg
+port_read port width f = if is_fw_cfg_data port width then advanced 1 f else f
 
 -- the processors once the one in place k is hit, if it is a target
 abbrev pub hit_at : Bool → Kind → ℕ → List Cpu → List Cpu

@@ -1,7 +1,7 @@
 //! An interrupt command reaches its targets.
 
-ghost use Rattle.std.specs.Prelude.{◌≡◌, ◌≤◌, ◌<◌, length};
-ghost use Rattle.hp_model.specs.Interrupts.{is_target, hit_each, sent, decoded};
+ghost use Rattle.std.specs.Prelude.{◌≡◌, ◌≤◌, ◌<◌, length, true};
+ghost use Rattle.hp_model.specs.Interrupts.{is_target, hit_each, sent, decoded, smi_raised};
 ghost use Rattle.hp_machine.specs.Machine.{hit_at};
 
 use hp_apic::{decode, hits};
@@ -39,5 +39,31 @@ pub fn send(cpus: &mut Cpus, apic: &[u32], sender: u32, high: u32, low: u32)
 {
     if let Some(ipi) = decode(high, low) {
         send_to_targets(cpus, apic, &ipi, sender);
+    }
+}
+
+/// An SMI to each processor.
+#[tactic(auto, using(crate::proofs::Sending::hits))]
+fn hit_all(cpus: &mut Cpus, apic: &[u32])
+    requires same { length cpus.old ≡ length apic.now }
+    requires few { length apic.now ≤ 64 }
+    ensures { cpus.new ≡ hit_each (λ id. true) Kind.Smi apic.now cpus.old }
+{
+    for place in 0..apic.len() {
+        hit_target(cpus, place as u32, true, Kind::Smi);
+    }
+}
+
+/// The SMI of the SMI command port: to all present processors where it is broadcast, else to processor `k`.
+pub fn raise_smi(cpus: &mut Cpus, apic: &[u32], k: u32, broadcast: bool)
+    requires same { length cpus.old ≡ length apic.now }
+    requires few { length apic.now ≤ 64 }
+    requires place { k < length apic.now }
+    ensures { cpus.new ≡ smi_raised broadcast k apic.now cpus.old }
+{
+    if broadcast {
+        hit_all(cpus, apic);
+    } else {
+        cpus.hit(k, Kind::Smi);
     }
 }

@@ -8,5 +8,6 @@ mod ports;
 mod reach;
 #[cfg(test)]
 mod tests;
+mod transfers;
 
 pub use machines::Machine;

@@ -1,6 +1,6 @@
 //! The machine, one step an event.
 
-ghost use Rattle.std.specs.Prelude.{◌≡◌, ◌≤◌, ◌<◌, true, List, IfOk, OnErr, OnOk, IsOk, length, option_map, slice_set};
+ghost use Rattle.std.specs.Prelude.{◌≡◌, ◌≤◌, ◌<◌, ◌-◌, ◌^◌, true, List, IfOk, OnErr, OnOk, IsOk, length, option_map, slice_set};
 ghost use Rattle.hp_model.specs.declared.platforms.Platform.{Platform};
 ghost use Rattle.hp_model.specs.declared.entries.Event.TheVariants.{Do, Insert, Remove, TakeSmi, TakeInit, Resume};
 ghost use Rattle.hp_model.specs.Platform.{IsFit};
@@ -11,15 +11,23 @@ ghost use Rattle.hp_model.specs.View.{loaded};
 ghost use Rattle.hp_mem.specs.Kept.{Stands};
 ghost use Rattle.hp_model.specs.Block.{ejected_by};
 ghost use Rattle.hp_image.specs.Cells.{AreCells, cells_fit, stored_cells};
-ghost use Rattle.hp_machine.specs.Machine.{IsState, IsStep, started};
+ghost use Rattle.hp_regs.specs.Ports.{IsWidth};
+ghost use Rattle.hp_model.specs.Step.{start_transfer as with_transfer, write_block as on_block, write_ich9 as with_ich9, write_port as with_port};
+ghost use Rattle.hp_machine.specs.Machine.{IsState, IsStep, FitsEvent, started};
 
 use crate::enabling::{
     can_access, can_take_init, can_take_smi, is_in_smm_now, is_normal, is_smm_mode,
 };
 use crate::interrupts::send;
-use crate::ports::{read_port, write_port};
+use crate::ports::{
+    is_broadcast, is_dma_high, is_dma_low, is_on_block, is_selector, read_port, write_block,
+    write_ich9,
+};
 use crate::reach::{load, save, saved, store, swap, take_room};
+use crate::transfers::transfer;
 use hp_cpu::Cpus;
+use hp_fwcfg::FwCfg;
+use hp_ich9::Ich9;
 use hp_image::{Cell, Cells};
 use hp_mem::Mem;
 use hp_model::{Access, Answer, Cpu, Event, Mode, NoMemory, Platform};
@@ -28,7 +36,10 @@ use hp_smram::{Locks, locks_start_as_the_machine};
 use std::alloc::Global;
 use std::marker::Model;
 
-/// Memory behind its locks, processors and the register block.
+/// The bit of the GPE status that announces processor events (QEMU docs/specs/acpi_cpu_hotplug).
+const PROCESSOR_EVENT: u8 = 2;
+
+/// Memory behind its locks, processors, the register block, ICH9 and fw_cfg.
 #[derive(Drop)]
 pub struct Machine {
     apic: Vec<u32>,
@@ -36,6 +47,8 @@ pub struct Machine {
     locks: Locks,
     cpus: Cpus,
     block: Block,
+    ich9: Ich9,
+    fw_cfg: FwCfg,
     ejected: Option<u32>,
 }
 
@@ -45,7 +58,7 @@ impl Model for Machine {
 
     ghost Value = { seen.Machine };
 
-    ghost view = { λ m. record { apic = m.apic.items; memory = m.memory; locks = m.locks; cpus = m.cpus; block = m.block; ejected = m.ejected } };
+    ghost view = { λ m. record { apic = m.apic.items; memory = m.memory; locks = m.locks; cpus = m.cpus; block = m.block; ich9 = m.ich9; fw_cfg = m.fw_cfg; ejected = m.ejected } };
 
     ghost invariant = { λ m. IsSized m.apic.items m.cpus m.block };
 }
@@ -66,11 +79,86 @@ fn store_cells(memory: &mut Mem, cells: &[Cell], low: u32) -> Result<(), NoMemor
 }
 
 impl Machine {
+    /// A write of a port of the register block.
+    fn write_block(&mut self, port: u16, width: u8, value: u32)
+        requires width { IsWidth width }
+        requires from { 0xcd8 ≤ port }
+        requires to { port < 0xce4 }
+        ensures state { (p : Platform) (s : State) → IsState p self.old s → IsState p self.new (on_block (port - 0xcd8) width value s) }
+        ensures ejected { self.new.ejected ≡ ejected_by self.old.block self.new.block }
+    {
+        let ejected = write_block(&mut self.block, &mut self.cpus, port, width, value);
+        self.ejected = ejected;
+    }
+
+    /// A write of the low half of fw_cfg's DMA address: the whole transfer. Room for what it stores is taken first.
+    fn start_transfer(&mut self, value: u32) -> Result<(), NoMemory>
+        ensures state { (p : Platform) (s : State) → IsState p self.old s → OnOk result (IsState p self.new (with_transfer value s)) }
+        ensures no_memory { (p : Platform) (s : State) → IsState p self.old s → OnErr result (IsState p self.new s) }
+        ensures succeeds { 272 ≤ self.old.memory.spare → IsOk result }
+        ensures block { self.new.block ≡ self.old.block }
+        ensures ejected { self.new.ejected ≡ self.old.ejected }
+    {
+        let memory = &mut self.memory;
+        take_room(memory)?;
+        if let Some(at) = self.fw_cfg.address(false, value) {
+            transfer(memory, &self.locks, &mut self.fw_cfg, at);
+        }
+        Ok(())
+    }
+
+    /// A write of a port of ICH9, or of one that no rule names.
+    fn write_ich9(&mut self, k: u32, port: u16, width: u8, value: u32)
+        requires { k < length self.old.apic }
+        ensures state { (p : Platform) (s : State) → IsState p self.old s → IsState p self.new (with_ich9 p k port width value s) }
+        ensures block { self.new.block ≡ self.old.block }
+        ensures ejected { self.new.ejected ≡ self.old.ejected }
+    {
+        let broadcast = is_broadcast(self.fw_cfg.negotiated());
+        write_ich9(
+            &mut self.ich9,
+            &mut self.cpus,
+            self.apic.as_slice(),
+            k,
+            broadcast,
+            port,
+            width,
+            value,
+        );
+    }
+
+    /// A write of processor `k` to a port.
+    #[tactic(auto, using(crate::proofs::Ejects::ejects))]
+    fn write_port(&mut self, k: u32, port: u16, width: u8, value: u32) -> Result<(), NoMemory>
+        requires width { IsWidth width }
+        requires place { k < length self.old.apic }
+        requires value { value < 256 ^ width }
+        ensures state { (p : Platform) (s : State) → IsState p self.old s → OnOk result (IsState p self.new (with_port p k port width value s)) }
+        ensures no_memory { (p : Platform) (s : State) → IsState p self.old s → OnErr result (IsState p self.new s) }
+        ensures succeeds { 272 ≤ self.old.memory.spare → IsOk result }
+        ensures ejected { self.new.ejected ≡ ejected_by self.old.block self.new.block }
+    {
+        self.ejected = None;
+        if is_on_block(port) {
+            self.write_block(port, width, value);
+        } else if is_selector(port, width) {
+            self.fw_cfg.select(value as u16);
+        } else if is_dma_high(port, width) {
+            self.fw_cfg.address(true, value);
+        } else if is_dma_low(port, width) {
+            return self.start_transfer(value);
+        } else {
+            self.write_ich9(k, port, width, value);
+        }
+        Ok(())
+    }
+
     #[tactic(auto, using(crate::proofs::Ejects::ejects))]
     fn access(&mut self, k: u32, access: Access) -> Result<Answer, NoMemory>
         requires { can_do (length self.old.apic) self.old.cpus (Do k access) ≡ true }
         ensures step { (p : Platform) (s : State) → IsState p self.old s → IfOk result (λ answer. IsStep p self.new s (Do k access) answer) }
         ensures no_memory { (p : Platform) (s : State) → IsState p self.old s → OnErr result (IsState p self.new s) }
+        ensures fits { IfOk result (λ answer. FitsEvent (Do k access) answer) }
         ensures succeeds { 272 ≤ self.old.memory.spare → IsOk result }
         ensures ejected { self.new.ejected ≡ ejected_by self.old.block self.new.block }
     {
@@ -101,11 +189,11 @@ impl Machine {
                 Ok(Answer::Value(seen))
             }
             Access::In { port, width } => {
-                Ok(Answer::Value(u64::from(read_port(&self.block, port, width))))
+                let value = read_port(&self.block, &self.ich9, &mut self.fw_cfg, port, width);
+                Ok(Answer::Value(u64::from(value)))
             }
             Access::Out { port, width, value } => {
-                let ejected = write_port(&mut self.block, &mut self.cpus, port, width, value);
-                self.ejected = ejected;
+                self.write_port(k, port, width, value)?;
                 Ok(Answer::Quiet)
             }
             Access::CfgRead { reg } => Ok(Answer::Value(u64::from(self.locks.read(reg)))),
@@ -136,6 +224,8 @@ impl Machine {
         let cpus = Cpus::new(alloc, p)?;
         let block = Block::new(alloc, p)?;
         let locks = Locks::new(p.low_memory, p.default_smram);
+        let ich9 = Ich9::new();
+        let fw_cfg = FwCfg::new(p.features);
         locks_start_as_the_machine();
         let mut memory = Mem::new(alloc);
         store_cells(&mut memory, cells.list.0.as_slice(), p.low_memory)?;
@@ -145,6 +235,8 @@ impl Machine {
             locks,
             cpus,
             block,
+            ich9,
+            fw_cfg,
             ejected: None,
         })
     }
@@ -185,7 +277,7 @@ impl Machine {
         }
     }
 
-    /// A processor comes, and the block notes it.
+    /// A processor comes: the block notes it, and it is announced in the GPE status.
     #[tactic(auto, using(crate::proofs::Ejects::ejects))]
     fn insert(&mut self, k: u32)
         requires { can_do (length self.old.apic) self.old.cpus (Insert k) ≡ true }
@@ -195,6 +287,7 @@ impl Machine {
         self.ejected = None;
         self.cpus.insert(k);
         self.block.insert_event(k);
+        self.ich9.gpe(PROCESSOR_EVENT);
     }
 
     #[tactic(auto, using(crate::proofs::Ejects::ejects))]
@@ -205,6 +298,7 @@ impl Machine {
     {
         self.ejected = None;
         self.block.remove_event(k);
+        self.ich9.gpe(PROCESSOR_EVENT);
     }
 
     /// SMI entry. Room for what it saves is taken before the processor changes.
@@ -212,6 +306,7 @@ impl Machine {
     fn enter(&mut self, k: u32) -> Result<Answer, NoMemory>
         requires { can_do (length self.old.apic) self.old.cpus (TakeSmi k) ≡ true }
         ensures step { (p : Platform) (s : State) → IsState p self.old s → IfOk result (λ answer. IsStep p self.new s (TakeSmi k) answer) }
+        ensures fits { IfOk result (λ answer. FitsEvent (TakeSmi k) answer) }
         ensures no_memory { (p : Platform) (s : State) → IsState p self.old s → OnErr result (IsState p self.new s) }
         ensures succeeds { 272 ≤ self.old.memory.spare → IsOk result }
         ensures ejected { self.new.ejected ≡ ejected_by self.old.block self.new.block }
@@ -254,6 +349,7 @@ impl Machine {
     pub fn step(&mut self, e: &Event) -> Result<Answer, NoMemory>
         requires { can_do (length self.old.apic) self.old.cpus e.now ≡ true }
         ensures step { (p : Platform) (s : State) → IsState p self.old s → IfOk result (λ answer. IsStep p self.new s e.now answer) }
+        ensures fits { IfOk result (λ answer. FitsEvent e.now answer) }
         ensures no_memory { (p : Platform) (s : State) → IsState p self.old s → OnErr result (IsState p self.new s) }
         ensures succeeds { 272 ≤ self.old.memory.spare → IsOk result }
         ensures ejected { self.new.ejected ≡ ejected_by self.old.block self.new.block }
@@ -295,6 +391,14 @@ impl Machine {
         self.cpus.go(s, address, base);
     }
 
+    /// The SMI features that were negotiated over fw_cfg: bit 0 broadcast, bit 1 hot-plug, bit 2 hot-unplug. None while
+    /// `etc/smi/features-ok` is 0.
+    pub fn negotiated(&self) -> Option<u64>
+        ensures { result ≡ self.now.fw_cfg.negotiated }
+    {
+        self.fw_cfg.negotiated()
+    }
+
     /// The processor in a possible place.
     pub fn cpu(&self, s: u32) -> Cpu
         requires { s < length self.now.cpus }
@@ -303,17 +407,22 @@ impl Machine {
         self.cpu_or_absent(s)
     }
 
+    /// The instruction address of a processor in SMM; None outside SMM, and in a place that isn't possible.
+    pub fn address(&self, s: u32) -> Option<u32>
+        ensures { result ≡ smm_address (cpu_at self.now.cpus s) }
+    {
+        let cpu = self.cpu_or_absent(s);
+        match cpu.mode {
+            Mode::Smm(address) if cpu.present => Some(address),
+            _ => None,
+        }
+    }
+
     /// What stands at the instruction address of a processor in SMM: its handler's mark. None outside SMM.
     pub fn mark_at(&self, s: u32) -> Option<u32>
         requires { s < length self.now.cpus }
         ensures { (p : Platform) (state : State) → IsState p self.now state → result ≡ option_map (λ address. loaded state.locks true (byte_at state.writes) address 4) (smm_address (cpu_at self.now.cpus s)) }
     {
-        let cpu = self.cpu_or_absent(s);
-        match cpu.mode {
-            Mode::Smm(address) if cpu.present => {
-                Some(load(&self.memory, &self.locks, true, address, 4) as u32)
-            }
-            _ => None,
-        }
+        self.address(s).map(|address| load(&self.memory, &self.locks, true, address, 4) as u32)
     }
 }

@@ -2,7 +2,14 @@
 
 ghost use Rattle.std.specs.Prelude.{◌<◌, IsTrue, length};
 
+mod features;
+mod guest;
+mod holes;
+mod ich9;
 mod modes;
+mod ports;
+mod rows;
+mod transfers;
 
 use crate::Machine;
 use hp_image::{Cell, CellList, Cells};
@@ -102,6 +109,22 @@ fn take(rt: &impl Abort, machine: &mut Machine, step: usize, e: Event) -> Result
     Ok(machine.step(&e)?)
 }
 
+/// The value that an event's step answers. The event is enabled.
+fn value(rt: &impl Abort, machine: &mut Machine, e: Event) -> Result<u64, Fail> {
+    assert!(rt; machine.enabled(&e), "the event isn't enabled");
+    match machine.step(&e)? {
+        Answer::Value(value) => Ok(value),
+        Answer::Quiet => panic!(rt; "the step has no value"),
+    }
+}
+
+/// Makes an event's step, which answers nothing. The event is enabled.
+fn quiet(rt: &impl Abort, machine: &mut Machine, e: Event) -> Result<(), Fail> {
+    assert!(rt; machine.enabled(&e), "the event isn't enabled");
+    assert_eq!(rt; machine.step(&e)?, Answer::Quiet);
+    Ok(())
+}
+
 /// Makes the steps in order, each with the answer that it is to have.
 fn play(rt: &impl Abort, machine: &mut Machine, steps: &[(Event, Answer)]) -> Result<(), Fail> {
     for (step, (e, answer)) in steps.iter().enumerate() {
@@ -165,33 +188,6 @@ fn is_cpu(got: Cpu, want: Cpu) -> bool {
         && got.smi == want.smi
         && got.init == want.init
         && got.base == want.base
-}
-
-#[test]
-fn a_locked_area_reads_all_ones_outside_smm(rt: HostRuntime) -> Result<(), Fail> {
-    let alloc = rt.alloc();
-    let p = platform(alloc, vec![in alloc; 0]?, 1, 0x1000000, 1)?;
-    let mut machine = machine(&rt, alloc, &p)?;
-    let steps = [
-        (store(0, 4, 0x30000, 0x11223344), Answer::Quiet),
-        (cfg_write(0, 0x9c, 0x02), Answer::Quiet),
-        (cfg_read(0, 0x9c), Answer::Value(0)),
-        (cfg_write(0, 0x9c, 0xff), Answer::Quiet),
-        (cfg_read(0, 0x9c), Answer::Value(1)),
-        (swap(0, 0x30000, 0x11223344, 5), Answer::Value(0x11223344)),
-        (load(0, 8, 0x30000), Answer::Value(5)),
-        (cfg_write(0, 0x9c, 0x02), Answer::Quiet),
-        (load(0, 8, 0x30000), Answer::Value(0xffffffffffffffff)),
-        (cfg_write(0, 0x9c, 0x00), Answer::Quiet),
-        (cfg_read(0, 0x9c), Answer::Value(2)),
-        // a store and an exchange that a hole takes nothing of
-        (store(0, 1, 0x4ffff, 7), Answer::Quiet),
-        (swap(0, 0x30000, u64::MAX, 9), Answer::Value(u64::MAX)),
-        // half of it lies past the end of RAM
-        (load(0, 4, 0xfffffe), Answer::Value(0xffffffff)),
-        (load(0, 2, 0xfffffe), Answer::Value(0)),
-    ];
-    play(&rt, &mut machine, &steps)
 }
 
 #[test]

@@ -1,17 +1,18 @@
 -- The entries that the schedule makes are a run.
-use Rattle.std.proofs.Common.{◌≡◌, ℕ, zero, suc, true, ◌+◌, List, [], ◌∷◌, ◌++◌, Option, Some, None, option_and_then, IsSome, refl, sym, ap, subst, ◌∙◌, arith}
+use Rattle.std.proofs.Common.{◌≡◌, ℕ, zero, suc, true, ◌+◌, List, [], ◌∷◌, ◌++◌, replicate, Option, Some, None, option_and_then, IsSome, refl, sym, ap, subst, ◌∙◌, arith}
 use Rattle.std.proofs.lemmas.Option.{same_Some}
 use Rattle.std.proofs.lemmas.Bool.Decides.{nat_tests}
 use Rattle.hp_model.specs.declared.platforms.Platform.{Platform}
 use Rattle.hp_model.specs.declared.accesses.Answer.{Answer}
 use Rattle.hp_model.specs.declared.accesses.Answer.TheVariants.{Quiet, Value}
 use Rattle.hp_model.specs.declared.entries.Actor.{Actor}
+use Rattle.hp_model.specs.declared.entries.Actor.TheVariants as actor
 use Rattle.hp_model.specs.declared.entries.Event.{Event}
 use Rattle.hp_model.specs.declared.entries.Entry.{Entry}
 use Rattle.hp_model.specs.declared.files.File.{File}
 use Rattle.hp_model.specs.Step.{State, After, step}
 use Rattle.hp_model.specs.Runs.{same_answer, same_address, address_of, accept, run_on, run_from, run}
-use Rattle.hp_model.specs.Schedule.{Scene, Made, makes_none, both_make, made_by, event_of, entry_of, act, act_all, actors_of, turns_from, scheduled, scene_start}
+use Rattle.hp_model.specs.Schedule.{Scene, Made, makes_none, both_make, made_by, event_of, entry_of, act, act_all, actors_of, turns_from, boot_turns, booted, scheduled, scene_start}
 
 pub same_answer-refl : (a : Answer) → same_answer a a ≡ true
 same_answer-refl Quiet = refl
@@ -42,11 +43,11 @@ accept-own s a w e = rw (same_answer-refl, same_address-refl) refl
 
 IsRun-act : (p : Platform) (w : Scene) (a : Actor) → IsRun p w (act p w a)
 unfolding act run_from run_on
-IsRun-act p w a = by_step (step p w.state (event_of w a)) refl
+IsRun-act p w a = by_step (step p w.state (event_of p w a)) refl
   where
-    by_step : (n : Option After) → step p w.state (event_of w a) ≡ n → IsRun p w (made_by w a n)
+    by_step : (n : Option After) → step p w.state (event_of p w a) ≡ n → IsRun p w (made_by p w a n)
     by_step None e = record { runs = refl }
-    by_step (Some after) e = record { runs = rw (e, accept-own w.state after w (event_of w a)) refl }
+    by_step (Some after) e = record { runs = rw (e, accept-own w.state after w (event_of p w a)) refl }
 
 IsRun-both : (p : Platform) (w : Scene) (m n : Made) → IsRun p w m → IsRun p m.scene n → IsRun p w (both_make m n)
 IsRun-both p w m n first second = record { runs = run_from-append p m.entries n.entries w.state m.scene.state first.runs ∙ second.runs }
@@ -67,7 +68,17 @@ IsRun-turns f (suc n) turn w =
     IsRun-both f.platform w (act_all f.platform w (actors_of f turn)) (turns_from f n (turn + 1) (act_all f.platform w (actors_of f turn)).scene)
     (IsRun-all f.platform (actors_of f turn) w) (IsRun-turns f n (turn + 1) (act_all f.platform w (actors_of f turn)).scene)
 
--- the machine makes each entry of the schedule, one after another
+-- the machine makes each entry of the boot, one after another
+pub booted_runs : (f : File) → IsSome (run f.platform (booted f).entries)
+unfolding run booted
+booted_runs f = subst (λ (r : Option State). IsSome r) (sym (IsRun-all f.platform (replicate boot_turns (actor.Cpu 0)) (scene_start f)).runs) refl
+
+-- and each of the schedule, one after another
 pub scheduled_runs : (f : File) → IsSome (run f.platform (scheduled f))
-unfolding run scheduled
-scheduled_runs f = subst (λ (r : Option State). IsSome r) (sym (IsRun-turns f f.platform.turns 0 (scene_start f)).runs) refl
+unfolding run scheduled booted
+scheduled_runs f =
+    let boot = IsRun-all f.platform (replicate boot_turns (actor.Cpu 0)) (scene_start f) in
+    let all = IsRun-both f.platform (scene_start f) (booted f) (turns_from f f.platform.turns 0 (booted f).scene) boot (IsRun-turns f f.platform.turns 0 (booted f).scene) in
+    subst (λ (r : Option State). IsSome r) (sym all.runs) refl
+
+pub ruleset runs = (scheduled_runs, booted_runs)

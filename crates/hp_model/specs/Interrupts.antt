@@ -1,12 +1,12 @@
 -- Interrupt commands (Intel SDM vol. 3, local APIC: interrupt command register) and whom they hit.
-use Rattle.std.specs.Prelude.{ℕ, Bool, not, ◌==◌, ◌/◌, ◌%◌, List, [], ◌∷◌, Option, Some, None, option_map, option_and_then, if◌then◌else◌}
+use Rattle.std.specs.Prelude.{ℕ, Bool, true, false, not, ◌==◌, ◌/◌, ◌%◌, List, [], ◌∷◌, Option, Some, None, option_map, option_and_then, slice_set, if◌then◌else◌}
 use Rattle.hp_model.specs.declared.processors.Cpu.{Cpu}
 use Rattle.hp_model.specs.declared.processors.Kind.{Kind}
 use Rattle.hp_model.specs.declared.processors.Kind.TheVariants.{Smi, Init, Start}
 use Rattle.hp_model.specs.declared.processors.Target.{Target}
 use Rattle.hp_model.specs.declared.processors.Target.TheVariants.{Id, Others}
 use Rattle.hp_model.specs.declared.processors.Ipi.{Ipi}
-use Rattle.hp_model.specs.Cpu.{hit}
+use Rattle.hp_model.specs.Cpu.{hit, cpu_at}
 
 -- delivery mode, bits 10:8 of the low half: 2 SMI, 5 INIT, 6 start-up with its vector in bits 7:0; others do nothing (own rule)
 abbrev pub kind_of : ℕ → Option Kind
@@ -42,3 +42,8 @@ hit_each aims kind (id ∷ ids) (c ∷ cs) = (if aims id then hit kind c else c)
 abbrev pub sent : Option Ipi → ℕ → List ℕ → List Cpu → List Cpu
 sent None sender ids cs = cs
 sent (Some ipi) sender ids cs = hit_each (is_target ipi.to sender) ipi.kind ids cs
+
+-- an SMI that a write of the SMI command port raises (own rule): on all present processors, or on the writer k alone
+abbrev pub smi_raised : Bool → ℕ → List ℕ → List Cpu → List Cpu
+smi_raised true k ids cs = hit_each (λ id. true) Smi ids cs
+smi_raised false k ids cs = slice_set cs k (hit Smi (cpu_at cs k))

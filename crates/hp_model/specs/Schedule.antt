@@ -1,5 +1,5 @@
 -- The schedule of `run` (own rules): whose turn it is, and what it does.
-use Rattle.std.specs.Prelude.{ℕ, zero, suc, Bool, ◌&&◌, ◌==◌, nat_le, ◌+◌, ◌%◌, List, [], ◌∷◌, ◌++◌, map, filter, Option, Some, None, slice_index_or, slice_set, if◌then◌else◌}
+use Rattle.std.specs.Prelude.{ℕ, zero, suc, Bool, ◌&&◌, ◌==◌, nat_le, ◌+◌, ◌%◌, List, [], ◌∷◌, ◌++◌, replicate, map, filter, Option, Some, None, slice_index_or, slice_set, if◌then◌else◌}
 use Rattle.std.specs.List.{list_any}
 use Rattle.hp_model.specs.declared.platforms.Platform.{Platform}
 use Rattle.hp_model.specs.declared.accesses.Access.{Access}
@@ -16,12 +16,14 @@ use Rattle.hp_model.specs.declared.files.File.{File}
 use Rattle.hp_model.specs.Platform.{count_of}
 use Rattle.hp_model.specs.declared.processors.Cpu.{Cpu}
 use Rattle.hp_model.specs.Cpu.{is_free, may_take_smi, may_take_init}
+use Rattle.hp_model.specs.declared.outcomes.BootFact.{BootFact}
 use Rattle.hp_model.specs.Block.{ejected_by}
+use Rattle.hp_model.specs.Boot.{Stage, Boots, Refused, Handed, is_handed, fact_of, boot_access}
 use Rattle.hp_model.specs.Step.{State, After, at, step, start}
 use Rattle.hp_model.specs.Runs.{address_of}
 
 -- what a processor still says: the steps of its script that are left, and halts after them.
--- The other kinds aren't built yet: their files are refused, or they halt.
+-- Runs have no other voices yet: files with other kinds are refused, and a pen halts. `Voices` has those to come.
 pub data Voice : Type 0 where
   script : List Access → Voice
 
@@ -64,17 +66,27 @@ makes_none w = record { entries = []; scene = w }
 abbrev pub cpu_event : ℕ → Cpu → Access → Event
 cpu_event k c access = if may_take_smi c then event.TakeSmi k else if may_take_init c then event.TakeInit k else event.Do k access
 
--- what an actor would do: the host its event, and a processor its own
-abbrev pub event_of : Scene → Actor → Event
-event_of w (actor.Insert k) = event.Insert k
-event_of w (actor.Remove k) = event.Remove k
-event_of w (actor.Cpu k) = cpu_event k (at w.state k) (says (voice_at w k)).access
+-- before the hand-over it is the boot's next access
+abbrev pub stage_event : Platform → Stage → ℕ → Event → Event
+stage_event p (Boots done supported) k own = event.Do k (boot_access p.tseg_mib supported done)
+stage_event p (Refused fact) k own = own
+stage_event p (Handed requested) k own = own
 
--- the voice that was asked keeps the rest; one is asked where its processor is running and nothing is latched
+-- what an actor would do: the host its event, and a processor its own
+abbrev pub event_of : Platform → Scene → Actor → Event
+event_of p w (actor.Insert k) = event.Insert k
+event_of p w (actor.Remove k) = event.Remove k
+event_of p w (actor.Cpu k) = stage_event p w.state.stage k (cpu_event k (at w.state k) (says (voice_at w k)).access)
+
+-- a voice is asked after the hand-over, where its processor is running and nothing is latched
+abbrev pub is_asked : Scene → ℕ → Bool
+is_asked w k = is_handed w.state.stage && is_free (at w.state k)
+
+-- the voice that was asked keeps the rest
 abbrev pub voices_asked : Scene → Actor → List Voice
 voices_asked w (actor.Insert k) = w.voices
 voices_asked w (actor.Remove k) = w.voices
-voices_asked w (actor.Cpu k) = if is_free (at w.state k) then slice_set w.voices k (says (voice_at w k)).voice else w.voices
+voices_asked w (actor.Cpu k) = if is_asked w k then slice_set w.voices k (says (voice_at w k)).voice else w.voices
 
 -- the voice of an ejected processor says halts alone
 abbrev pub without_voice : Option ℕ → List Voice → List Voice
@@ -88,12 +100,12 @@ abbrev pub entry_of : Scene → Event → After → Entry
 entry_of w e after = record { event = e; at = address_of w.state e; answer = after.answer }
 
 -- an actor's event makes an entry where the machine has it as a step, and else nothing
-abbrev pub made_by : Scene → Actor → Option After → Made
-made_by w a None = makes_none w
-made_by w a (Some after) = record { entries = entry_of w (event_of w a) after ∷ []; scene = record { state = after.state; voices = voices_after w a after.state } }
+abbrev pub made_by : Platform → Scene → Actor → Option After → Made
+made_by p w a None = makes_none w
+made_by p w a (Some after) = record { entries = entry_of w (event_of p w a) after ∷ []; scene = record { state = after.state; voices = voices_after w a after.state } }
 
 unfoldable pub act : Platform → Scene → Actor → Made
-act p w a = made_by w a (step p w.state (event_of w a))
+act p w a = made_by p w a (step p w.state (event_of p w a))
 
 -- one part of the schedule and then another
 abbrev pub both_make : Made → Made → Made
@@ -123,6 +135,17 @@ turns_from f zero turn w = makes_none w
 turns_from f (suc n) turn w =
     let made = act_all f.platform w (actors_of f turn) in both_make made (turns_from f n (turn + 1) made.scene)
 
--- the entries of `run`: those of turns 0 to the platform's number of turns, less one
+-- the boot sequence comes first: 27 turns of processor 0
+abbrev pub boot_turns : ℕ
+boot_turns = 27
+
+unfoldable pub booted : File → Made
+booted f = act_all f.platform (scene_start f) (replicate boot_turns (actor.Cpu 0))
+
+-- the value that refused the boot, if one did
+unfoldable pub boot_fact : File → Option BootFact
+boot_fact f = fact_of (booted f).scene.state.stage
+
+-- the entries of `run`: those of the boot, and those of turns 0 to the platform's number of turns, less one
 unfoldable pub scheduled : File → List Entry
-scheduled f = (turns_from f f.platform.turns 0 (scene_start f)).entries
+scheduled f = (both_make (booted f) (turns_from f f.platform.turns 0 (booted f).scene)).entries

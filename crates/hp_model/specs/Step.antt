@@ -1,5 +1,6 @@
--- One step of the machine: a table of events over guards and effects. The ports of ICH9 and of fw_cfg, the boot sequence and the handlers aren't built yet.
-use Rattle.std.specs.Prelude.{ℕ, Bool, true, false, not, ◌&&◌, ◌||◌, ◌==◌, nat_lt, nat_le, ◌-◌, ◌^◌, List, [], Option, Some, None, slice_index_or, slice_set, if◌then◌else◌}
+-- One step of the machine: a table of events over guards and effects. The handlers in SMM aren't built yet.
+use Rattle.std.specs.Prelude.{ℕ, Bool, true, false, not, ◌&&◌, ◌||◌, ◌==◌, nat_lt, nat_le, ◌-◌, ◌^◌, List, [], ◌∷◌, Option, Some, None, slice_index_or, slice_set, if◌then◌else◌}
+use Rattle.std.specs.Str.{bytes_eq}
 use Rattle.hp_model.specs.declared.platforms.Platform.{Platform}
 use Rattle.hp_model.specs.declared.processors.Cpu.{Cpu}
 use Rattle.hp_model.specs.declared.accesses.Access.{Access}
@@ -13,7 +14,11 @@ use Rattle.hp_model.specs.Memory.{Write, byte_at}
 use Rattle.hp_model.specs.View.{Locks, locks_start, lock_read, lock_write, loaded, stored, swapped}
 use Rattle.hp_model.specs.Cpu.{absent, inserted, cpus_start, cpu_at, is_free, is_in_smm, halt, may_take_smi, take_smi, may_take_init, take_init, resumed}
 use Rattle.hp_model.specs.Block.{Block, block_start, block_read, block_write, ejected_by, with_insert, with_removal}
-use Rattle.hp_model.specs.Interrupts.{decoded, sent}
+use Rattle.hp_model.specs.Interrupts.{decoded, sent, smi_raised}
+use Rattle.hp_model.specs.Ich9.{Ich9, ich9_start, is_at, ich9_read, ich9_write, raises_smi, with_event, processor_event}
+use Rattle.hp_model.specs.FwCfg.{FwCfg, fw_cfg_start, selected, advanced, next_byte, with_high, dma_address, without_high, has_broadcast}
+use Rattle.hp_model.specs.Transfers.{Transferred, transfer}
+use Rattle.hp_model.specs.Boot.{Stage, Boots, Refused, Handed, boot_start, boot_access, stage_after}
 use Rattle.hp_model.specs.SaveArea.{saved, saved_smbase, saved_rip}
 
 -- the machine; its parts that aren't built yet join this record
@@ -22,6 +27,9 @@ pub record State : Type 0 where
   pub writes : List Write
   pub locks : Locks
   pub block : Block
+  pub ich9 : Ich9
+  pub fw_cfg : FwCfg
+  pub stage : Stage
 
 -- what a step answers, and the state after it
 pub record After : Type 0 where
@@ -30,7 +38,16 @@ pub record After : Type 0 where
 
 -- the machine before its first step
 abbrev pub start : Platform → State
-start p = record { cpus = cpus_start p; writes = []; locks = locks_start p; block = block_start p }
+start p =
+    record {
+      cpus = cpus_start p;
+      writes = [];
+      locks = locks_start p;
+      block = block_start p;
+      ich9 = ich9_start;
+      fw_cfg = fw_cfg_start p.features;
+      stage = boot_start;
+    }
 
 abbrev pub at : State → ℕ → Cpu
 at s k = cpu_at s.cpus k
@@ -95,15 +112,50 @@ can_do count cs (Tell o) = stands_in_smm (cpu_at cs 0)
 abbrev pub is_enabled : Platform → State → Event → Bool
 is_enabled p s e = can_do (count_of p) s.cpus e
 
--- in SMM a processor does what its handler wants; no handler is built yet
-abbrev pub is_wanted : State → Event → Bool
-is_wanted s (Insert k) = true
-is_wanted s (Remove k) = true
-is_wanted s (Do k a) = not (is_in_smm (at s k).mode)
-is_wanted s (TakeSmi k) = true
-is_wanted s (TakeInit k) = true
-is_wanted s (Resume k) = false
-is_wanted s (Tell o) = false
+-- an access as numbers, its kind first: two accesses are one where these are equal
+abbrev pub numbers_of : Access → List ℕ
+numbers_of (Load addr width) = 0 ∷ addr ∷ width ∷ []
+numbers_of (Store addr width value) = 1 ∷ addr ∷ width ∷ value ∷ []
+numbers_of (Swap addr expected desired) = 2 ∷ addr ∷ expected ∷ desired ∷ []
+numbers_of (In port width) = 3 ∷ port ∷ width ∷ []
+numbers_of (Out port width value) = 4 ∷ port ∷ width ∷ value ∷ []
+numbers_of (CfgRead reg) = 5 ∷ reg ∷ []
+numbers_of (CfgWrite reg value) = 6 ∷ reg ∷ value ∷ []
+numbers_of (Icr high low) = 7 ∷ high ∷ low ∷ []
+numbers_of Halt = 8 ∷ []
+numbers_of Nop = 9 ∷ []
+
+unfoldable pub same_access : Access → Access → Bool
+same_access a b = bytes_eq (numbers_of a) (numbers_of b)
+
+-- before the hand-over only the boot sequence steps, on processor 0
+abbrev pub is_boots : ℕ → ℕ → ℕ → Event → Bool
+is_boots mib done supported (Insert k) = false
+is_boots mib done supported (Remove k) = false
+is_boots mib done supported (Do k a) = (k == 0) && same_access a (boot_access mib supported done)
+is_boots mib done supported (TakeSmi k) = false
+is_boots mib done supported (TakeInit k) = false
+is_boots mib done supported (Resume k) = false
+is_boots mib done supported (Tell o) = false
+
+-- after it, in SMM, a processor does what its handler wants; no handler is built yet
+abbrev pub is_handlers : State → Event → Bool
+is_handlers s (Insert k) = true
+is_handlers s (Remove k) = true
+is_handlers s (Do k a) = not (is_in_smm (at s k).mode)
+is_handlers s (TakeSmi k) = true
+is_handlers s (TakeInit k) = true
+is_handlers s (Resume k) = false
+is_handlers s (Tell o) = false
+
+-- nothing is wanted after a refusal
+abbrev pub wanted_in : Platform → State → Stage → Event → Bool
+wanted_in p s (Boots done supported) e = is_boots p.tseg_mib done supported e
+wanted_in p s (Refused fact) e = false
+wanted_in p s (Handed requested) e = is_handlers s e
+
+abbrev pub is_wanted : Platform → State → Event → Bool
+is_wanted p s e = wanted_in p s s.stage e
 
 -- an ejected processor is absent (own rule)
 abbrev pub without_ejected : Option ℕ → List Cpu → List Cpu
@@ -118,15 +170,57 @@ write_block offset width value s =
       cpus = without_ejected (ejected_by s.block (block_write s.block offset width value)) s.cpus;
     }
 
--- the register block's ports, 0cd8 to 0ce3; ports that no rule names read 0 and ignore writes (own rule)
+-- the register block's ports, 0cd8 to 0ce3
 abbrev pub is_on_block : ℕ → Bool
 is_on_block port = nat_le 0xcd8 port && nat_lt port 0xce4
 
-abbrev pub read_port : ℕ → ℕ → State → ℕ
-read_port port width s = if is_on_block port then block_read s.block (port - 0xcd8) width else 0
+-- fw_cfg's ports: the selector (2 bytes), the data (1), and the halves of the DMA address (4 each)
+abbrev pub is_fw_cfg_selector : ℕ → ℕ → Bool
+is_fw_cfg_selector port width = is_at port width 0x510 2
 
-abbrev pub write_port : ℕ → ℕ → ℕ → State → State
-write_port port width value s = if is_on_block port then write_block (port - 0xcd8) width value s else s
+abbrev pub is_fw_cfg_data : ℕ → ℕ → Bool
+is_fw_cfg_data port width = is_at port width 0x511 1
+
+abbrev pub is_dma_high : ℕ → ℕ → Bool
+is_dma_high port width = is_at port width 0x514 4
+
+abbrev pub is_dma_low : ℕ → ℕ → Bool
+is_dma_low port width = is_at port width 0x518 4
+
+-- ports that no rule names read 0, and so do fw_cfg's but for its data (own rules)
+abbrev pub read_port : ℕ → ℕ → State → ℕ
+read_port port width s =
+    if is_on_block port then block_read s.block (port - 0xcd8) width
+    else if is_fw_cfg_data port width then next_byte s.fw_cfg
+    else ich9_read s.ich9 port width
+
+-- a read of fw_cfg's data moves its offset
+abbrev pub after_read : ℕ → ℕ → State → State
+after_read port width s = if is_fw_cfg_data port width then record s { fw_cfg = advanced 1 s.fw_cfg } else s
+
+-- a write of the DMA address's low half is one transfer (own rule: it is part of this step)
+abbrev pub with_transfer : Transferred → State → State
+with_transfer t s = record s { fw_cfg = t.fw_cfg; writes = t.writes }
+
+abbrev pub start_transfer : ℕ → State → State
+start_transfer value s = with_transfer (transfer s.locks (dma_address value s.fw_cfg) (without_high s.fw_cfg) s.writes) s
+
+-- a write of the SMI command may raise an SMI: on all present processors where broadcast was negotiated, else on the writer
+abbrev pub write_ich9 : Platform → ℕ → ℕ → ℕ → ℕ → State → State
+write_ich9 p k port width value s =
+    record s {
+      ich9 = ich9_write s.ich9 port width value;
+      cpus = (if raises_smi s.ich9 port width then smi_raised (has_broadcast s.fw_cfg.negotiated) k p.apic s.cpus else s.cpus);
+    }
+
+-- a write of processor k; ports that no rule names ignore it (own rule)
+abbrev pub write_port : Platform → ℕ → ℕ → ℕ → ℕ → State → State
+write_port p k port width value s =
+    if is_on_block port then write_block (port - 0xcd8) width value s
+    else if is_fw_cfg_selector port width then record s { fw_cfg = selected value s.fw_cfg }
+    else if is_dma_high port width then record s { fw_cfg = with_high value s.fw_cfg }
+    else if is_dma_low port width then start_transfer value s
+    else write_ich9 p k port width value s
 
 -- what an access is answered
 abbrev pub answer_to : Bool → Access → State → Answer
@@ -146,20 +240,20 @@ abbrev pub access_effect : Platform → ℕ → Bool → Access → State → St
 access_effect p k in_smm (Load addr width) s = s
 access_effect p k in_smm (Store addr width value) s = record s { writes = stored s.locks in_smm addr width value s.writes }
 access_effect p k in_smm (Swap addr expected desired) s = record s { writes = swapped s.locks in_smm addr expected desired s.writes }
-access_effect p k in_smm (In port width) s = s
-access_effect p k in_smm (Out port width value) s = write_port port width value s
+access_effect p k in_smm (In port width) s = after_read port width s
+access_effect p k in_smm (Out port width value) s = write_port p k port width value s
 access_effect p k in_smm (CfgRead reg) s = s
 access_effect p k in_smm (CfgWrite reg value) s = record s { locks = lock_write s.locks reg value }
 access_effect p k in_smm (Icr high low) s = record s { cpus = sent (decoded high low) (apic_of p k) p.apic s.cpus }
 access_effect p k in_smm Halt s = set_cpu k (halt (at s k)) s
 access_effect p k in_smm Nop s = s
 
--- host events: a processor comes, and its removal is requested
+-- host events: a processor comes, and its removal is requested; both are announced in the GPE status
 abbrev pub insert : ℕ → State → State
-insert k s = record s { cpus = slice_set s.cpus k inserted; block = with_insert s.block k }
+insert k s = record s { cpus = slice_set s.cpus k inserted; block = with_insert s.block k; ich9 = with_event processor_event s.ich9 }
 
 abbrev pub request_removal : ℕ → State → State
-request_removal k s = record s { block = with_removal s.block k }
+request_removal k s = record s { block = with_removal s.block k; ich9 = with_event processor_event s.ich9 }
 
 -- SMI entry, with its three fields
 abbrev pub enter_smm : ℕ → State → State
@@ -187,10 +281,10 @@ effect_of p s (TakeInit k) = set_cpu k (take_init (at s k)) s
 effect_of p s (Resume k) = leave_smm k s
 effect_of p s (Tell o) = s
 
--- an event's answer and the state after it
+-- an event's answer and the state after it, where the boot may have gone on
 abbrev pub after : Platform → State → Event → After
-after p s e = record { answer = answer_of s e; state = effect_of p s e }
+after p s e = record { answer = answer_of s e; state = record (effect_of p s e) { stage = stage_after (answer_of s e) s.stage } }
 
--- nothing where the event isn't enabled, or isn't what a handler wants
+-- nothing where the event isn't enabled, or isn't what the boot sequence or a handler wants
 unfoldable pub step : Platform → State → Event → Option After
-step p s e = if is_enabled p s e && is_wanted s e then Some (after p s e) else None
+step p s e = if is_enabled p s e && is_wanted p s e then Some (after p s e) else None

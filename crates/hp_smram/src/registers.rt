@@ -117,6 +117,13 @@ impl Locks {
         }
     }
 
+    /// The first address past RAM.
+    pub fn low_memory(&self) -> u32
+        ensures { result ≡ self.now.low_memory }
+    {
+        self.low_memory
+    }
+
     /// Reads a byte of the controller's configuration space.
     pub fn read(&self, reg: u8) -> u8
         ensures { result ≡ lock_read self.now reg }

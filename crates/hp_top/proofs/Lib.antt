@@ -1,4 +1,5 @@
 pub mod Acting
+pub mod Completing
 pub mod Rising
 pub mod Schedule
 pub mod Sending

@@ -1,17 +1,19 @@
 -- A scheduled run, turn after turn, and the parts of its text.
-use Rattle.std.proofs.Common.{◌≡◌, ℕ, zero, suc, ◌+◌, ◌-◌, ◌<◌, List, [], ◌∷◌, ◌++◌, length, Option, refl, sym, ◌∙◌, ap, subst, arith}
+use Rattle.std.proofs.Common.{◌≡◌, ℕ, zero, suc, ◌+◌, ◌-◌, ◌<◌, List, [], ◌∷◌, ◌++◌, length, Option, Some, None, refl, sym, ◌∙◌, ap, subst, append_assoc, length-append, arith}
 use Rattle.std.proofs.lemmas.List.{append-nil}
 use Rattle.std.specs.Io.KnownBytes.{Appends}
 use Rattle.hp_model.specs.declared.entries.Actor.{Actor}
 use Rattle.hp_model.specs.declared.entries.Entry.{Entry}
 use Rattle.hp_model.specs.declared.files.File.{File}
-use Rattle.hp_model.specs.Schedule.{Scene, Made, both_make, act, act_all, hosts_of, cpus_of, actors_of, turns_from, scheduled, scene_start}
+use Rattle.hp_model.specs.declared.outcomes.BootFact.{BootFact}
+use Rattle.hp_model.specs.Schedule.{Scene, Made, both_make, act, act_all, hosts_of, cpus_of, actors_of, turns_from, scene_start, boot_turns, booted, boot_fact, scheduled}
+use Rattle.hp_model.specs.Boot.{fact_of}
 use Rattle.hp_model.specs.Text.{lines_text, end_text, head_text}
 use Rattle.hp_top.proofs.Sending.{sent_none, sent_more, sent_all, front_part}
-use Rattle.hp_top.proofs.Turning.{both-assoc, act_all-append, act_all-one, sends_both, sends_empty, front_both, front_more}
+use Rattle.hp_top.proofs.Turning.{lines_text-append, both-assoc, act_all-append, act_all-one, sends_both, sends_empty, front_both, front_more}
 use Rattle.hp_top.specs.Scenes.{Seen, Shows}
 use Rattle.hp_top.specs.Sent.{IsSent, HoldsFront}
-use Rattle.hp_top.specs.Turns.{Sends, run_text}
+use Rattle.hp_top.specs.Turns.{Sends, run_text, boot_text, text_by, output, boot_left, turns_text}
 
 module _ (f : File) (turn : ℕ) (w : Scene) (hosts : List Actor) (same : hosts ≡ hosts_of f turn) where
   stalled : cpus_of f turn ≡ [] → hosts ≡ actors_of f turn
@@ -111,41 +113,106 @@ module _ (f : File) (turn : ℕ) (w : Scene) (mid : Seen) (made : ℕ) (a b c : 
       (front_more (act_all f.platform (turns_from f turn 0 w).scene (actors_of f turn))
       (turns_from f (all - (turn + 1)) (turn + 1) (act_all f.platform (turns_from f turn 0 w).scene (actors_of f turn)).scene) b c (next (turns_from f turn 0 w).scene first.scene))))
 
-module _ (f : File) where
-  -- the whole text: header, the lines of all turns, end line
-  run_text-parts : run_text f ≡ head_text f.platform ++ (lines_text (turns_from f f.platform.turns 0 (scene_start f)).entries ++ end_text (length (turns_from f f.platform.turns 0 (scene_start f)).entries))
-  unfolding run_text scheduled
-  run_text-parts = refl
+-- the boot is its turns
+pub booted-is : (f : File) → booted f ≡ act_all f.platform (scene_start f) (boot_left boot_turns)
+unfolding booted boot_left
+booted-is f = refl
 
-  module _ (es : List Entry) (all : es ≡ (turns_from f f.platform.turns 0 (scene_start f)).entries) where
-    parts : run_text f ≡ head_text f.platform ++ (lines_text es ++ end_text (length es))
-    parts = run_text-parts ∙ ap (λ (xs : List Entry). head_text f.platform ++ (lines_text xs ++ end_text (length xs))) (sym all)
+pub sends_boot : (f : File) (seen : Seen) (made : ℕ) (a b : Option (List ℕ)) →
+    Sends f.platform seen (act_all f.platform (scene_start f) (boot_left boot_turns)) made a b → Sends f.platform seen (booted f) made a b
+sends_boot f seen made a b sends = subst (λ (m : Made). Sends f.platform seen m made a b) (sym (booted-is f)) sends
 
-    module _ (a b : Option (List ℕ)) where
-      -- the header was sent
-      head_sent : Appends a b (head_text f.platform) → IsSent a b (lines_text es ++ end_text (length es)) (run_text f)
-      head_sent head = sent_more a a b (head_text f.platform) _ (run_text f) (subst (λ (t : List ℕ). IsSent a a t (run_text f)) parts (sent_none a (run_text f))) head
+-- the scene after it shows what refused it
+pub boot_fact-is : (f : File) (seen : Seen) (o : Option BootFact) → Shows f.platform seen (booted f).scene → o ≡ fact_of seen.boot.stage → o ≡ boot_fact f
+unfolding boot_fact
+boot_fact-is f seen o shows is = is ∙ ap fact_of shows.stage
 
-      pub head_front : HoldsFront a b (head_text f.platform) → HoldsFront a b (run_text f)
-      head_front part =
-          front_part a a b (head_text f.platform) (lines_text es ++ end_text (length es)) (run_text f)
-          (subst (λ (t : List ℕ). IsSent a a t (run_text f)) parts (sent_none a (run_text f))) part
+-- what is written: the header, the lines of the boot, and what follows them
+abbrev pub after_boot : Option BootFact → File → List ℕ
+after_boot None f = turns_text (length (booted f).entries) (turns_from f f.platform.turns 0 (booted f).scene)
+after_boot (Some fact) f = []
 
-      module _ (c : Option (List ℕ)) (head : Appends a b (head_text f.platform)) where
-        pub lines_front : HoldsFront b c (lines_text es) → HoldsFront a c (run_text f)
-        lines_front part = front_part a b c (lines_text es) (end_text (length es)) (run_text f) (head_sent head) part
+pub turns-after : (f : File) (made : ℕ) → length (booted f).entries ≡ made → turns_text made (turns_from f f.platform.turns 0 (booted f).scene) ≡ after_boot None f
+turns-after f made count = ap (λ (n : ℕ). turns_text n (turns_from f f.platform.turns 0 (booted f).scene)) (sym count)
 
-        -- the lines were sent too
-        lines_sent : Appends b c (lines_text es) → IsSent a c (end_text (length es) ++ []) (run_text f)
-        lines_sent lines =
-            subst (λ (t : List ℕ). IsSent a c t (run_text f)) (sym (append-nil (end_text (length es))))
-            (sent_more a b c (lines_text es) (end_text (length es)) (run_text f) (head_sent head) lines)
+run_parts : (f : File) → run_text f ≡ head_text f.platform ++ (lines_text (booted f).entries ++ after_boot None f)
+unfolding run_text scheduled
+run_parts f =
+    ap (λ (t : List ℕ). head_text f.platform ++ t)
+    (ap (λ (t : List ℕ). t ++ end_text (length (es ++ gs))) (lines_text-append es gs)
+    ∙ append_assoc (lines_text es) (lines_text gs) (end_text (length (es ++ gs)))
+    ∙ ap (λ (n : ℕ). lines_text es ++ (lines_text gs ++ end_text n)) (length-append es gs))
+  where
+    es : List Entry
+    es = (booted f).entries
 
-        module _ (d : Option (List ℕ)) (made : ℕ) (count : length es ≡ made) (lines : Appends b c (lines_text es)) where
-          pub end_front : HoldsFront c d (end_text made) → HoldsFront a d (run_text f)
-          end_front part = front_part a c d (end_text (length es)) [] (run_text f) (lines_sent lines) (subst (λ n. HoldsFront c d (end_text n)) (sym count) part)
+    gs : List Entry
+    gs = (turns_from f f.platform.turns 0 (booted f).scene).entries
 
-          pub all_sent : Appends c d (end_text made) → Appends a d (run_text f)
-          all_sent end =
-              sent_all a d [] (run_text f)
-              (sent_more a c d (end_text (length es)) [] (run_text f) (lines_sent lines) (subst (λ n. Appends c d (end_text n)) (sym count) end)) refl
+boot_parts : (f : File) → boot_text f ≡ head_text f.platform ++ (lines_text (booted f).entries ++ [])
+unfolding boot_text
+boot_parts f = ap (λ (t : List ℕ). head_text f.platform ++ t) (sym (append-nil (lines_text (booted f).entries)))
+
+output_parts : (f : File) → output f ≡ head_text f.platform ++ (lines_text (booted f).entries ++ after_boot (boot_fact f) f)
+unfolding output
+output_parts f = by (boot_fact f)
+  where
+    by : (o : Option BootFact) → text_by o f ≡ head_text f.platform ++ (lines_text (booted f).entries ++ after_boot o f)
+    by None = run_parts f
+    by (Some fact) = boot_parts f
+
+module _ (f : File) (a b : Option (List ℕ)) where
+  -- the header was sent
+  head_sent : Appends a b (head_text f.platform) → IsSent a b (lines_text (booted f).entries ++ after_boot (boot_fact f) f) (output f)
+  head_sent head =
+      sent_more a a b (head_text f.platform) (lines_text (booted f).entries ++ after_boot (boot_fact f) f) (output f)
+      (subst (λ (t : List ℕ). IsSent a a t (output f)) (output_parts f) (sent_none a (output f))) head
+
+  pub head_front : HoldsFront a b (head_text f.platform) → HoldsFront a b (output f)
+  head_front part =
+      front_part a a b (head_text f.platform) (lines_text (booted f).entries ++ after_boot (boot_fact f) f) (output f)
+      (subst (λ (t : List ℕ). IsSent a a t (output f)) (output_parts f) (sent_none a (output f))) part
+
+  module _ (c : Option (List ℕ)) (head : Appends a b (head_text f.platform)) where
+    pub boot_front : HoldsFront b c (lines_text (booted f).entries) → HoldsFront a c (output f)
+    boot_front part = front_part a b c (lines_text (booted f).entries) (after_boot (boot_fact f) f) (output f) (head_sent head) part
+
+    module _ (lines : Appends b c (lines_text (booted f).entries)) where
+      -- the boot's lines were sent too
+      boot_sent : IsSent a c (after_boot (boot_fact f) f) (output f)
+      boot_sent = sent_more a b c (lines_text (booted f).entries) (after_boot (boot_fact f) f) (output f) (head_sent head) lines
+
+      -- that is all where the boot was refused
+      pub refused_sent : (fact : BootFact) → Some fact ≡ boot_fact f → Appends a c (output f)
+      refused_sent fact is = sent_all a c (after_boot (boot_fact f) f) (output f) boot_sent (ap (λ (o : Option BootFact). after_boot o f) (sym is))
+
+      module _ (d : Option (List ℕ)) (rest : List ℕ) (handed : None ≡ boot_fact f) (is : rest ≡ after_boot None f) where
+        rest-is : rest ≡ after_boot (boot_fact f) f
+        rest-is = is ∙ ap (λ (o : Option BootFact). after_boot o f) handed
+
+        rest_sent : IsSent a c (rest ++ []) (output f)
+        rest_sent = subst (λ (t : List ℕ). IsSent a c t (output f)) (sym rest-is ∙ sym (append-nil rest)) boot_sent
+
+        pub turns_front_sent : HoldsFront c d rest → HoldsFront a d (output f)
+        turns_front_sent part = front_part a c d rest [] (output f) rest_sent part
+
+        pub turns_sent : Appends c d rest → Appends a d (output f)
+        turns_sent all = sent_all a d [] (output f) (sent_more a c d rest [] (output f) rest_sent all) refl
+
+-- the lines of the turns, and then the end line
+module _ (m : Made) (booted : ℕ) (a b : Option (List ℕ)) where
+  pub turns_lines_front : HoldsFront a b (lines_text m.entries) → HoldsFront a b (turns_text booted m)
+  turns_lines_front part =
+      front_part a a b (lines_text m.entries) (end_text (booted + length m.entries)) (turns_text booted m) (sent_none a (turns_text booted m)) part
+
+  module _ (made : ℕ) (c : Option (List ℕ)) (count : length m.entries ≡ made) (lines : Appends a b (lines_text m.entries)) where
+    end_next : IsSent a b (end_text (booted + made) ++ []) (turns_text booted m)
+    end_next =
+        subst (λ (t : List ℕ). IsSent a b t (turns_text booted m)) (ap (λ (n : ℕ). end_text (booted + n)) count ∙ sym (append-nil (end_text (booted + made))))
+        (sent_more a a b (lines_text m.entries) (end_text (booted + length m.entries)) (turns_text booted m) (sent_none a (turns_text booted m)) lines)
+
+    pub end_front : HoldsFront b c (end_text (booted + made)) → HoldsFront a c (turns_text booted m)
+    end_front part = front_part a b c (end_text (booted + made)) [] (turns_text booted m) end_next part
+
+    pub end_sent : Appends b c (end_text (booted + made)) → Appends a c (turns_text booted m)
+    end_sent end = sent_all a c [] (turns_text booted m) (sent_more a b c (end_text (booted + made)) [] (turns_text booted m) end_next end) refl

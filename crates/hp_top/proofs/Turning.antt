@@ -1,19 +1,20 @@
 -- The parts of a scheduled run, one after another.
-use Rattle.std.proofs.Common.{◌≡◌, ℕ, ◌+◌, List, [], ◌∷◌, ◌++◌, length, Option, Some, None, refl, sym, ◌∙◌, ap, subst, append_assoc, length-append, eq-eqb, ◌≢◌, arith}
+use Rattle.std.proofs.Common.{◌≡◌, ℕ, suc, ◌+◌, ◌-◌, ◌<◌, ◌≤◌, List, [], ◌∷◌, ◌++◌, length, Option, Some, None, refl, sym, ◌∙◌, ap, subst, append_assoc, length-append, eq-eqb, ◌≢◌, arith}
 use Rattle.std.proofs.lemmas.Bool.{ne_eqb}
 use Rattle.std.proofs.lemmas.List.{append-nil}
 use Rattle.std.specs.Io.KnownBytes.{Appends}
 use Rattle.std.proofs.KnownBytes.{Appends-nil, Appends-trans}
 use Rattle.hp_model.specs.declared.platforms.Platform.{Platform}
 use Rattle.hp_model.specs.declared.entries.Actor.{Actor}
+use Rattle.hp_model.specs.declared.entries.Actor.TheVariants.{Cpu}
 use Rattle.hp_model.specs.declared.files.HostEvent.{HostEvent}
 use Rattle.hp_model.specs.declared.entries.Entry.{Entry}
-use Rattle.hp_model.specs.Schedule.{Scene, Made, both_make, act, act_all}
+use Rattle.hp_model.specs.Schedule.{Scene, Made, both_make, boot_turns, act, act_all}
 use Rattle.hp_model.specs.Text.{line_text, lines_text}
 use Rattle.hp_top.proofs.Sending.{sent_none, sent_more, sent_all, front_part, front_none}
 use Rattle.hp_top.specs.Scenes.{Seen, Shows, Acts}
 use Rattle.hp_top.specs.Sent.{HoldsFront}
-use Rattle.hp_top.specs.Turns.{Sends, due, past, DoneHosts}
+use Rattle.hp_top.specs.Turns.{Sends, due, past, boot_left, DoneActors}
 
 pub lines_text-append : (es fs : List Entry) → lines_text (es ++ fs) ≡ lines_text es ++ lines_text fs
 lines_text-append [] fs = refl
@@ -99,41 +100,50 @@ sends_empty p w seen a shows = record { scene = shows; count = refl; lines = App
 pub due-first : (turn : ℕ) (h : HostEvent) (hs : List HostEvent) → h.turn ≡ turn → due turn (h ∷ hs) ≡ h.actor ∷ due turn hs
 due-first turn h hs is = rw (eq-eqb h.turn turn is) refl
 
-module _ (p : Platform) (w : Scene) (turn : ℕ) (all rest more : List HostEvent) (x : Actor) (seen : Seen) (made : ℕ) (a b c : Option (List ℕ))
-    (is : due turn rest ≡ x ∷ due turn more) (done : DoneHosts p w turn all rest seen made a b) where
-  -- the next event of the turn was made
-  pub done_more : (new : Seen) (count : ℕ) → ((v : Scene) → Shows p seen v → Sends p new (act p v x) count b c) → DoneHosts p w turn all more new (made + count) a c
+module _ (p : Platform) (w : Scene) (all rest more : List Actor) (x : Actor) (seen : Seen) (made : ℕ) (a b c : Option (List ℕ))
+    (is : rest ≡ x ∷ more) (done : DoneActors p w all rest seen made a b) where
+  -- the next of them acted
+  pub done_more : (new : Seen) (count : ℕ) → ((v : Scene) → Shows p seen v → Sends p new (act p v x) count b c) → DoneActors p w all more new (made + count) a c
   done_more new count next = record {
     front = done.front ++ x ∷ [];
-    actors = append_assoc done.front (x ∷ []) (due turn more) ∙ ap (λ (xs : List Actor). done.front ++ xs) (sym is) ∙ done.actors;
+    actors = append_assoc done.front (x ∷ []) more ∙ ap (λ (xs : List Actor). done.front ++ xs) (sym is) ∙ done.actors;
     sends = subst (λ (m : Made). Sends p new m (made + count) a c)
         (ap (both_make (act_all p w done.front)) (sym (act_all-one p (act_all p w done.front).scene x)) ∙ sym (act_all-append p done.front (x ∷ []) w))
         (sends_both p seen new (act_all p w done.front) (act p (act_all p w done.front).scene x) made count a b c done.sends (next (act_all p w done.front).scene done.sends.scene));
   }
 
   -- or it stopped
-  pub done_front : ((v : Scene) → Shows p seen v → HoldsFront b c (lines_text (act p v x).entries)) → HoldsFront a c (lines_text (act_all p w (due turn all)).entries)
+  pub done_front : ((v : Scene) → Shows p seen v → HoldsFront b c (lines_text (act p v x).entries)) → HoldsFront a c (lines_text (act_all p w all).entries)
   done_front next =
       subst (λ (m : Made). HoldsFront a c (lines_text m.entries)) whole
-      (front_both p seen (act_all p w done.front) (act_all p v (x ∷ due turn more)) made a b c done.sends
-      (subst (λ (m : Made). HoldsFront b c (lines_text m.entries)) (sym (act_all-cons p v x (due turn more)))
-      (front_more (act p v x) (act_all p (act p v x).scene (due turn more)) b c (next v done.sends.scene))))
+      (front_both p seen (act_all p w done.front) (act_all p v (x ∷ more)) made a b c done.sends
+      (subst (λ (m : Made). HoldsFront b c (lines_text m.entries)) (sym (act_all-cons p v x more))
+      (front_more (act p v x) (act_all p (act p v x).scene more) b c (next v done.sends.scene))))
     where
       v : Scene
       v = (act_all p w done.front).scene
 
-      whole : both_make (act_all p w done.front) (act_all p v (x ∷ due turn more)) ≡ act_all p w (due turn all)
-      whole = sym (act_all-append p done.front (x ∷ due turn more) w) ∙ ap (act_all p w) (ap (λ (xs : List Actor). done.front ++ xs) (sym is) ∙ done.actors)
+      whole : both_make (act_all p w done.front) (act_all p v (x ∷ more)) ≡ act_all p w all
+      whole = sym (act_all-append p done.front (x ∷ more) w) ∙ ap (act_all p w) (ap (λ (xs : List Actor). done.front ++ xs) (sym is) ∙ done.actors)
 
--- nothing of the turn is left
-pub done_all : (p : Platform) (w : Scene) (turn : ℕ) (all rest : List HostEvent) (seen : Seen) (made : ℕ) (a b : Option (List ℕ)) →
-    DoneHosts p w turn all rest seen made a b → due turn rest ≡ [] → Sends p seen (act_all p w (due turn all)) made a b
-done_all p w turn all rest seen made a b done none =
+-- none of them is left
+pub done_all : (p : Platform) (w : Scene) (all rest : List Actor) (seen : Seen) (made : ℕ) (a b : Option (List ℕ)) →
+    DoneActors p w all rest seen made a b → rest ≡ [] → Sends p seen (act_all p w all) made a b
+done_all p w all rest seen made a b done none =
     subst (λ (xs : List Actor). Sends p seen (act_all p w xs) made a b) (sym (append-nil done.front) ∙ ap (λ (xs : List Actor). done.front ++ xs) (sym none) ∙ done.actors) done.sends
 
--- nothing was made yet
-pub done_start : (p : Platform) (w : Scene) (turn : ℕ) (all : List HostEvent) (seen : Seen) (a : Option (List ℕ)) → Shows p seen w → DoneHosts p w turn all all seen 0 a a
-done_start p w turn all seen a shows = record { front = []; actors = refl; sends = sends_empty p w seen a shows }
+-- none of them acted yet
+pub done_start : (p : Platform) (w : Scene) (all : List Actor) (seen : Seen) (a : Option (List ℕ)) → Shows p seen w → DoneActors p w all all seen 0 a a
+done_start p w all seen a shows = record { front = []; actors = refl; sends = sends_empty p w seen a shows }
+
+-- the boot's turns: one is next while some are left
+pub boot_next : (n : ℕ) → n < boot_turns → boot_left (boot_turns - n) ≡ Cpu 0 ∷ boot_left (boot_turns - (n + 1))
+unfolding boot_left
+boot_next n within = let e : 27 - n ≡ suc (27 - (n + 1)) = omega (arith, within) in rw e refl
+
+pub boot_all : (n : ℕ) → boot_turns ≤ n → boot_left (boot_turns - n) ≡ []
+unfolding boot_left
+boot_all n past = let e : 27 - n ≡ 0 = omega (arith, past) in rw e refl
 
 pub due-other : (turn : ℕ) (h : HostEvent) (hs : List HostEvent) → h.turn ≢ turn → due turn (h ∷ hs) ≡ []
 due-other turn h hs other = rw (ne_eqb h.turn turn other) refl

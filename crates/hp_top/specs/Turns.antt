@@ -1,13 +1,15 @@
--- Parts of a scheduled run, and the text of the whole.
-use Rattle.std.specs.Prelude.{◌≡◌, ℕ, ◌==◌, ◌≤◌, List, [], ◌∷◌, ◌++◌, length, map, filter, Option, if◌then◌else◌}
+-- Parts of a scheduled run, and what is written of the whole.
+use Rattle.std.specs.Prelude.{◌≡◌, ℕ, ◌==◌, ◌≤◌, List, [], ◌∷◌, ◌++◌, length, replicate, map, filter, Option, Some, None, ◌+◌, if◌then◌else◌}
 use Rattle.std.specs.Io.KnownBytes.{Appends}
 use Rattle.hp_model.specs.declared.platforms.Platform.{Platform}
 use Rattle.hp_model.specs.declared.entries.Actor.{Actor}
+use Rattle.hp_model.specs.declared.entries.Actor.TheVariants.{Cpu}
 use Rattle.hp_model.specs.declared.files.HostEvent.{HostEvent}
 use Rattle.hp_model.specs.declared.files.Stall.{Stall}
 use Rattle.hp_model.specs.declared.files.File.{File}
-use Rattle.hp_model.specs.Schedule.{Scene, Made, act_all, scheduled}
-use Rattle.hp_model.specs.Text.{lines_text, trace_text}
+use Rattle.hp_model.specs.declared.outcomes.BootFact.{BootFact}
+use Rattle.hp_model.specs.Schedule.{Scene, Made, act_all, booted, boot_fact, scheduled}
+use Rattle.hp_model.specs.Text.{head_text, lines_text, end_text, trace_text}
 use Rattle.hp_top.specs.Scenes.{Seen, Shows}
 
 -- a part of the schedule was made: the scene after it, how many entries it has, and their lines in the sink
@@ -41,12 +43,32 @@ abbrev pub Rises : {X : Type 0} → (X → ℕ) → ℕ → List X → Type 0
 Rises key n [] = Unit {0}
 Rises key n (x ∷ xs) = (n ≤ key x) × Rises key (key x) xs
 
--- the text of the run that a file's schedule makes
+-- the whole trace of the run that a file's schedule makes
 unfoldable pub run_text : File → List ℕ
 run_text f = trace_text f.platform (scheduled f)
 
--- the host events of a turn, at the front of these by turn, as far as they were made
-pub record DoneHosts (p : Platform) (w : Scene) (turn : ℕ) (all rest : List HostEvent) (seen : Seen) (made : ℕ) (old new : Option (List ℕ)) : Type 0 where
+-- the trace of a boot that was refused: the header, and the lines up to the access that read the value
+unfoldable pub boot_text : File → List ℕ
+boot_text f = head_text f.platform ++ lines_text (booted f).entries
+
+-- what is written for a file, by the value that refused its boot, if one did
+abbrev pub text_by : Option BootFact → File → List ℕ
+text_by None f = run_text f
+text_by (Some fact) f = boot_text f
+
+unfoldable pub output : File → List ℕ
+output f = text_by (boot_fact f) f
+
+-- what follows the boot's lines: the lines of the turns, and the end line that counts all entries
+abbrev pub turns_text : ℕ → Made → List ℕ
+turns_text booted m = lines_text m.entries ++ end_text (booted + length m.entries)
+
+-- so many turns of processor 0: those of the boot that are left
+unfoldable pub boot_left : ℕ → List Actor
+boot_left n = replicate n (Cpu 0)
+
+-- these actors acted, as far as they did
+pub record DoneActors (p : Platform) (w : Scene) (all rest : List Actor) (seen : Seen) (made : ℕ) (old new : Option (List ℕ)) : Type 0 where
   pub front : List Actor
-  pub actors : front ++ due turn rest ≡ due turn all
+  pub actors : front ++ rest ≡ all
   pub sends : Sends p seen (act_all p w front) made old new

@@ -1,7 +1,10 @@
 //! The top call.
 
-ghost use Rattle.std.specs.Prelude.{◌≡◌, ◌≤◌, ◌↔◌, codes, map, string_bytes, true, false};
+ghost use Rattle.std.specs.Prelude.{◌≡◌, ◌≤◌, ◌↔◌, codes, map, string_bytes, true, false, Ok};
 ghost use Rattle.std.specs.Str.{bytes_eq};
+ghost use Rattle.hp_model.specs.declared.files.File.{File as AFile};
+ghost use Rattle.hp_boot.specs.Ending.{hands_over};
+ghost use Rattle.hp_config.specs.Reading.{IsReadAs};
 ghost use Rattle.hp_config.specs.Sound.{IsSound};
 ghost use Rattle.hp_top.specs.Faults.{Rose};
 ghost use Rattle.hp_top.specs.Answers.{are_run as are_the_run, EndsFile, EndsRun, Ends, HoldsFile, IsDoneOrNoMemory};
@@ -10,6 +13,7 @@ use crate::outside::{Sink, Source, WriteStop};
 use crate::reading::{ReadStop, read_all};
 use crate::running::run_file;
 use crate::statuses::Status;
+use hp_boot::{boot_ends, boot_stops_at_its_fact};
 use hp_config::{ConfigFault, read, read_files_are_sound};
 use hp_model::{File, schedule_is_a_run};
 use std::alloc::Global;
@@ -38,7 +42,8 @@ fn run_read<K: Sink>(alloc: Global, file: &File, out: &mut K) -> Status
     ensures later { K.faults out.old ≤ K.faults out.new }
 {
     match run_file(alloc, file, out) {
-        Ok(()) => Status::Done,
+        Ok(None) => Status::Done,
+        Ok(Some(fact)) => Status::BootRefused(fact),
         Err(WriteStop::Failed) => Status::WriteFault,
         Err(WriteStop::NoMemory) => Status::NoMemory,
     }
@@ -52,12 +57,26 @@ fn run_bytes<K: Sink>(alloc: Global, bytes: &[u8], out: &mut K) -> Status
 {
     schedule_is_a_run();
     read_files_are_sound();
+    boot_stops_at_its_fact();
     match read(alloc, bytes) {
         Ok(file) => run_read(alloc, &file, out),
         Err(ConfigFault::NotToml) => Status::NotToml,
         Err(ConfigFault::Rule(rule)) => Status::Rule(rule),
         Err(ConfigFault::NoMemory) => Status::NoMemory,
     }
+}
+
+/// The same, and what a file whose machine is handed over ends with.
+fn complete<K: Sink>(alloc: Global, bytes: &[u8], out: &mut K) -> Status
+    ensures ends { EndsRun bytes.now (K.held out.old) (K.held out.new) result }
+    ensures fault { result ≡ Status.WriteFault → Rose (K.faults out.old) (K.faults out.new) }
+    ensures later { K.faults out.old ≤ K.faults out.new }
+    ensures completes { (file : AFile) → IsReadAs bytes.now (Ok file) → hands_over file.platform ≡ true
+        → ¬ Rose (K.faults out.old) (K.faults out.new) → IsDoneOrNoMemory result }
+{
+    read_files_are_sound();
+    boot_ends();
+    run_bytes(alloc, bytes, out)
 }
 
 /// Serves the command `run`: reads a platform file to its end, and writes the trace of its run, line by line.
@@ -78,7 +97,7 @@ pub fn top<S: Source, K: Sink>(alloc: Global, words: &[String], src: &mut S, out
         return Status::BadWords;
     }
     match read_all(alloc, src) {
-        Ok(bytes) => run_bytes(alloc, bytes.as_slice(), out),
+        Ok(bytes) => complete(alloc, bytes.as_slice(), out),
         Err(ReadStop::ReadFault) => Status::ReadFault,
         Err(ReadStop::TooLong) => Status::TooLong,
         Err(ReadStop::NoMemory) => Status::NoMemory,

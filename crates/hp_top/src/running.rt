@@ -1,25 +1,27 @@
-//! The run of a file: each line is handed to the sink when its entry is made.
+//! The boot and the run of a file: each line is handed to the sink when its entry is made.
 
-ghost use Rattle.std.specs.Prelude.{ℕ, ◌≡◌, ◌≤◌, ◌+◌, ◌∷◌, [], IfOk, IfSome, OnOk, OnErr, None, length};
+ghost use Rattle.std.specs.Prelude.{ℕ, ◌≡◌, ◌≤◌, ◌+◌, ◌^◌, ◌∷◌, [], IfOk, IfSome, OnOk, OnErr, None, length};
 ghost use Rattle.std.specs.Io.KnownBytes.{Appends};
-ghost use Rattle.std.specs.List.Sorted.{IsNonDecreasingBy};
 ghost use Rattle.hp_model.specs.declared.platforms.Platform.{Platform};
-ghost use Rattle.hp_model.specs.Schedule.{Scene as Shown, act, act_all, actors_of, cpus_of, hosts_of as of_turn, is_stalled, scene_start, turns_from};
+ghost use Rattle.hp_model.specs.Schedule.{Scene as Shown, act, act_all, actors_of, boot_fact as fact_of_boot, boot_turns, cpus_of, hosts_of as of_turn, is_stalled, scene_start, turns_from};
 ghost use Rattle.hp_config.specs.Sound.{IsSound};
 ghost use Rattle.hp_model.specs.Text.{head_text, line_text, lines_text, end_text};
 ghost use Rattle.hp_top.specs.Faults.{StopsFor};
 ghost use Rattle.hp_top.specs.Scenes.{Shows};
 ghost use Rattle.hp_top.specs.Sent.{HoldsFront};
 ghost use Rattle.hp_top.specs.Stalls.{IsTracking};
-ghost use Rattle.hp_top.specs.Turns.{Sends, Rises, at_turn, due, past, run_text, start_of, turn_of};
+ghost use Rattle.hp_top.specs.Turns.{Sends, Rises, at_turn, boot_left, due, output, past, start_of, turn_of, turns_text};
 
 use crate::outside::{Sink, WriteStop};
 use crate::scenes::Scene;
 use crate::sorting::by_turn;
 use crate::stalling::{Stalled, by_start};
 use crate::writing::write_all;
-use hp_model::{Actor, Entry, File, HostEvent, NoMemory, Platform, Stall, VoiceKind};
+use hp_model::{Actor, BootFact, Entry, File, HostEvent, NoMemory, Platform, Stall, VoiceKind};
 use std::alloc::Global;
+
+/// The boot sequence's accesses, each a turn of processor 0.
+const BOOT_TURNS: u32 = 27;
 
 /// Makes the line of an entry in the buffer, whose content goes, and hands it to the sink.
 fn send_line<K: Sink>(e: &Entry, text: &mut Vec<u8>, out: &mut K) -> Result<(), WriteStop>
@@ -199,6 +201,7 @@ fn make_turns<K: Sink>(
     requires tracking { IsTracking file.now 0 stalled.old }
     requires rises { Rises turn_of 0 hosts.now }
     requires same { (turn : ℕ) → at_turn turn hosts.now ≡ of_turn file.now turn }
+    ensures bound { IfOk result (λ made. made ≤ 2 ^ 63 + 2 ^ 32) }
     ensures made { (w : Shown) → Shows file.now.platform scene.old w
         → IfOk result (λ made. Sends file.now.platform scene.new (turns_from file.now file.now.platform.turns 0 w) made (K.held out.old) (K.held out.new)) }
     ensures part { (w : Shown) → Shows file.now.platform scene.old w
@@ -241,7 +244,7 @@ fn scene_of<'f>(alloc: Global, file: &'f File) -> Result<Scene<'f>, NoMemory>
 
 /// The host events of the file, by turn.
 fn hosts_of(alloc: Global, file: &File) -> Result<Vec<HostEvent>, NoMemory>
-    ensures rises { IfOk result (λ sorted. IsNonDecreasingBy (λ h. h.turn) sorted.items) }
+    ensures rises { IfOk result (λ sorted. Rises turn_of 0 sorted.items) }
     ensures same { IfOk result (λ sorted. (turn : ℕ) → at_turn turn sorted.items ≡ of_turn file.now turn) }
 {
     by_turn(alloc, hosts_in(file))
@@ -270,12 +273,101 @@ fn stalled_of<'s>(alloc: Global, file: &File, sorted: &'s [Stall]) -> Result<Sta
     Stalled::new(alloc, sorted, file.platform.apic.0.len())
 }
 
-/// Runs the file: header, one line an entry, end line.
+/// The boot sequence: 27 turns of processor 0. How many entries they made: fewer where the boot is refused.
+fn make_boot<K: Sink>(scene: &mut Scene, text: &mut Vec<u8>, out: &mut K) -> Result<u64, WriteStop>
+    ensures bound { IfOk result (λ made. made ≤ boot_turns) }
+    ensures made { (p : Platform) (w : Shown) → Shows p scene.old w
+        → IfOk result (λ made. Sends p scene.new (act_all p w (boot_left boot_turns)) made (K.held out.old) (K.held out.new)) }
+    ensures part { (p : Platform) (w : Shown) → Shows p scene.old w
+        → OnErr result (HoldsFront (K.held out.old) (K.held out.new) (lines_text (act_all p w (boot_left boot_turns)).entries)) }
+    ensures cause { StopsFor (K.faults out.old) (K.faults out.new) result }
+{
+    let mut made = 0u64;
+    'turns: for turn in 0..BOOT_TURNS {
+        match make_step(scene, Actor::Cpu(0), text, out) {
+            Ok(count) => made += count,
+            Err(stop) => return Err(stop),
+        }
+    }
+    Ok(made)
+}
+
+/// All turns after a boot that made so many entries, and the end line.
+fn run_turns<K: Sink>(
+    scene: &mut Scene,
+    file: &File,
+    hosts: &[HostEvent],
+    stalled: &mut Stalled,
+    booted: u64,
+    text: &mut Vec<u8>,
+    out: &mut K,
+) -> Result<(), WriteStop>
+    requires sound { IsSound file.now }
+    requires tracking { IsTracking file.now 0 stalled.old }
+    requires rises { Rises turn_of 0 hosts.now }
+    requires same { (turn : ℕ) → at_turn turn hosts.now ≡ of_turn file.now turn }
+    requires booted { booted ≤ boot_turns }
+    ensures all { (w : Shown) → Shows file.now.platform scene.old w
+        → OnOk result (Appends (K.held out.old) (K.held out.new) (turns_text booted (turns_from file.now file.now.platform.turns 0 w))) }
+    ensures part { (w : Shown) → Shows file.now.platform scene.old w
+        → OnErr result (HoldsFront (K.held out.old) (K.held out.new) (turns_text booted (turns_from file.now file.now.platform.turns 0 w))) }
+    ensures cause { StopsFor (K.faults out.old) (K.faults out.new) result }
+{
+    let made = match make_turns(scene, file, hosts, stalled, text, out) {
+        Ok(made) => made,
+        Err(stop) => return Err(stop),
+    };
+    send_end(booted + made, text, out)
+}
+
+/// Boots the machine and runs the file's turns: header, one line an entry, end line. Where the boot is refused, the lines
+/// end with the access that read the value in the fact, which is answered.
+fn run_scene<K: Sink>(
+    scene: &mut Scene,
+    file: &File,
+    hosts: &[HostEvent],
+    stalled: &mut Stalled,
+    text: &mut Vec<u8>,
+    out: &mut K,
+) -> Result<Option<BootFact>, WriteStop>
+    requires sound { IsSound file.now }
+    requires shows { Shows file.now.platform scene.old (scene_start file.now) }
+    requires tracking { IsTracking file.now 0 stalled.old }
+    requires rises { Rises turn_of 0 hosts.now }
+    requires same { (turn : ℕ) → at_turn turn hosts.now ≡ of_turn file.now turn }
+    ensures fact { IfOk result (λ fact. fact ≡ fact_of_boot file.now) }
+    ensures all { OnOk result (Appends (K.held out.old) (K.held out.new) (output file.now)) }
+    ensures part { OnErr result (HoldsFront (K.held out.old) (K.held out.new) (output file.now)) }
+    ensures cause { StopsFor (K.faults out.old) (K.faults out.new) result }
+{
+    if let Err(stop) = send_head(&file.platform, text, out) {
+        return Err(stop);
+    }
+    let booted = match make_boot(scene, text, out) {
+        Ok(booted) => booted,
+        Err(stop) => return Err(stop),
+    };
+    match scene.boot_fact() {
+        Some(fact) => return Ok(Some(fact)),
+        None => {}
+    }
+    match run_turns(scene, file, hosts, stalled, booted, text, out) {
+        Ok(()) => Ok(None),
+        Err(stop) => Err(stop),
+    }
+}
+
+/// Runs the file: what is written for it, and the value that refused its boot, if one did.
 #[tactic(auto, using(crate::proofs::Sending::sending))]
-pub(crate) fn run_file<K: Sink>(alloc: Global, file: &File, out: &mut K) -> Result<(), WriteStop>
+pub(crate) fn run_file<K: Sink>(
+    alloc: Global,
+    file: &File,
+    out: &mut K,
+) -> Result<Option<BootFact>, WriteStop>
     requires { IsSound file.now }
-    ensures all { OnOk result (Appends (K.held out.old) (K.held out.new) (run_text file.now)) }
-    ensures part { OnErr result (HoldsFront (K.held out.old) (K.held out.new) (run_text file.now)) }
+    ensures fact { IfOk result (λ fact. fact ≡ fact_of_boot file.now) }
+    ensures all { OnOk result (Appends (K.held out.old) (K.held out.new) (output file.now)) }
+    ensures part { OnErr result (HoldsFront (K.held out.old) (K.held out.new) (output file.now)) }
     ensures cause { StopsFor (K.faults out.old) (K.faults out.new) result }
 {
     let mut text = Vec::new(alloc);
@@ -295,19 +387,12 @@ pub(crate) fn run_file<K: Sink>(alloc: Global, file: &File, out: &mut K) -> Resu
         Ok(stalled) => stalled,
         Err(NoMemory) => return Err(WriteStop::NoMemory),
     };
-    if let Err(stop) = send_head(&file.platform, &mut text, out) {
-        return Err(stop);
-    }
-    let made = match make_turns(
+    run_scene(
         &mut scene,
         file,
         hosts.as_slice(),
         &mut stalled,
         &mut text,
         out,
-    ) {
-        Ok(made) => made,
-        Err(stop) => return Err(stop),
-    };
-    send_end(made, &mut text, out)
+    )
 }

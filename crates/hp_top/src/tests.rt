@@ -1,7 +1,7 @@
 //! The top call over sources and sinks in memory.
 
 use crate::{MemSink, MemSource, Status, StdSink, StdSource, SureSink, SureSource, top};
-use hp_model::Rule;
+use hp_model::{BootFact, Rule};
 use std::alloc::{AllocError, Global};
 use std::test::Fail;
 
@@ -18,63 +18,120 @@ turns = 8
 [[agent]]
 cpu = 0
 kind = \"script\"
-steps = [\"in 4 0cd8\", \"out 4 0cd8 00000000\", \"in 4 0cd8\", \"in 1 0cdc\", \"out 1 0cdd 03\", \"in 4 0ce0\"]
+steps = [\"in 4 0cd8\", \"in 1 0cdc\", \"out 1 0cdd 03\", \"in 4 0ce0\"]
 ";
 
-/// The trace of its run, as it was written down before there was a program.
-const LINES: [&[u8]; 9] = [
-    b"platform apic=0 boot=0 low=01000000 tseg=1 features=7 polls=8 turns=8 modern=true smram=true delivery=prompt\n",
-    b"p0 in 4 0cd8 = 00000001\n",
+/// The header of its trace.
+const HEAD: &[u8] =
+    b"platform apic=0 boot=0 low=01000000 tseg=1 features=7 polls=8 turns=8 modern=true smram=true delivery=prompt\n";
+
+/// The lines of the boot sequence, with a TSEG of 1 MiB and all features: written down before there was a program.
+const BOOT: [&[u8]; 27] = [
     b"p0 out 4 0cd8 00000000\n",
+    b"p0 out 4 0cd8 00000000\n",
+    b"p0 out 1 0cdd 00\n",
+    b"p0 in 4 0cd8 = 00000000\n",
+    b"p0 cfgw 9c ff\n",
+    b"p0 cfgr 9c = 01\n",
+    b"p0 store 4 0009f000 004e4550\n",
+    b"p0 store 4 00038000 53000001\n",
+    b"p0 store 4 00038004 53000002\n",
+    b"p0 store 4 00038008 53000003\n",
+    b"p0 store 4 0003800c 53000004\n",
+    b"p0 store 4 00038010 53000005\n",
+    b"p0 store 4 00038014 53000006\n",
+    b"p0 store 8 00030000 ffffffffffffffff\n",
+    b"p0 cfgw 9c 02\n",
+    b"p0 cfgw 9e 01\n",
+    b"p0 cfgw 9d 18\n",
+    b"p0 store 8 00001000 080000000a002200\n",
+    b"p0 store 8 00001008 1010000000000000\n",
+    b"p0 out 4 0518 00100000\n",
+    b"p0 load 8 00001010 = 0000000000000007\n",
+    b"p0 store 8 00001000 0800000018002100\n",
+    b"p0 store 8 00001010 0000000000000007\n",
+    b"p0 out 4 0518 00100000\n",
+    b"p0 out 2 0510 0020\n",
+    b"p0 in 1 0511 = 01\n",
+    b"p0 out 4 0630 00000021\n",
+];
+
+/// The lines after the boot.
+const LINES: [&[u8]; 6] = [
     b"p0 in 4 0cd8 = 00000000\n",
     b"p0 in 1 0cdc = 01\n",
     b"p0 out 1 0cdd 03\n",
     b"p0 in 4 0ce0 = 00000000\n",
     b"p0 halt\n",
-    b"end 7\n",
+    b"end 32\n",
 ];
 
-/// A run as a whole: a platform file, and the trace that was written down by hand.
+/// A run as a whole: a platform file with a TSEG of 1 MiB and all features, its header, and what follows the boot's lines.
 struct Run {
     file: &'static [u8],
+    head: &'static [u8],
     text: &'static [u8],
 }
 
-/// The default area is hidden once it is locked, and an access that crosses the end of RAM meets a hole.
+/// A transfer writes no byte of the locked default area, and an access that crosses into it meets a hole as a whole.
 const LOCKED: Run = Run {
     file: b"[platform]
 apic = [0]
 boot = [0]
-low_memory = 0x1000000
+low_memory = 0x8000000
 tseg_mib = 1
 features = 7
 polls = 8
-turns = 12
+turns = 7
 
 [[agent]]
 cpu = 0
 kind = \"script\"
-steps = [\"store 4 00030000 11223344\", \"cfgw 9c 02\", \"cfgr 9c\", \"cfgw 9c ff\", \"cfgr 9c\", \"cas 00030000 0000000011223344 0000000000000005\", \"cfgw 9c 02\", \"load 8 00030000\", \"cfgw 9c 00\", \"cfgr 9c\", \"load 4 00fffffe\"]
+steps = [\"store 8 00001000 080000000a002200\", \"store 8 00001008 0080030000000000\", \"out 4 0518 00100000\", \"load 4 00001000\", \"load 4 00038000\", \"load 8 0002fffc\", \"load 4 0002fffc\"]
 ",
-    text: b"held
-platform apic=0 boot=0 low=01000000 tseg=1 features=7 polls=8 turns=12 modern=true smram=true delivery=prompt
-p0 store 4 00030000 11223344
-p0 cfgw 9c 02
-p0 cfgr 9c = 00
-p0 cfgw 9c ff
-p0 cfgr 9c = 01
-p0 cas 00030000 0000000011223344 0000000000000005 = 0000000011223344
-p0 cfgw 9c 02
-p0 load 8 00030000 = ffffffffffffffff
-p0 cfgw 9c 00
-p0 cfgr 9c = 02
-p0 load 4 00fffffe = ffffffff
-p0 halt
-end 12
+    head: b"platform apic=0 boot=0 low=08000000 tseg=1 features=7 polls=8 turns=7 modern=true smram=true delivery=prompt\n",
+    text: b"p0 store 8 00001000 080000000a002200
+p0 store 8 00001008 0080030000000000
+p0 out 4 0518 00100000
+p0 load 4 00001000 = 00000000
+p0 load 4 00038000 = ffffffff
+p0 load 8 0002fffc = ffffffffffffffff
+p0 load 4 0002fffc = 00000000
+end 34
 ",
 };
 
-/// A processor that is added starts by SIPI alone, halts, and takes the INIT and the SMI that are latched for it.
+/// Of several control bits the lowest of bits 1 to 4 acts alone, and processor 0 isn't ejected, nor handed to the firmware.
+const CONTROL: Run = Run {
+    file: b"[platform]
+apic = [0, 1]
+boot = [0, 1]
+low_memory = 0x8000000
+tseg_mib = 1
+features = 7
+polls = 8
+turns = 13
+
+[[agent]]
+cpu = 0
+kind = \"script\"
+steps = [\"out 4 0cd8 00000001\", \"out 1 0cdc 1e\", \"in 1 0cdc\", \"out 1 0cdc 10\", \"in 1 0cdc\", \"out 1 0cdc 08\", \"in 1 0cdc\"]
+",
+    head: b"platform apic=0,1 boot=0,1 low=08000000 tseg=1 features=7 polls=8 turns=13 modern=true smram=true delivery=prompt\n",
+    text: b"p0 out 4 0cd8 00000001
+p1 halt
+p0 out 1 0cdc 1e
+p0 in 1 0cdc = 01
+p0 out 1 0cdc 10
+p0 in 1 0cdc = 11
+p0 out 1 0cdc 08
+p0 in 1 0cdc = 00
+end 35
+",
+};
+
+/// A processor that is added starts by SIPI alone, halts, and takes the INIT and the SMI that are latched for it. What SMI
+/// entry saves of it lies in the locked default area.
 const ADDED: Run = Run {
     file: b"[platform]
 apic = [0, 1]
@@ -92,11 +149,10 @@ insert = 1
 [[agent]]
 cpu = 0
 kind = \"script\"
-steps = [\"icr 01000000 00000500\", \"icr 01000000 00000610\", \"icr 01000000 00000610\", \"icr 01000000 00000500\", \"icr 01000000 00000200\", \"icr 01000000 00000610\", \"load 4 0003ff00\", \"load 4 0003fefc\", \"load 8 0003ff78\"]
+steps = [\"icr 01000000 00000500\", \"icr 01000000 00000610\", \"icr 01000000 00000610\", \"icr 01000000 00000500\", \"icr 01000000 00000200\", \"icr 01000000 00000610\", \"load 4 0003ff00\", \"in 1 0620\", \"in 1 00b3\"]
 ",
-    text: b"held
-platform apic=0,1 boot=0 low=08000000 tseg=1 features=7 polls=8 turns=20 modern=true smram=true delivery=prompt
-host insert 1
+    head: b"platform apic=0,1 boot=0 low=08000000 tseg=1 features=7 polls=8 turns=20 modern=true smram=true delivery=prompt\n",
+    text: b"host insert 1
 p0 icr 01000000 00000500
 p0 icr 01000000 00000610
 p1 halt
@@ -106,11 +162,11 @@ p1 init
 p0 icr 01000000 00000200
 p0 icr 01000000 00000610
 p1 smi
-p0 load 4 0003ff00 = 00030000
-p0 load 4 0003fefc = 00020064
-p0 load 8 0003ff78 = 0000000000010000
+p0 load 4 0003ff00 = ffffffff
+p0 in 1 0620 = 04
+p0 in 1 00b3 = 00
 p0 halt
-end 14
+end 41
 ",
 };
 
@@ -162,9 +218,8 @@ cpu = 1
 kind = \"script\"
 steps = [\"nop\", \"nop\", \"nop\"]
 ",
-    text: b"held
-platform apic=0,1,5,9 boot=0,1 low=08000000 tseg=1 features=7 polls=8 turns=24 modern=true smram=true delivery=prompt
-p0 out 4 0cd8 00000000
+    head: b"platform apic=0,1,5,9 boot=0,1 low=08000000 tseg=1 features=7 polls=8 turns=24 modern=true smram=true delivery=prompt\n",
+    text: b"p0 out 4 0cd8 00000000
 host insert 3
 host insert 2
 host remove 1
@@ -176,9 +231,20 @@ host insert 1
 p0 icr 01000000 00000610
 p1 halt
 p0 halt
-end 12
+end 39
 ",
 };
+
+/// A boot that is refused: a line of the file that differs, the value that was read, and how many of the boot's lines come
+/// before the one that read it, and that line.
+#[derive(Clone, Copy)]
+struct Refused {
+    key: &'static str,
+    head: &'static [u8],
+    fact: BootFact,
+    before: usize,
+    last: &'static [u8],
+}
 
 fn words_of(alloc: Global, words: &[&str]) -> Result<Vec<String>, AllocError> {
     let mut all = Vec::new(alloc);
@@ -191,11 +257,26 @@ fn words_of(alloc: Global, words: &[&str]) -> Result<Vec<String>, AllocError> {
 /// The first lines of the trace, after what the sink held.
 fn first_lines(alloc: Global, count: usize) -> Result<Vec<u8>, AllocError> {
     let mut text = b"held\n".to_vec(alloc)?;
-    for line in LINES.iter().take(count) {
+    let lines = [HEAD].iter().chain(BOOT.iter()).chain(LINES.iter());
+    for line in lines.take(count) {
         text.extend_from_slice(line)?;
     }
     Ok(text)
 }
+
+/// What the sink held, a header, the first lines of a boot, and what follows them.
+fn trace(alloc: Global, head: &[u8], booted: usize, rest: &[u8]) -> Result<Vec<u8>, AllocError> {
+    let mut text = b"held\n".to_vec(alloc)?;
+    text.extend_from_slice(head)?;
+    for line in BOOT.iter().take(booted) {
+        text.extend_from_slice(line)?;
+    }
+    text.extend_from_slice(rest)?;
+    Ok(text)
+}
+
+/// All lines of the trace: header, boot, and what follows.
+const ALL_LINES: usize = 1 + BOOT.len() + LINES.len();
 
 /// What the call answers to these words and bytes, and what the sink holds, which held a line before.
 fn answer_to(alloc: Global, words: &[&str], bytes: &[u8]) -> Result<(Status, Vec<u8>), AllocError> {
@@ -210,17 +291,70 @@ fn answer_to(alloc: Global, words: &[&str], bytes: &[u8]) -> Result<(Status, Vec
 fn the_run_of_a_script_is_written_line_by_line(rt: HostRuntime) -> Result<(), Fail> {
     let (status, held) = answer_to(rt.alloc(), &["run"], FILE)?;
     assert_eq!(rt; status, Status::Done);
-    let want = first_lines(rt.alloc(), LINES.len())?;
+    let want = first_lines(rt.alloc(), ALL_LINES)?;
     assert_eq!(rt; held.as_slice(), want.as_slice());
     Ok(())
 }
 
 #[test]
 fn runs_are_written_as_they_were_by_hand(rt: HostRuntime) -> Result<(), Fail> {
-    for run in [LOCKED, ADDED, EJECTED].iter() {
+    for run in [LOCKED, CONTROL, ADDED, EJECTED].iter() {
         let (status, held) = answer_to(rt.alloc(), &["run"], run.file)?;
         assert_eq!(rt; status, Status::Done);
-        assert_eq!(rt; held.as_slice(), run.text);
+        let want = trace(rt.alloc(), run.head, BOOT.len(), run.text)?;
+        assert_eq!(rt; held.as_slice(), want.as_slice());
+    }
+    Ok(())
+}
+
+#[test]
+fn a_refused_boot_ends_with_the_access_that_read_the_value(rt: HostRuntime) -> Result<(), Fail> {
+    let alloc = rt.alloc();
+    let cases = [
+        Refused {
+            key: "modern = false",
+            head: b"platform apic=0,1 boot=0 low=08000000 tseg=1 features=7 polls=8 turns=72 modern=false smram=true delivery=prompt\n",
+            fact: BootFact::NotModern(1),
+            before: 3,
+            last: b"p0 in 4 0cd8 = 00000001\n",
+        },
+        Refused {
+            key: "default_smram = false",
+            head: b"platform apic=0,1 boot=0 low=08000000 tseg=1 features=7 polls=8 turns=72 modern=true smram=false delivery=prompt\n",
+            fact: BootFact::NoDefaultSmram(0),
+            before: 5,
+            last: b"p0 cfgr 9c = 00\n",
+        },
+    ];
+    for case in cases.iter() {
+        let file = format!(in alloc;
+            "[platform]\napic = [0, 1]\nboot = [0]\nlow_memory = 0x8000000\ntseg_mib = 1\nfeatures = 7\npolls = 8\nturns = 72\n{}\n",
+            case.key
+        )?;
+        let (status, held) = answer_to(alloc, &["run"], file.as_bytes())?;
+        assert_eq!(rt; status, Status::BootRefused(case.fact), "{}", case.key);
+        let want = trace(alloc, case.head, case.before, case.last)?;
+        assert_eq!(rt; held.as_slice(), want.as_slice(), "{}", case.key);
+    }
+    Ok(())
+}
+
+#[test]
+fn features_without_broadcast_or_hot_plug_are_refused(rt: HostRuntime) -> Result<(), Fail> {
+    for features in 0..8u64 {
+        let file = format!(in rt.alloc();
+            "[platform]\napic = [0]\nboot = [0]\nlow_memory = 0x1000000\ntseg_mib = 8\nfeatures = {features}\npolls = 1\nturns = 0\n"
+        )?;
+        let (status, held) = answer_to(rt.alloc(), &["run"], file.as_bytes())?;
+        let agreed = matches!(features, 0 | 1 | 3 | 7);
+        let want = if agreed {
+            Status::Done
+        } else {
+            Status::BootRefused(BootFact::NotNegotiated(0))
+        };
+        assert_eq!(rt; status, want, "features {features}");
+        let lines = held.iter().filter(|byte| **byte == b'\n').count();
+        assert_eq!(rt; lines, if agreed { 30 } else { 28 }, "features {features}");
     }
     Ok(())
 }
@@ -273,7 +407,7 @@ fn a_read_that_fails_is_a_read_fault(rt: HostRuntime) -> Result<(), Fail> {
 fn a_write_that_fails_leaves_the_lines_before_it(rt: HostRuntime) -> Result<(), Fail> {
     let alloc = rt.alloc();
     let words = words_of(alloc, &["run"])?;
-    for line in 0..LINES.len() {
+    for line in 0..ALL_LINES {
         let mut src = SureSource::new(FILE.to_vec(alloc)?);
         let mut out = MemSink::new(b"held\n".to_vec(alloc)?, [line as u64 + 1].to_vec(alloc)?);
         let status = top(alloc, words.as_slice(), &mut src, &mut out);
@@ -293,7 +427,7 @@ fn the_edge_to_std_passes_bytes_on(rt: HostRuntime) -> Result<(), Fail> {
     let mut out = StdSink::new(&mut held);
     let status = top(alloc, words.as_slice(), &mut src, &mut out);
     assert_eq!(rt; status, Status::Done);
-    let want = first_lines(alloc, LINES.len())?;
+    let want = first_lines(alloc, ALL_LINES)?;
     assert_eq!(rt; held.as_slice(), want.as_slice());
     Ok(())
 }
@@ -301,7 +435,6 @@ fn the_edge_to_std_passes_bytes_on(rt: HostRuntime) -> Result<(), Fail> {
 #[test]
 fn each_status_has_its_text_and_its_number(rt: HostRuntime) -> Result<(), Fail> {
     use crate::Why;
-    use hp_model::BootFact;
     let cases: [(Status, u8, &str); 13] = [
         (Status::Done, 0, "done"),
         (

@@ -1,5 +1,5 @@
 -- A text that is read has a tree, and the tree is that of a file.
-use Rattle.std.proofs.Common.{◌≡◌, List, ℕ, Option, Some, None}
+use Rattle.std.proofs.Common.{◌≡◌, Option, Some, None}
 use Rattle.std.specs.Prelude.{option_map}
 use Rattle.std.proofs.lemmas.Option.{same_Some}
 use Rattle.toml.specs.Data.{Members}

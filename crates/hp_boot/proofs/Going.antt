@@ -1,0 +1,67 @@
+-- The boot access by access: what a turn leads to where processor 0 is free to make the next access.
+use Rattle.std.proofs.Common.{◌≡◌, ℕ, suc, Bool, true, false, ◌&&◌, List, replicate, Option, Some, ap, ◌∙◌}
+use Rattle.std.proofs.lemmas.Bool.{and_from, or_left, cond-true}
+use Rattle.hp_model.specs.declared.platforms.Platform.{Platform}
+use Rattle.hp_model.specs.declared.accesses.Access.{Access}
+use Rattle.hp_model.specs.declared.entries.Actor.TheVariants.{Cpu}
+use Rattle.hp_model.specs.declared.entries.Event.TheVariants.{Do}
+use Rattle.hp_model.specs.declared.outcomes.BootFact.{BootFact}
+use Rattle.hp_model.specs.declared.processors.Cpu.{Cpu as OneCpu}
+use Rattle.hp_model.specs.Cpu.{is_free, is_in_smm, cpu_at, cpus_start}
+use Rattle.hp_model.specs.Boot.{Stage, Boots, Refused, boot_access, stage_after}
+use Rattle.hp_model.specs.Step.{State, After, at as state_cpu, is_normal, same_access, is_enabled, is_wanted, wanted_in, access_effect, answer_to, after, step}
+use Rattle.hp_model.specs.Schedule.{Scene, Made, made_by, act, act_all}
+use Rattle.hp_model.proofs.Same.{same_access-refl}
+use Rattle.hp_boot.proofs.Turns.{all_refused, act_boots}
+use Rattle.hp_boot.proofs.Outside.{IsOutside-start}
+use Rattle.hp_boot.proofs.Start.{Facts, starts_free}
+
+-- where the boot stands after so many turns of processor 0, from a state on
+abbrev pub Ends : Platform → ℕ → State → Stage → Type 0
+Ends p n s end = (w : Scene) → w.state ≡ s → (act_all p w (replicate n (Cpu 0))).scene.state.stage ≡ end
+
+pub ends_now : (p : Platform) (s : State) → Ends p 0 s s.stage
+unfolding act_all
+ends_now p s w at = ap (λ (t : State). t.stage) at
+
+pub ends_refused : (p : Platform) (n : ℕ) (s : State) (fact : BootFact) → s.stage ≡ Refused fact → Ends p n s (Refused fact)
+ends_refused p n s fact refused w at =
+    let same : w.state.stage ≡ Refused fact = ap (λ (t : State). t.stage) at ∙ refused in
+    ap (λ (m : Made). m.scene.state.stage) (all_refused p w fact (replicate n (Cpu 0)) same) ∙ same
+
+module _ (p : Platform) (f : Facts p) where
+  -- the state after an access of processor 0, outside SMM
+  abbrev pub made : Access → State → State
+  made a s = record (access_effect p 0 false a s) { stage = stage_after (answer_to false a s) s.stage }
+
+  module _ (s : State) (done supported : ℕ) (a : Access) (cpus : s.cpus ≡ cpus_start p) (boots : s.stage ≡ Boots done supported)
+      (is : boot_access p.tseg_mib supported done ≡ a) (normal : is_normal a ≡ true) where
+    enabled : is_enabled p s (Do 0 a) ≡ true
+    enabled =
+        let free : is_free (state_cpu s 0) ≡ true = ap (λ (cs : List OneCpu). is_free (cpu_at cs 0)) cpus ∙ starts_free p f in
+        and_from (is_normal a) _ normal (or_left (is_free (state_cpu s 0)) _ free)
+
+    wanted : is_wanted p s (Do 0 a) ≡ true
+    wanted = ap (λ (t : Stage). wanted_in p s t (Do 0 a)) boots ∙ ap (same_access a) is ∙ same_access-refl a
+
+    stepped : step p s (Do 0 a) ≡ Some (after p s (Do 0 a))
+    unfolding step
+    stepped = cond-true (is_enabled p s (Do 0 a) && is_wanted p s (Do 0 a)) _ _ (and_from (is_enabled p s (Do 0 a)) (is_wanted p s (Do 0 a)) enabled wanted)
+
+    after_made : (after p s (Do 0 a)).state ≡ made a s
+    after_made =
+        let outside : is_in_smm (state_cpu s 0).mode ≡ false = ap (λ (cs : List OneCpu). is_in_smm (cpu_at cs 0).mode) cpus ∙ IsOutside-start p in
+        ap (λ (b : Bool). record (access_effect p 0 b a s) { stage = stage_after (answer_to b a s) s.stage }) outside
+
+    turned : (w : Scene) → w.state ≡ s → (act p w (Cpu 0)).scene.state ≡ made a s
+    turned w at =
+        let state_of : Option After → State = λ (o : Option After). (made_by p w (Cpu 0) o).scene.state in
+        ap (λ (m : Made). m.scene.state) (act_boots p w done supported (ap (λ (t : State). t.stage) at ∙ boots))
+        ∙ ap (λ (b : Access). state_of (step p w.state (Do 0 b))) is
+        ∙ ap (λ (t : State). state_of (step p t (Do 0 a))) at
+        ∙ ap state_of stepped
+        ∙ after_made
+
+    pub ends_later : (n : ℕ) (end : Stage) (t : State) → made a s ≡ t → Ends p n t end → Ends p (suc n) s end
+    unfolding act_all
+    ends_later n end t is later w at = later (act p w (Cpu 0)).scene (turned w at ∙ is)

@@ -1,0 +1,14 @@
+pub mod Parts
+pub mod Turns
+pub mod Outside
+pub mod Stops
+pub mod Start
+pub mod Open
+pub mod Going
+pub mod Places
+pub mod Transfers
+pub mod Features
+pub mod Area
+pub mod Form
+pub mod Ends
+pub mod Worked

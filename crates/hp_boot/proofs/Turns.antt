@@ -1,0 +1,67 @@
+-- Turns of the boot: what one makes, and how the boot stands after it.
+use Rattle.std.proofs.Common.{◌≡◌, ◌⊎◌, inl, inr, ℕ, Bool, true, false, ◌&&◌, List, [], ◌∷◌, Option, Some, None, refl, ap, ◌∙◌, if◌then◌else◌}
+use Rattle.hp_model.specs.declared.platforms.Platform.{Platform}
+use Rattle.hp_model.specs.declared.entries.Actor.{Actor}
+use Rattle.hp_model.specs.declared.entries.Actor.TheVariants.{Cpu}
+use Rattle.hp_model.specs.declared.entries.Event.{Event}
+use Rattle.hp_model.specs.declared.entries.Event.TheVariants.{Do}
+use Rattle.hp_model.specs.declared.outcomes.BootFact.{BootFact}
+use Rattle.hp_model.specs.Boot.{Stage, Boots, Refused, Handed, boot_access, stage_after}
+use Rattle.hp_model.specs.Step.{State, After, at as state_cpu, is_enabled, is_wanted, wanted_in, answer_of, after, step}
+use Rattle.hp_model.specs.Schedule.{Scene, makes_none, voice_at, says, made_by, cpu_event, event_of, stage_event, act, act_all}
+
+unwanted : (b c : Bool) (a : After) → c ≡ false → (if b && c then Some a else None) ≡ None
+unwanted true true a h = cc
+unwanted true false a h = refl
+unwanted false true a h = refl
+unwanted false false a h = refl
+
+pub refused_stays : (p : Platform) (s : State) (fact : BootFact) (e : Event) → s.stage ≡ Refused fact → step p s e ≡ None
+unfolding step
+refused_stays p s fact e at = unwanted (is_enabled p s e) (is_wanted p s e) (after p s e) (ap (λ (t : Stage). wanted_in p s t e) at)
+
+-- a refused boot makes nothing more
+act_refused : (p : Platform) (w : Scene) (fact : BootFact) (a : Actor) → w.state.stage ≡ Refused fact → act p w a ≡ makes_none w
+unfolding act
+act_refused p w fact a at = ap (made_by p w a) (refused_stays p w.state fact (event_of p w a) at)
+
+pub all_refused : (p : Platform) (w : Scene) (fact : BootFact) (as' : List Actor) → w.state.stage ≡ Refused fact → act_all p w as' ≡ makes_none w
+unfolding act_all
+all_refused p w fact [] at = refl
+all_refused p w fact (a ∷ as') at = rw (act_refused p w fact a at, all_refused p w fact as' at) refl
+
+-- a step is what `after` says, where there is one
+pub step_either : (p : Platform) (s : State) (e : Event) → (step p s e ≡ None) ⊎ (step p s e ≡ Some (after p s e))
+unfolding step
+step_either p s e = by_guard (is_enabled p s e && is_wanted p s e)
+  where
+    by_guard : (b : Bool) → ((if b then Some (after p s e) else None) ≡ None) ⊎ ((if b then Some (after p s e) else None) ≡ Some (after p s e))
+    by_guard true = inr refl
+    by_guard false = inl refl
+
+-- what is handed over stays so
+act_handed : (p : Platform) (w : Scene) (requested : ℕ) (a : Actor) → w.state.stage ≡ Handed requested → (act p w a).scene.state.stage ≡ Handed requested
+unfolding act
+act_handed p w requested a at = by_step (step_either p w.state (event_of p w a))
+  where
+    by_step : (step p w.state (event_of p w a) ≡ None) ⊎ (step p w.state (event_of p w a) ≡ Some (after p w.state (event_of p w a)))
+        → (made_by p w a (step p w.state (event_of p w a))).scene.state.stage ≡ Handed requested
+    by_step (inl none) = ap (λ (o : Option After). (made_by p w a o).scene.state.stage) none ∙ at
+    by_step (inr some) =
+        ap (λ (o : Option After). (made_by p w a o).scene.state.stage) some
+        ∙ ap (stage_after (answer_of w.state (event_of p w a))) at
+
+pub all_handed : (p : Platform) (w : Scene) (requested : ℕ) (as' : List Actor) → w.state.stage ≡ Handed requested → (act_all p w as').scene.state.stage ≡ Handed requested
+unfolding act_all
+all_handed p w requested [] at = at
+all_handed p w requested (a ∷ as') at = all_handed p (act p w a).scene requested as' (act_handed p w requested a at)
+
+-- before both, a turn of processor 0 is the boot's next access
+pub event_boots : (p : Platform) (w : Scene) (done supported : ℕ) → w.state.stage ≡ Boots done supported →
+    event_of p w (Cpu 0) ≡ Do 0 (boot_access p.tseg_mib supported done)
+event_boots p w done supported at = ap (λ (t : Stage). stage_event p t 0 (cpu_event 0 (state_cpu w.state 0) (says (voice_at w 0)).access)) at
+
+pub act_boots : (p : Platform) (w : Scene) (done supported : ℕ) → w.state.stage ≡ Boots done supported →
+    act p w (Cpu 0) ≡ made_by p w (Cpu 0) (step p w.state (Do 0 (boot_access p.tseg_mib supported done)))
+unfolding act
+act_boots p w done supported at = ap (λ (e : Event). made_by p w (Cpu 0) (step p w.state e)) (event_boots p w done supported at)

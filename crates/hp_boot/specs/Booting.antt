@@ -1,0 +1,34 @@
+-- What contracts see of a boot, and what a caller is told of it.
+use Rattle.std.specs.Prelude.{◌≡◌, ℕ, ◌<◌, ◌^◌}
+use Rattle.hp_model.specs.Boot.{Stage, Boots, Refused, Handed}
+use Rattle.hp_boot.specs.declared.boots.BootStage.{BootStage}
+use Rattle.hp_boot.specs.declared.boots.BootStage.TheVariants as told
+use Rattle.hp_boot.specs.declared.boots.Place.{Place}
+use Rattle.hp_boot.specs.declared.boots.Place.TheVariants as place
+
+-- the boot of a machine with a TSEG of so many MiB
+pub record Booting : Type 0 where
+  pub mib : ℕ
+  pub stage : Stage
+
+abbrev pub stage_view : Place → Stage
+stage_view (place.Boots done supported) = Boots done supported
+stage_view (place.Refused fact) = Refused fact
+stage_view (place.Handed requested) = Handed requested
+
+-- no more than 26 of the 27 accesses are made while it boots
+abbrev pub IsBefore : Place → Type 0
+IsBefore (place.Boots done supported) = done < 27
+IsBefore (place.Refused fact) = Unit {0}
+IsBefore (place.Handed requested) = Unit {0}
+
+abbrev pub told_of : Stage → BootStage
+told_of (Boots done supported) = told.More
+told_of (Refused fact) = told.Refused fact
+told_of (Handed requested) = told.Handed requested
+
+-- the values that are looked at, each of its access's width: 4 bytes, 1 and 1
+pub record IsRead (done value : ℕ) : Type 0 where
+  pub block : done ≡ 3 → value < 2 ^ 32
+  pub area : done ≡ 5 → value < 2 ^ 8
+  pub features : done ≡ 25 → value < 2 ^ 8

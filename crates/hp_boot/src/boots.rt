@@ -1,0 +1,144 @@
+//! The boot as a generator that is fed by answers.
+
+ghost use Rattle.std.specs.Prelude.{◌≡◌, true, ◌<◌};
+ghost use Rattle.hp_model.specs.Platform.{IsFit};
+ghost use Rattle.hp_model.specs.Boot.{boot_start, is_booting, boot_next, boot_refusal, value_in, stage_after, stage_by};
+ghost use Rattle.hp_model.specs.Fitting.{FitsAccess};
+ghost use Rattle.hp_boot.specs.Booting.{stage_view, told_of, IsBefore, IsRead};
+
+use crate::table::access;
+use hp_model::{Access, Answer, BootFact, Platform};
+use std::marker::Model;
+
+/// How a boot stands, for its caller.
+#[derive(Clone, Copy, Debug, PartialEq)]
+pub enum BootStage {
+    /// There is a next access.
+    More,
+    /// The machine is handed over, with these SMI features requested (bits 0 to 2).
+    Handed(u64),
+    /// Nothing steps from here on, for the value that was read last.
+    Refused(BootFact),
+}
+
+/// Where a boot stands.
+#[derive(Clone, Copy)]
+enum Place {
+    /// So many accesses are made, and access 21 answered these supported features; 0 before it.
+    Boots { done: u8, supported: u64 },
+    Refused(BootFact),
+    Handed(u64),
+}
+
+/// The boot of one machine.
+#[derive(Drop)]
+pub struct Boot {
+    /// The size of TSEG in MiB.
+    tseg_mib: u32,
+    place: Place,
+}
+
+impl Model for Boot {
+    ghost use Rattle.hp_boot.specs.Booting as model;
+
+    ghost Value = { model.Booting };
+
+    ghost view = { λ b. record { mib = b.tseg_mib; stage = model.stage_view b.place } };
+
+    ghost invariant = { λ b. model.IsBefore b.place };
+}
+
+/// The value in an answer, 0 where there is none.
+fn value_of(answer: Answer) -> u64
+    ensures { result ≡ value_in answer }
+{
+    match answer {
+        Answer::Quiet => 0,
+        Answer::Value(value) => value,
+    }
+}
+
+/// What the value is refused for that the access after `done` accesses read.
+fn refusal(done: u8, value: u64) -> Option<BootFact>
+    requires { IsRead done value }
+    ensures { result ≡ boot_refusal done value }
+{
+    match (done, value) {
+        (3, 1..) => Some(BootFact::NotModern(value as u32)),
+        (5, 0 | 2..) => Some(BootFact::NoDefaultSmram(value as u8)),
+        (25, 0 | 2..) => Some(BootFact::NotNegotiated(value as u8)),
+        _ => None,
+    }
+}
+
+/// Where the boot stands once the access after `done` accesses read `value`.
+fn after(done: u8, supported: u64, value: u64) -> Place
+    requires before { done < 27 }
+    requires read { IsRead done value }
+    ensures stage { stage_view result ≡ stage_by (boot_refusal done value) done supported value }
+    ensures before { IsBefore result }
+{
+    match refusal(done, value) {
+        Some(fact) => Place::Refused(fact),
+        None if done == 26 => Place::Handed(supported % 8),
+        None if done == 20 => Place::Boots {
+            done: 21,
+            supported: value,
+        },
+        None => Place::Boots {
+            done: done + 1,
+            supported,
+        },
+    }
+}
+
+impl Boot {
+    /// The boot of this machine, before its first access.
+    pub fn new(p: &Platform) -> Boot
+        requires { IsFit p.now }
+        ensures { result ≡ record { mib = p.now.tseg_mib; stage = boot_start } }
+    {
+        Boot {
+            tseg_mib: p.tseg_mib,
+            place: Place::Boots {
+                done: 0,
+                supported: 0,
+            },
+        }
+    }
+
+    /// The next access. Processor 0 makes it.
+    pub fn want(&self) -> Access
+        requires { is_booting self.now.stage ≡ true }
+        ensures { result ≡ boot_next self.now.mib self.now.stage }
+    {
+        match self.place {
+            Place::Boots { done, supported } => access(self.tseg_mib, supported, done),
+            Place::Refused(_) | Place::Handed(_) => Access::Nop,
+        }
+    }
+
+    /// Takes the answer to the access that `want` told: a value that the access's width holds, or none.
+    pub fn feed(&mut self, answer: Answer) -> BootStage
+        requires booting { is_booting self.old.stage ≡ true }
+        requires fits { FitsAccess (boot_next self.old.mib self.old.stage) answer }
+        ensures step { self.new ≡ record self.old { stage = stage_after answer self.old.stage } }
+        ensures told { result ≡ told_of self.new.stage }
+    {
+        if let Place::Boots { done, supported } = self.place {
+            self.place = after(done, supported, value_of(answer));
+        }
+        self.stage()
+    }
+
+    /// How the boot stands.
+    pub fn stage(&self) -> BootStage
+        ensures { result ≡ told_of self.now.stage }
+    {
+        match self.place {
+            Place::Boots { .. } => BootStage::More,
+            Place::Refused(fact) => BootStage::Refused(fact),
+            Place::Handed(requested) => BootStage::Handed(requested),
+        }
+    }
+}

@@ -1,0 +1,42 @@
+//! Laws over definitions: public functions with empty bodies, whose clauses are what is proved.
+
+ghost use Rattle.std.specs.Prelude.{◌≡◌, true, false, Some, None};
+ghost use Rattle.hp_model.specs.declared.platforms.Platform.{Platform};
+ghost use Rattle.hp_model.specs.declared.entries.Event.{Event};
+ghost use Rattle.hp_model.specs.declared.files.File.{File};
+ghost use Rattle.hp_model.specs.declared.outcomes.BootFact.{BootFact};
+ghost use Rattle.hp_model.specs.Platform.{IsFit};
+ghost use Rattle.hp_model.specs.Boot.{Refused, is_booting};
+ghost use Rattle.hp_model.specs.Step.{State, step};
+ghost use Rattle.hp_model.specs.Schedule.{booted, boot_fact};
+ghost use Rattle.hp_boot.specs.Ending.{hands_over, refusal_of, end_of, StopsAt};
+
+/// On each platform that fits the boot is over after its 27 turns, with the fact that the platform says, or handed over with
+/// all supported features requested. So a platform is handed over that is modern, whose default area can be locked and whose
+/// features negotiate.
+#[tactic(auto, using(crate::proofs::Ends::ends))]
+pub fn boot_ends()
+    ensures stage { (f : File) → IsFit f.platform → (booted f).scene.state.stage ≡ end_of f.platform }
+    ensures fact { (f : File) → IsFit f.platform → boot_fact f ≡ refusal_of f.platform }
+    ensures over { (f : File) → IsFit f.platform → is_booting (booted f).scene.state.stage ≡ false }
+    ensures hands_over { (f : File) → IsFit f.platform → hands_over f.platform ≡ true → boot_fact f ≡ None }
+{}
+
+/// No other platform is handed over.
+#[tactic(auto, using(crate::proofs::Ends::handed_over_alone))]
+pub fn no_other_boot_is_handed_over()
+    ensures { (f : File) → IsFit f.platform → boot_fact f ≡ None → hands_over f.platform ≡ true }
+{}
+
+/// Once the boot is refused the machine has no step at all, for no processor and no host event.
+#[tactic(auto, using(crate::proofs::Turns::refused_stays))]
+pub fn nothing_steps_after_a_refusal()
+    ensures { (p : Platform) (s : State) (fact : BootFact) (e : Event) → s.stage ≡ Refused fact → step p s e ≡ None }
+{}
+
+/// A boot that is refused ends with the access that read the fact's value, on processor 0 outside SMM, and the value isn't
+/// the one that the boot goes on with: 0 of command data 2, 1 of register 9c and of features-ok.
+#[tactic(auto, using(crate::proofs::Stops::boot_stops))]
+pub fn boot_stops_at_its_fact()
+    ensures { (f : File) (fact : BootFact) → boot_fact f ≡ Some fact → StopsAt fact (booted f).entries }
+{}

@@ -1,0 +1,6 @@
+-- The bytes get fewer.
+use Rattle.std.proofs.Common.{length}
+use Rattle.hp_machine.proofs.transfers.+store_bytes.Given as goal
+
+abbrev pub decreases-store_bytes : goal.decreases-store_bytes
+decreases-store_bytes l = length l.bytes.now

@@ -1,0 +1,155 @@
+-- Labels of the SMI handlers (own rule): whose they are, their marks, and the cells where these stand.
+use Rattle.std.specs.Prelude.{ℕ, ◌==◌, ◌+◌, ◌*◌, List, [], ◌∷◌, Option, Some, None, if◌then◌else◌}
+use Rattle.hp_model.specs.declared.platforms.Platform.{Platform}
+use Rattle.hp_model.specs.declared.labels.Label.{Label}
+use Rattle.hp_model.specs.declared.labels.Label.TheVariants.{F1, F2, F3, F4, F5, F6, R1, R2, R3, R4, R5, R6, S0, S1, S2, S3, S4, C1, C2, C3, C4, C5, C6, NB, N0, N1, N2, N3, N4, N5, N6, N7, N8a, N8b, N9, N10, N11, E0, E1, E2, E3, E4a, E4b, E4c, E4d, E4e, T, E5, E6, E7}
+use Rattle.hp_model.specs.Platform.{tile}
+
+-- whose handler a label is of: the first handler, the relocated handler, the monarch
+pub data Part : Type 0 where
+  First : Part
+  Relocated : Part
+  Monarch : Part
+
+abbrev pub part_of : Label → Part
+part_of F1 = First
+part_of F2 = First
+part_of F3 = First
+part_of F4 = First
+part_of F5 = First
+part_of F6 = First
+part_of R1 = Relocated
+part_of R2 = Relocated
+part_of R3 = Relocated
+part_of R4 = Relocated
+part_of R5 = Relocated
+part_of R6 = Relocated
+part_of S0 = Monarch
+part_of S1 = Monarch
+part_of S2 = Monarch
+part_of S3 = Monarch
+part_of S4 = Monarch
+part_of C1 = Monarch
+part_of C2 = Monarch
+part_of C3 = Monarch
+part_of C4 = Monarch
+part_of C5 = Monarch
+part_of C6 = Monarch
+part_of NB = Monarch
+part_of N0 = Monarch
+part_of N1 = Monarch
+part_of N2 = Monarch
+part_of N3 = Monarch
+part_of N4 = Monarch
+part_of N5 = Monarch
+part_of N6 = Monarch
+part_of N7 = Monarch
+part_of N8a = Monarch
+part_of N8b = Monarch
+part_of N9 = Monarch
+part_of N10 = Monarch
+part_of N11 = Monarch
+part_of E0 = Monarch
+part_of E1 = Monarch
+part_of E2 = Monarch
+part_of E3 = Monarch
+part_of E4a = Monarch
+part_of E4b = Monarch
+part_of E4c = Monarch
+part_of E4d = Monarch
+part_of E4e = Monarch
+part_of T = Monarch
+part_of E5 = Monarch
+part_of E6 = Monarch
+part_of E7 = Monarch
+
+-- the label's place in its handler
+abbrev pub index_of : Label → ℕ
+index_of F1 = 0
+index_of F2 = 1
+index_of F3 = 2
+index_of F4 = 3
+index_of F5 = 4
+index_of F6 = 5
+index_of R1 = 0
+index_of R2 = 1
+index_of R3 = 2
+index_of R4 = 3
+index_of R5 = 4
+index_of R6 = 5
+index_of S0 = 0
+index_of S1 = 1
+index_of S2 = 2
+index_of S3 = 3
+index_of S4 = 4
+index_of C1 = 5
+index_of C2 = 6
+index_of C3 = 7
+index_of C4 = 8
+index_of C5 = 9
+index_of C6 = 10
+index_of NB = 11
+index_of N0 = 12
+index_of N1 = 13
+index_of N2 = 14
+index_of N3 = 15
+index_of N4 = 16
+index_of N5 = 17
+index_of N6 = 18
+index_of N7 = 19
+index_of N8a = 20
+index_of N8b = 21
+index_of N9 = 22
+index_of N10 = 23
+index_of N11 = 24
+index_of E0 = 25
+index_of E1 = 26
+index_of E2 = 27
+index_of E3 = 28
+index_of E4a = 29
+index_of E4b = 30
+index_of E4c = 31
+index_of E4d = 32
+index_of E4e = 33
+index_of T = 34
+index_of E5 = 35
+index_of E6 = 36
+index_of E7 = 37
+
+-- a mark is 4 bytes; those of a handler follow one another
+abbrev pub first_mark : Part → ℕ
+first_mark First = 0x53000001
+first_mark Relocated = 0x53000011
+first_mark Monarch = 0x53000021
+
+abbrev pub mark_of : Label → ℕ
+mark_of l = first_mark (part_of l) + index_of l
+
+-- all labels, in their order
+abbrev pub labels : List Label
+labels =
+    F1 ∷ F2 ∷ F3 ∷ F4 ∷ F5 ∷ F6
+    ∷ R1 ∷ R2 ∷ R3 ∷ R4 ∷ R5 ∷ R6
+    ∷ S0 ∷ S1 ∷ S2 ∷ S3 ∷ S4
+    ∷ C1 ∷ C2 ∷ C3 ∷ C4 ∷ C5 ∷ C6
+    ∷ NB ∷ N0 ∷ N1 ∷ N2 ∷ N3 ∷ N4 ∷ N5 ∷ N6 ∷ N7 ∷ N8a ∷ N8b ∷ N9 ∷ N10 ∷ N11
+    ∷ E0 ∷ E1 ∷ E2 ∷ E3 ∷ E4a ∷ E4b ∷ E4c ∷ E4d ∷ E4e
+    ∷ T ∷ E5 ∷ E6 ∷ E7 ∷ []
+
+-- the label among these that has this mark
+abbrev pub with_mark : ℕ → List Label → Option Label
+with_mark found [] = None
+with_mark found (l ∷ ls) = if found == mark_of l then Some l else with_mark found ls
+
+unfoldable pub label_with : ℕ → Option Label
+label_with found = with_mark found labels
+
+-- where a handler's first cell lies, in slot `slot`: the first handler's past the default SMBASE, the others' in tiles, the monarch's in that of slot 0
+abbrev pub first_cell : Platform → Part → ℕ → ℕ
+first_cell p First slot = 0x38000
+first_cell p Relocated slot = tile p slot + 0x8000
+first_cell p Monarch slot = tile p 0 + 0x8000
+
+-- the 4 bytes where the label's mark stands, and where a processor stands at the label
+abbrev pub cell_of : Platform → Label → ℕ → ℕ
+cell_of p l slot = first_cell p (part_of l) slot + 4 * index_of l

@@ -1,0 +1,25 @@
+//! The top call of the program: words and bytes in, a status and a trace out. docs/PROOFS.md says what is proved.
+#![tactic(auto)]
+
+mod answering;
+mod in_memory;
+mod outside;
+mod reading;
+mod running;
+mod scenes;
+mod scripted;
+mod sorting;
+mod stalling;
+mod statuses;
+mod streams;
+#[cfg(test)]
+mod tests;
+mod writing;
+
+pub use answering::top;
+pub use in_memory::{SureSink, SureSource};
+pub use outside::{Failed, Sink, Source, WriteStop};
+pub use reading::LIMIT;
+pub use scripted::{MemSink, MemSource};
+pub use statuses::{Status, Why};
+pub use streams::{StdSink, StdSource};
