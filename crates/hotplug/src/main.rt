@@ -1,33 +1,37 @@
 //! The program: words, standard input and standard output in, an exit status out. docs/PROOFS.md says what is proved.
 #![tactic(auto)]
 
+ghost use Rattle.std.specs.Prelude.{◌≡◌, drop};
+
 use hp_top::{Status, StdSink, StdSource, top};
 use std::process::ExitCode;
 use std::{env, io};
 
-/// The words after the program's name.
+/// The words that the system hands over, of which the first is the program's name.
 fn words_of(rt: &HostRuntime) -> Result<Vec<String>, Status> {
-    let mut all = match env::args(rt) {
-        Ok(all) => all,
-        Err(error) if error.kind() == io::ErrorKind::OutOfMemory => return Err(Status::NoMemory),
+    match env::args(rt) {
+        Ok(all) => all.collect(rt.alloc()).map_err(|_| Status::NoMemory),
+        Err(error) if error.kind() == io::ErrorKind::OutOfMemory => Err(Status::NoMemory),
         // A word that isn't UTF-8 is in no command.
-        Err(_) => return Err(Status::BadWords),
-    };
-    let _program = all.next();
-    let mut words = Vec::new(rt.alloc());
-    for word in all {
-        if words.push(word).is_err() {
-            return Err(Status::NoMemory);
-        }
+        Err(_) => Err(Status::BadWords),
     }
-    Ok(words)
+}
+
+/// The words after the program's name.
+fn after_name(words: &[String]) -> &[String]
+    ensures { result.now ≡ drop 1 words.now }
+{
+    match words {
+        [_, rest @ ..] => rest,
+        [] => words,
+    }
 }
 
 fn serve(rt: &HostRuntime) -> Status {
     match words_of(rt) {
         Ok(words) => top(
             rt.alloc(),
-            words.as_slice(),
+            after_name(words.as_slice()),
             &mut StdSource::new(rt.stdin()),
             &mut StdSink::new(rt.stdout()),
         ),

@@ -14,11 +14,30 @@ fn supporting(rt: &impl Abort, alloc: Global, features: u64) -> Result<Machine, 
     machine(rt, alloc, &p)
 }
 
-/// Writes a request, looks at etc/smi/features-ok, and answers its byte.
-fn ok_after(rt: &impl Abort, machine: &mut Machine, features: u64) -> Result<u64, Fail> {
+/// Writes a request, which can then be read back, and looks at etc/smi/features-ok, which is 1 where something is agreed
+/// on, else 0. Answers what that is.
+fn agreed(rt: &impl Abort, machine: &mut Machine, features: u64) -> Result<Option<u64>, Fail> {
     request(rt, machine, features)?;
+    assert_eq!(rt; requested(rt, machine)?, features);
     select(rt, machine, 0x20)?;
-    next_byte(rt, machine)
+    let agreed = machine.negotiated();
+    assert_eq!(rt; next_byte(rt, machine)?, u64::from(agreed.is_some()));
+    Ok(agreed)
+}
+
+/// What is agreed on after each of three requests: this one, then 5, then 0.
+fn agreed_in_turn(
+    rt: &impl Abort,
+    alloc: Global,
+    supported: u64,
+    asked: u64,
+) -> Result<[Option<u64>; 3], Fail> {
+    let mut machine = supporting(rt, alloc, supported)?;
+    let mut answers = [None; 3];
+    for (place, features) in [asked, 5, 0].into_iter().enumerate() {
+        answers[place] = agreed(rt, &mut machine, features)?;
+    }
+    Ok(answers)
 }
 
 #[test]
@@ -27,32 +46,15 @@ fn features_are_agreed_on_in_a_chain_and_once(rt: HostRuntime) -> Result<(), Fai
     let most = [0, 1, 0, 3, 0, 1, 0, 7];
     for (supported, most) in most.into_iter().enumerate() {
         for asked in 0..8u64 {
-            let mut machine = supporting(&rt, rt.alloc(), supported as u64)?;
-            assert_eq!(rt; machine.negotiated(), None);
-            let ok = ok_after(&rt, &mut machine, asked)?;
-            let granted = [0, 1, 3, 7].contains(&asked) && asked <= most;
-            let agreed = if granted { Some(asked) } else { None };
-            assert_eq!(rt;
-                (ok, machine.negotiated()),
-                (u64::from(granted), agreed),
-                "{asked} asked of {supported}"
-            );
-            // what is requested can still be written, and what was agreed on stays
-            let again = ok_after(&rt, &mut machine, 5)?;
-            assert_eq!(rt;
-                (again, machine.negotiated()),
-                (u64::from(granted), agreed),
-                "5 asked of {supported} after {asked}"
-            );
-            assert_eq!(rt; requested(&rt, &mut machine)?, 5);
-            // nothing at all is granted, if nothing was yet
-            let last = if granted { asked } else { 0 };
-            assert_eq!(rt; ok_after(&rt, &mut machine, 0)?, 1);
-            assert_eq!(rt;
-                machine.negotiated(),
-                Some(last),
-                "0 asked of {supported} after {asked}"
-            );
+            let is_granted = [0, 1, 3, 7].contains(&asked) && asked <= most;
+            // 5 is never granted, and 0 always
+            let want = if is_granted {
+                [Some(asked); 3]
+            } else {
+                [None, None, Some(0)]
+            };
+            let got = agreed_in_turn(&rt, rt.alloc(), supported as u64, asked)?;
+            assert_eq!(rt; got, want, "{asked} asked of {supported}");
         }
     }
     Ok(())
@@ -61,48 +63,62 @@ fn features_are_agreed_on_in_a_chain_and_once(rt: HostRuntime) -> Result<(), Fai
 #[test]
 fn features_that_the_device_lacks_are_refused(rt: HostRuntime) -> Result<(), Fail> {
     for asked in [8, 15, 0x100, 0x701, 0x0700000000000000, 0x8000000000000007] {
-        let mut machine = supporting(&rt, rt.alloc(), 7)?;
-        assert_eq!(rt; ok_after(&rt, &mut machine, asked)?, 0, "{asked:x}");
-        assert_eq!(rt; machine.negotiated(), None, "{asked:x}");
-        assert_eq!(rt; requested(&rt, &mut machine)?, asked);
+        let got = agreed_in_turn(&rt, rt.alloc(), 7, asked)?;
+        assert_eq!(rt; got, [None, None, Some(0)], "{asked:x}");
     }
     Ok(())
 }
 
+/// What is agreed on after 3 was requested and then a transfer made; with the control field that this leaves.
+fn agreed_by(rt: &impl Abort, alloc: Global, ask: Ask) -> Result<(u64, Option<u64>), Fail> {
+    let mut machine = supporting(rt, alloc, 7)?;
+    request(rt, &mut machine, 3)?;
+    assert_eq!(rt; machine.negotiated(), None);
+    let left = transfer(rt, &mut machine, 0, ask)?;
+    Ok((left, machine.negotiated()))
+}
+
 #[test]
-fn a_selection_of_features_ok_settles_what_is_requested_then(rt: HostRuntime) -> Result<(), Fail> {
-    // by a transfer that selects key 20 too, whether the transfer then fails or not
-    for (what, control, len, left) in [
-        ("a selection alone", 0x00200008, 0, DONE),
-        ("a skip", 0x0020000c, 1, DONE),
-        ("a read", 0x0020000a, 1, DONE),
-        ("a read that fails", 0x0020000a, 257, ERROR),
-        ("a write, which fails", 0x00200018, 0, ERROR),
+fn a_transfer_that_selects_features_ok_settles_even_if_it_fails(
+    rt: HostRuntime,
+) -> Result<(), Fail> {
+    for (control, len, want) in [
+        (0x00200008, 0, (DONE, Some(3))),
+        (0x0020000a, 1, (DONE, Some(3))),
+        (0x0020000a, 257, (ERROR, Some(3))),
+        (0x0020000c, 1, (DONE, Some(3))),
+        (0x00200018, 0, (ERROR, Some(3))),
+        // none of these selects it
+        (0x00200004, 1, (DONE, None)),
+        (0x00210008, 0, (DONE, None)),
+        (0x80200008, 0, (DONE, None)),
     ] {
-        let mut machine = supporting(&rt, rt.alloc(), 7)?;
-        request(&rt, &mut machine, 3)?;
-        assert_eq!(rt; machine.negotiated(), None, "{what}");
         let ask = Ask {
             control,
             len,
             address: 0x2000,
         };
-        assert_eq!(rt; transfer(&rt, &mut machine, 0, ask)?, left, "{what}");
-        assert_eq!(rt; machine.negotiated(), Some(3), "{what}");
+        let got = agreed_by(&rt, rt.alloc(), ask)?;
+        assert_eq!(rt; got, want, "{control:x} of {len} bytes");
     }
-    // no other access to the key, and no other key
+    Ok(())
+}
+
+#[test]
+fn no_other_selection_settles(rt: HostRuntime) -> Result<(), Fail> {
     let mut machine = supporting(&rt, rt.alloc(), 7)?;
     request(&rt, &mut machine, 3)?;
-    for (width, key) in [
-        (1, 0x20),
-        (4, 0x20),
-        (2, 0x21),
-        (2, 0x22),
-        (2, 0x8020),
-        (2, 0x2000),
+    for (width, key, want) in [
+        (1, 0x20, None),
+        (4, 0x20, None),
+        (2, 0x21, None),
+        (2, 0x22, None),
+        (2, 0x8020, None),
+        (2, 0x2000, None),
+        (2, 0x20, Some(3)),
     ] {
         quiet(&rt, &mut machine, port_out(0, width, 0x510, key))?;
-        assert_eq!(rt; machine.negotiated(), None, "{key:x} of {width} bytes");
+        assert_eq!(rt; machine.negotiated(), want, "{key:x} of {width} bytes");
     }
     Ok(())
 }

@@ -5,6 +5,7 @@ use super::guest::{
 };
 use super::{cfg_write, load, port_out, quiet, store, value};
 use crate::Machine;
+use std::alloc::Global;
 use std::process::Abort;
 use std::test::Fail;
 
@@ -58,14 +59,15 @@ fn four_requested(rt: &impl Abort, machine: &mut Machine) -> Result<[u64; 4], Fa
     ])
 }
 
-/// Bytes a1 a2 a3 a4 lie in memory, and `control` asks for a transfer of 4 bytes there, by processor `k`.
-fn move_four(
+/// A transfer of 4 bytes by processor `k`, which is no error. Answers the bytes in memory, a1 a2 a3 a4 before it, and the
+/// first 4 of the requested features after it.
+fn four_moved(
     rt: &impl Abort,
     machine: &mut Machine,
     k: u32,
     control: u32,
     at: u32,
-) -> Result<(), Fail> {
+) -> Result<([u64; 4], [u64; 4]), Fail> {
     put_bytes(rt, machine, at, &[0xa1, 0xa2, 0xa3, 0xa4])?;
     let ask = Ask {
         control,
@@ -73,7 +75,8 @@ fn move_four(
         address: u64::from(at),
     };
     assert_eq!(rt; transfer(rt, machine, k, ask)?, DONE);
-    Ok(())
+    let memory = four_bytes(rt, machine, at)?;
+    Ok((memory, four_requested(rt, machine)?))
 }
 
 /// The new bytes where a + stands, else the old ones.
@@ -85,6 +88,26 @@ fn mixed(places: &[u8; 4], new: [u64; 4], old: [u64; 4]) -> [u64; 4] {
         }
     }
     bytes
+}
+
+/// A read to this address, then a write from it: the bytes that are open move, of the read the others are dropped, and of
+/// the write they are ff.
+fn check_holes(
+    rt: &impl Abort,
+    machine: &mut Machine,
+    k: u32,
+    at: u32,
+    open: &[u8; 4],
+) -> Result<(), Fail> {
+    put_bytes(rt, machine, at, &[0xa1, 0xa2, 0xa3, 0xa4])?;
+    let before = four_bytes(rt, machine, at)?;
+    let (memory, _) = four_moved(rt, machine, k, 0x0021000a, at)?;
+    let read = mixed(open, [0x21, 0x22, 0x23, 0x24], before);
+    assert_eq!(rt; memory, read, "a read to {at:x} by {k}");
+    let (_, features) = four_moved(rt, machine, k, 0x00210018, at)?;
+    let written = mixed(open, [0xa1, 0xa2, 0xa3, 0xa4], [0xff; 4]);
+    assert_eq!(rt; features, written, "a write from {at:x} by {k}");
+    Ok(())
 }
 
 #[test]
@@ -121,23 +144,24 @@ fn a_byte_in_a_hole_is_dropped_or_read_as_ff(rt: HostRuntime) -> Result<(), Fail
         for k in [0, 1] {
             let mut machine = prepared(&rt, rt.alloc())?;
             lock(&rt, &mut machine, locks)?;
-            put_bytes(&rt, &mut machine, at, &[0xa1, 0xa2, 0xa3, 0xa4])?;
-            let before = four_bytes(&rt, &mut machine, at)?;
-            move_four(&rt, &mut machine, k, 0x0021000a, at)?;
-            assert_eq!(rt;
-                four_bytes(&rt, &mut machine, at)?,
-                mixed(open, [0x21, 0x22, 0x23, 0x24], before),
-                "a read to {at:x} by {k}"
-            );
-            move_four(&rt, &mut machine, k, 0x00210018, at)?;
-            assert_eq!(rt;
-                four_requested(&rt, &mut machine)?,
-                mixed(open, [0xa1, 0xa2, 0xa3, 0xa4], [0xff; 4]),
-                "a write from {at:x} by {k}"
-            );
+            check_holes(&rt, &mut machine, k, at, open)?;
         }
     }
     Ok(())
+}
+
+/// What a transfer of 4 bytes leaves: the control field, the 4 bytes at 0 and those at 2000, and the requested features.
+fn near_left(
+    rt: &impl Abort,
+    machine: &mut Machine,
+    ask: Ask,
+) -> Result<(u64, [u64; 4], [u64; 4], u64), Fail> {
+    put_bytes(rt, machine, 0, &[0xa1; 4])?;
+    put_bytes(rt, machine, 0x2000, &[0xa1; 4])?;
+    let left = transfer(rt, machine, 0, ask)?;
+    let low = four_bytes(rt, machine, 0)?;
+    let target = four_bytes(rt, machine, 0x2000)?;
+    Ok((left, low, target, requested(rt, machine)?))
 }
 
 #[test]
@@ -151,19 +175,12 @@ fn an_address_of_more_than_32_bits_is_an_error(rt: HostRuntime) -> Result<(), Fa
             (0x00210008, DONE),
         ] {
             let mut machine = prepared(&rt, rt.alloc())?;
-            put_bytes(&rt, &mut machine, 0, &[0xa1; 4])?;
-            put_bytes(&rt, &mut machine, 0x2000, &[0xa1; 4])?;
             let ask = Ask {
                 control,
                 len: 4,
                 address,
             };
-            let got = (
-                transfer(&rt, &mut machine, 0, ask)?,
-                four_bytes(&rt, &mut machine, 0)?,
-                four_bytes(&rt, &mut machine, 0x2000)?,
-                requested(&rt, &mut machine)?,
-            );
+            let got = near_left(&rt, &mut machine, ask)?;
             let want = (left, [0xa1; 4], [0xa1; 4], ITEM);
             assert_eq!(rt; got, want, "control {control:x} at {address:x}");
         }
@@ -185,12 +202,27 @@ fn a_long_read_goes_on_up_to_the_first_locked_byte(rt: HostRuntime) -> Result<()
     assert_eq!(rt; transfer(&rt, &mut machine, 0, ask)?, DONE);
     let bytes = four_bytes(&rt, &mut machine, 0x2fffe)?;
     assert_eq!(rt; bytes, [0x72, 0x65, 0xee, 0xee]);
-    assert_eq!(rt; next_byte(&rt, &mut machine)?, 0);
     Ok(())
 }
 
 /// Selects the supported features and reads 4 bytes of them to 2000.
 const FIELDS: [u8; 16] = [0, 0x22, 0, 0x0a, 0, 0, 0, 4, 0, 0, 0, 0, 0, 0, 0x20, 0];
+
+/// Whether a transfer by processor `k`, with its descriptor at this address, is carried out: selects, reads, and leaves 0
+/// in its control field. Else all that stays as it was.
+fn is_carried_out(rt: &impl Abort, machine: &mut Machine, k: u32, at: u32) -> Result<bool, Fail> {
+    read_on(rt, machine, 0x21, 3)?;
+    put_bytes(rt, machine, at, &FIELDS)?;
+    let before = four_bytes(rt, machine, at)?;
+    quiet(rt, machine, start(k, at))?;
+    let control = four_bytes(rt, machine, at)?;
+    let target = value(rt, machine, load(0, 4, 0x2000))?;
+    let next = next_byte(rt, machine)?;
+    assert!(rt;
+        (control, target, next) == ([0; 4], 7, 0) || (control, target, next) == (before, 0, 0x24)
+    );
+    Ok(target == 7)
+}
 
 #[test]
 fn a_descriptor_with_a_byte_in_a_hole_does_nothing(rt: HostRuntime) -> Result<(), Fail> {
@@ -228,52 +260,56 @@ fn a_descriptor_with_a_byte_in_a_hole_does_nothing(rt: HostRuntime) -> Result<()
         for k in [0, 1] {
             let mut machine = prepared(&rt, rt.alloc())?;
             lock(&rt, &mut machine, locks)?;
-            read_on(&rt, &mut machine, 0x21, 3)?;
-            put_bytes(&rt, &mut machine, at, &FIELDS)?;
-            let before = four_bytes(&rt, &mut machine, at)?;
-            quiet(&rt, &mut machine, start(k, at))?;
-            let got = (
-                four_bytes(&rt, &mut machine, at)?,
-                value(&rt, &mut machine, load(0, 4, 0x2000))?,
-                next_byte(&rt, &mut machine)?,
-            );
-            let want = if acts {
-                ([0; 4], 7, 0)
-            } else {
-                (before, 0, 0x24)
-            };
-            assert_eq!(rt; got, want, "at {at:x} by {k}");
+            let got = is_carried_out(&rt, &mut machine, k, at)?;
+            assert_eq!(rt; got, acts, "at {at:x} by {k}");
         }
     }
     Ok(())
 }
 
-/// The control field of a descriptor at 1000, once the high halves of the DMA address were written in this order, and
-/// then its low half.
-fn left_after(rt: &impl Abort, machine: &mut Machine, halves: &[u32]) -> Result<[u64; 4], Fail> {
-    put_bytes(rt, machine, 0x1000, &FIELDS)?;
+/// Whether the transfer is carried out once these high halves of its descriptor's address are written in turn.
+fn reaches(rt: &impl Abort, machine: &mut Machine, halves: &[u32]) -> Result<bool, Fail> {
+    quiet(rt, machine, store(0, 4, 0x2000, 0))?;
     for half in halves {
         quiet(rt, machine, port_out(0, 4, 0x514, *half))?;
     }
-    quiet(rt, machine, start(0, 0x1000))?;
-    four_bytes(rt, machine, 0x1000)
+    is_carried_out(rt, machine, 0, 0x1000)
 }
 
 #[test]
 fn a_high_half_other_than_0_reaches_no_descriptor(rt: HostRuntime) -> Result<(), Fail> {
     for high in [0x00000001, 0x01000000, 0x00100000, 0xffffffff] {
         let mut machine = prepared(&rt, rt.alloc())?;
-        read_on(&rt, &mut machine, 0x21, 3)?;
-        let left = left_after(&rt, &mut machine, &[0, high])?;
-        assert_eq!(rt; left, [0, 0x22, 0, 0x0a], "high half {high:x}");
-        assert_eq!(rt; next_byte(&rt, &mut machine)?, 0x24, "{high:x}");
-        // the high half is 0 again, and of two the last one counts
-        let left = left_after(&rt, &mut machine, &[])?;
-        assert_eq!(rt; left, [0; 4], "after high half {high:x}");
-        let left = left_after(&rt, &mut machine, &[high, 0])?;
-        assert_eq!(rt; left, [0; 4], "high half {high:x}, then 0");
+        // the high half is 0 again after each transfer, and of two the last one counts
+        for (halves, want) in [([0, high], false), ([0, 0], true), ([high, 0], true)] {
+            let got = reaches(&rt, &mut machine, &halves)?;
+            assert_eq!(rt; got, want, "high half {high:x}");
+        }
+        assert!(rt; !reaches(&rt, &mut machine, &[high])?, "high half {high:x}");
+        assert!(rt;
+            reaches(&rt, &mut machine, &[])?,
+            "after high half {high:x}"
+        );
     }
     Ok(())
+}
+
+/// The 16 bytes of a descriptor at 1000, which reads so many bytes of the requested features, once it is carried out.
+fn descriptor_after(
+    rt: &impl Abort,
+    alloc: Global,
+    address: u64,
+    len: u32,
+) -> Result<(u64, u64), Fail> {
+    let mut machine = prepared(rt, alloc)?;
+    let ask = Ask {
+        control: 0x0021000a,
+        len,
+        address,
+    };
+    transfer(rt, &mut machine, 0, ask)?;
+    let low = value(rt, &mut machine, load(0, 8, 0x1000))?;
+    Ok((low, value(rt, &mut machine, load(0, 8, 0x1008))?))
 }
 
 #[test]
@@ -289,17 +325,7 @@ fn the_control_field_is_written_last(rt: HostRuntime) -> Result<(), Fail> {
         (0x1000, 257, 0x0101000001000000, 0x0010000000000000),
     ];
     for (address, len, low, high) in table {
-        let mut machine = prepared(&rt, rt.alloc())?;
-        let ask = Ask {
-            control: 0x0021000a,
-            len,
-            address,
-        };
-        transfer(&rt, &mut machine, 0, ask)?;
-        let got = (
-            value(&rt, &mut machine, load(0, 8, 0x1000))?,
-            value(&rt, &mut machine, load(0, 8, 0x1008))?,
-        );
+        let got = descriptor_after(&rt, rt.alloc(), address, len)?;
         assert_eq!(rt; got, (low, high), "{len} bytes to {address:x}");
     }
     // a write from the descriptor itself has its first bytes as they were

@@ -1,33 +1,53 @@
 //! Whom the SMI of a command reaches, and what announces host events, with values worked out by hand.
 
 use super::guest::{request, select};
-use super::{
-    cpu_of, icr, in_mode, is_cpu, is_present, machine, platform, port_in, port_out, quiet, value,
-};
+use super::{cpu_of, icr, in_mode, is_cpu, machine, platform, play, port_in, port_out, quiet};
 use crate::Machine;
-use hp_model::{Event, Mode};
+use hp_model::{Answer, Event, Mode};
 use std::alloc::Global;
 use std::process::Abort;
 use std::test::Fail;
 
-/// Five possible processors: 0 and 1 run, 2 is in SMM, 3 waits for SIPI, 4 is absent.
+/// Five possible processors: 0 and 1 run, 2 is in SMM, 3 waits for SIPI, 4 is absent. APIC IDs aren't places.
 fn five(rt: &impl Abort, alloc: Global) -> Result<Machine, Fail> {
     let p = platform(alloc, vec![in alloc; 9, 4, 7, 1, 0]?, 3, 0x8000000, 1)?;
     let mut machine = machine(rt, alloc, &p)?;
-    quiet(rt, &mut machine, icr(0, 0x07000000, 0x200))?;
-    quiet(rt, &mut machine, Event::TakeSmi(2))?;
-    quiet(rt, &mut machine, Event::Insert(3))?;
+    for e in [
+        icr(0, 0x07000000, 0x200),
+        Event::TakeSmi(2),
+        Event::Insert(3),
+    ] {
+        quiet(rt, &mut machine, e)?;
+    }
     Ok(machine)
 }
 
-/// Which of processors 0 to 3 have an SMI latched.
-fn latched(rt: &impl Abort, machine: &Machine) -> [bool; 4] {
-    [
-        cpu_of(rt, machine, 0).smi,
-        cpu_of(rt, machine, 1).smi,
-        cpu_of(rt, machine, 2).smi,
-        cpu_of(rt, machine, 3).smi,
-    ]
+/// Which of processors 0 to 3 have an SMI latched. The absent one has none when it comes.
+fn latched(rt: &impl Abort, machine: &mut Machine) -> Result<[bool; 4], Fail> {
+    let mut latches = [false; 4];
+    for place in 0..4u32 {
+        latches[place as usize] = cpu_of(rt, machine, place).smi;
+    }
+    quiet(rt, machine, Event::Insert(4))?;
+    assert!(rt; is_cpu(cpu_of(rt, machine, 4), in_mode(Mode::Wait)));
+    Ok(latches)
+}
+
+/// Who has an SMI after a write of SMI_EN and then one of a port, where these features were requested, and
+/// etc/smi/features-ok looked at or not.
+fn hit_by(
+    rt: &impl Abort,
+    machine: &mut Machine,
+    features: u64,
+    looks: bool,
+    writes: [Event; 2],
+) -> Result<[bool; 4], Fail> {
+    request(rt, machine, features)?;
+    select(rt, machine, if looks { 0x20 } else { 0x21 })?;
+    for e in writes {
+        quiet(rt, machine, e)?;
+    }
+    latched(rt, machine)
 }
 
 const ALL: [bool; 4] = [true; 4];
@@ -66,20 +86,12 @@ fn a_command_reaches_all_processors_by_broadcast_and_else_its_writer(
     ];
     for (features, looks, writer, want) in table {
         let mut machine = five(&rt, rt.alloc())?;
-        request(&rt, &mut machine, features)?;
-        if looks {
-            select(&rt, &mut machine, 0x20)?;
-        }
-        quiet(&rt, &mut machine, port_out(0, 4, 0x630, 0x20))?;
-        quiet(&rt, &mut machine, port_out(writer, 1, 0xb2, 4))?;
+        let writes = [port_out(0, 4, 0x630, 0x20), port_out(writer, 1, 0xb2, 4)];
         assert_eq!(rt;
-            latched(&rt, &machine),
+            hit_by(&rt, &mut machine, features, looks, writes)?,
             want,
             "{features} requested, looked at: {looks}, written by {writer}"
         );
-        // the absent one has none when it comes
-        quiet(&rt, &mut machine, Event::Insert(4))?;
-        assert!(rt; is_cpu(cpu_of(&rt, &machine, 4), in_mode(Mode::Wait)));
     }
     Ok(())
 }
@@ -105,12 +117,12 @@ fn a_command_needs_apmc_en(rt: HostRuntime) -> Result<(), Fail> {
     ];
     for (smi_en, port, width, command, want) in table {
         let mut machine = five(&rt, rt.alloc())?;
-        request(&rt, &mut machine, 7)?;
-        select(&rt, &mut machine, 0x20)?;
-        quiet(&rt, &mut machine, port_out(0, 4, 0x630, smi_en))?;
-        quiet(&rt, &mut machine, port_out(0, width, port, command))?;
+        let writes = [
+            port_out(0, 4, 0x630, smi_en),
+            port_out(0, width, port, command),
+        ];
         assert_eq!(rt;
-            latched(&rt, &machine),
+            hit_by(&rt, &mut machine, 7, true, writes)?,
             want,
             "{command:x} of {width} bytes at {port:x} under {smi_en:x}"
         );
@@ -118,34 +130,37 @@ fn a_command_needs_apmc_en(rt: HostRuntime) -> Result<(), Fail> {
     Ok(())
 }
 
-/// The GPE status, as processor 0 reads it.
-fn gpe(rt: &impl Abort, machine: &mut Machine) -> Result<u64, Fail> {
-    value(rt, machine, port_in(0, 1, 0x620))
-}
-
 #[test]
 fn host_events_are_announced_until_a_1_is_written(rt: HostRuntime) -> Result<(), Fail> {
     let alloc = rt.alloc();
     let p = platform(alloc, vec![in alloc; 0, 1, 2]?, 2, 0x8000000, 1)?;
+    let status = port_in(0, 1, 0x620);
     for event in [Event::Insert(2), Event::Remove(1)] {
         let mut machine = machine(&rt, alloc, &p)?;
-        assert_eq!(rt; gpe(&rt, &mut machine)?, 0);
-        quiet(&rt, &mut machine, event)?;
-        // what is written, and what is left
-        for (written, left) in [(0, 4), (0xfb, 4), (4, 0), (4, 0), (0xff, 0)] {
-            quiet(&rt, &mut machine, port_out(1, 1, 0x620, written))?;
-            assert_eq!(rt; gpe(&rt, &mut machine)?, left, "{written:x}");
-        }
-        // two events are announced by one bit, and an eject isn't announced
-        quiet(&rt, &mut machine, Event::Remove(1))?;
-        quiet(&rt, &mut machine, Event::Remove(1))?;
-        assert_eq!(rt; gpe(&rt, &mut machine)?, 4);
-        quiet(&rt, &mut machine, port_out(0, 1, 0x620, 0xff))?;
-        for (port, byte) in [(0xcd8, 0), (0xcd8, 1), (0xcdc, 8)] {
-            quiet(&rt, &mut machine, port_out(0, 1, port, byte))?;
-        }
-        assert!(rt; machine.ejected() == Some(1) && !is_present(&machine, 1));
-        assert_eq!(rt; gpe(&rt, &mut machine)?, 0);
+        let steps = [
+            (status, Answer::Value(0)),
+            (event, Answer::Quiet),
+            (status, Answer::Value(4)),
+            // bits other than 2, then bit 2, then all
+            (port_out(1, 1, 0x620, 0xfb), Answer::Quiet),
+            (status, Answer::Value(4)),
+            (port_out(1, 1, 0x620, 4), Answer::Quiet),
+            (status, Answer::Value(0)),
+            (port_out(1, 1, 0x620, 0xff), Answer::Quiet),
+            (status, Answer::Value(0)),
+            // two events are announced by one bit
+            (Event::Remove(1), Answer::Quiet),
+            (Event::Remove(1), Answer::Quiet),
+            (status, Answer::Value(4)),
+            (port_out(0, 1, 0x620, 0xff), Answer::Quiet),
+            (status, Answer::Value(0)),
+            // an eject isn't announced
+            (port_out(0, 1, 0xcd8, 0), Answer::Quiet),
+            (port_out(0, 1, 0xcd8, 1), Answer::Quiet),
+            (port_out(0, 1, 0xcdc, 8), Answer::Quiet),
+            (status, Answer::Value(0)),
+        ];
+        play(&rt, &mut machine, &steps)?;
     }
     Ok(())
 }

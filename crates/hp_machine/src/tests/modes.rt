@@ -62,6 +62,7 @@ fn a_new_processor_goes_through_its_modes(rt: HostRuntime) -> Result<(), Fail> {
     assert_eq!(rt; mark_of(&rt, &machine, 1), Some(0));
     assert!(rt; machine.enabled(&Event::Resume(1)) && is_present(&machine, 1));
     machine.go(1, 0x38004, 0x7f30000);
+    assert_eq!(rt; machine.address(1), Some(0x38004));
     let moved = Cpu {
         base: 0x7f30000,
         ..in_mode(Mode::Smm(0x38004))

@@ -9,12 +9,33 @@ use std::test::Fail;
 /// Bytes ee, which no item has.
 const BLANK: u64 = 0xeeeeeeeeeeeeeeee;
 
+/// Bytes a1 a2 a3 a4.
+const OLD: u64 = 0xa4a3a2a1;
+
+/// What a transfer of 3 bytes leaves, begun at the fourth of the requested features, where a1 a2 a3 a4 lie at its address:
+/// the control field, the 4 bytes at the address, the byte of the item that is read next, and the requested features.
+fn three_moved(
+    rt: &impl Abort,
+    machine: &mut Machine,
+    control: u32,
+) -> Result<(u64, u64, u64, u64), Fail> {
+    read_on(rt, machine, 0x21, 3)?;
+    quiet(rt, machine, store(0, 4, 0x2000, OLD))?;
+    let ask = Ask {
+        control,
+        len: 3,
+        address: 0x2000,
+    };
+    let left = transfer(rt, machine, 0, ask)?;
+    let target = value(rt, machine, load(0, 4, 0x2000))?;
+    let next = next_byte(rt, machine)?;
+    Ok((left, target, next, requested(rt, machine)?))
+}
+
 #[test]
 fn the_first_of_read_write_and_skip_acts_alone(rt: HostRuntime) -> Result<(), Fail> {
-    const OLD: u64 = 0xa4a3a2a1;
     const FILLED: u64 = 0x2827a3a2a1232221;
-    // 3 bytes at the fourth of the requested features, or at the first of what is selected; key 19 is the directory,
-    // whose first bytes are 00 00 00 03. Control; what is left of it; the target; the next byte; the requested features
+    // control, and what it leaves; key 19 is the directory, whose first bytes are 00 00 00 03
     let table = [
         (0x00190000, DONE, OLD, 0x24, ITEM),
         (0x00190002, DONE, 0xa4262524, 0x27, ITEM),
@@ -47,20 +68,11 @@ fn the_first_of_read_write_and_skip_acts_alone(rt: HostRuntime) -> Result<(), Fa
         // the error bit asks for nothing
         for control in [bits, bits | 1] {
             let mut machine = prepared(&rt, rt.alloc())?;
-            read_on(&rt, &mut machine, 0x21, 3)?;
-            quiet(&rt, &mut machine, store(0, 4, 0x2000, OLD))?;
-            let ask = Ask {
-                control,
-                len: 3,
-                address: 0x2000,
-            };
-            let got = (
-                transfer(&rt, &mut machine, 0, ask)?,
-                value(&rt, &mut machine, load(0, 4, 0x2000))?,
-                next_byte(&rt, &mut machine)?,
-                requested(&rt, &mut machine)?,
+            assert_eq!(rt;
+                three_moved(&rt, &mut machine, control)?,
+                (left, target, next, features),
+                "control {control:x}"
             );
-            assert_eq!(rt; got, (left, target, next, features), "control {control:x}");
         }
     }
     Ok(())
@@ -186,6 +198,8 @@ fn a_skip_reads_no_memory_and_a_write_stays_in_its_item(rt: HostRuntime) -> Resu
         (16, 0x21, 0, 257, ERROR, 0x21),
         (16, 0x21, 8, 0, DONE, 0),
         (16, 0x21, 8, 1, ERROR, 0),
+        // reads byte by byte pass no end either
+        (16, 0x21, 20, 0, DONE, 0),
         (16, 0x20, 0, 0, ERROR, 0),
         (16, 0x20, 0, 1, ERROR, 0),
         (16, 0x22, 0, 0, ERROR, 7),
@@ -212,33 +226,30 @@ fn a_skip_reads_no_memory_and_a_write_stays_in_its_item(rt: HostRuntime) -> Resu
     Ok(())
 }
 
-#[test]
-fn no_offset_passes_its_items_end(rt: HostRuntime) -> Result<(), Fail> {
+/// What a write of no byte leaves of its control field, after a transfer at the fourth of the requested features. It is
+/// refused past their end.
+fn left_by_nothing(rt: &impl Abort, machine: &mut Machine, ask: Ask) -> Result<u64, Fail> {
+    read_on(rt, machine, 0x21, 3)?;
+    assert_eq!(rt; transfer(rt, machine, 0, ask)?, DONE);
     let nothing = Ask {
         control: 16,
         len: 0,
         address: 0x2000,
     };
-    for (what, control, len) in [
-        ("a read", 2, 256),
-        ("a read to the end", 2, 5),
-        ("a skip", 4, 256),
-        ("neither", 0, 256),
-    ] {
+    transfer(rt, machine, 0, nothing)
+}
+
+#[test]
+fn no_offset_passes_its_items_end(rt: HostRuntime) -> Result<(), Fail> {
+    for (control, len) in [(2, 5), (2, 6), (2, 256), (4, 5), (4, 6), (4, 256), (0, 256)] {
         let mut machine = prepared(&rt, rt.alloc())?;
-        read_on(&rt, &mut machine, 0x21, 3)?;
         let ask = Ask {
             control,
             len,
             address: 0x2000,
         };
-        assert_eq!(rt; transfer(&rt, &mut machine, 0, ask)?, DONE, "{what}");
-        // a write is refused past the end, of no byte too
-        let left = transfer(&rt, &mut machine, 0, nothing)?;
-        assert_eq!(rt; left, DONE, "after {what}");
+        let left = left_by_nothing(&rt, &mut machine, ask)?;
+        assert_eq!(rt; left, DONE, "after {control} of {len} bytes");
     }
-    let mut machine = prepared(&rt, rt.alloc())?;
-    read_on(&rt, &mut machine, 0x21, 9)?;
-    assert_eq!(rt; transfer(&rt, &mut machine, 0, nothing)?, DONE);
     Ok(())
 }
