@@ -1,0 +1,45 @@
+-- What places tell once one of them has changed.
+use Rattle.std.proofs.Common.{◌≡◌, ℕ, ◌<◌, ◌≤◌, List, length, Option, Some, None, get_or, slice_set, refl, ap, ◌∙◌}
+use Rattle.std.proofs.Math.ListN.{get_or-map, get_or-eq_default}
+use Rattle.std.proofs.lemmas.List.{map-set, set-get_or, get_or-set_same, get_or_default}
+use Rattle.hp_model.specs.Voices as model
+use Rattle.hp_model.specs.declared.accesses.Access.{Access}
+use Rattle.hp_model.specs.declared.accesses.Access.TheVariants.{Halt}
+use Rattle.hp_agent.specs.declared.kinds.Voice.{Voice}
+use Rattle.hp_agent.specs.Kinds.{place_tells, all_tell}
+use Rattle.hp_agent.specs.Speaking.{Speaks, told_at}
+use Rattle.hp_agent.proofs.Said.{silent_halts}
+
+module _ {A : Type 0} (handed : A → Option model.Voice) where
+  -- a place tells what its own agent tells
+  told_is : (ps : List (Option (Voice A))) (k : ℕ) → told_at (all_tell handed ps) k ≡ place_tells handed (get_or ps k None)
+  told_is ps k = get_or-map (place_tells handed) ps k None
+
+  -- a change of one place changes what that place tells, and no other
+  pub told_put : (ps : List (Option (Voice A))) (k : ℕ) (p : Option (Voice A)) →
+      all_tell handed (slice_set ps k p) ≡ slice_set (all_tell handed ps) k (place_tells handed p)
+  told_put ps k p = map-set (place_tells handed) ps k p
+
+  pub told_put_at : (ps : List (Option (Voice A))) (k : ℕ) (p : Option (Voice A)) → k < length ps →
+      told_at (all_tell handed (slice_set ps k p)) k ≡ place_tells handed p
+  told_put_at ps k p h = told_is (slice_set ps k p) k ∙ ap (place_tells handed) (get_or-set_same ps k p None h)
+
+  -- past the last place there is nobody
+  told_past : (ps : List (Option (Voice A))) (k : ℕ) → length ps ≤ k → told_at (all_tell handed ps) k ≡ Some model.silent
+  told_past ps k h = told_is ps k ∙ ap (place_tells handed) (get_or-eq_default ps None h)
+
+  pub told_nobody : (ps : List (Option (Voice A))) (k : ℕ) (q : model.Question) → length ps ≤ k →
+      Speaks (told_at (all_tell handed ps) k) (told_at (all_tell handed ps) k) q Halt
+  told_nobody ps k q h = rw (told_past ps k h, silent_halts q) (refl, refl)
+
+  -- what is said of one place's agent is said of what all places tell
+  pub told_asked : (ps : List (Option (Voice A))) (k : ℕ) (d p : Option (Voice A)) (q : model.Question) (access : Access) →
+      k < length ps → Speaks (place_tells handed (get_or ps k d)) (place_tells handed p) q access →
+      Speaks (told_at (all_tell handed ps) k) (told_at (all_tell handed (slice_set ps k p)) k) q access
+  told_asked ps k d p q access h said = rw (told_is ps k, told_put_at ps k p h, get_or_default ps k None d h) said
+
+-- what a place tells, written back, changes nothing
+pub told_same : (os : List (Option model.Voice)) (k : ℕ) → slice_set os k (told_at os k) ≡ os
+told_same os k = set-get_or os k (Some model.silent)
+
+pub ruleset told_facts = (told_put, told_put_at, told_same)

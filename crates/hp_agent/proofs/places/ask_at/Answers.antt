@@ -1,0 +1,13 @@
+use Rattle.std.proofs.Common.{arith}
+use Rattle.hp_agent.specs.Speaking.{asked}
+use Rattle.hp_agent.proofs.Told.{told_asked, told_nobody}
+use Rattle.hp_agent.proofs.places.ask_at.Goals as goal
+
+pub returns-then-place-places-clause-says : goal.returns-then-place-places-clause-says
+returns-then-place-places-clause-says g c =
+    told_asked g.A.Agent.voice c.args.places.now c.args.cpu c.index-places-place.result c.ask.new.place
+    (asked c.args.cpu c.args.page c.args.last) c.ask.result c.if-place-places.true c.ask.ensures
+
+pub returns-else-place-places-clause-says : goal.returns-else-place-places-clause-says
+returns-else-place-places-clause-says g c =
+    told_nobody g.A.Agent.voice c.args.places.now c.args.cpu (asked c.args.cpu c.args.page c.args.last) (omega (arith, c.if-place-places.false))
