@@ -1,3 +1,4 @@
 pub mod Found
+pub mod Initials
 pub mod Tiles
 pub mod Writes

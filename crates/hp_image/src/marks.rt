@@ -11,7 +11,7 @@ use hp_model::{Label, Platform, tile};
 
 /// Whose label it is.
 #[derive(Clone, Copy)]
-enum Handler {
+pub enum Handler {
     First,
     Relocated,
     Monarch,
@@ -19,16 +19,17 @@ enum Handler {
 
 /// A label's handler, and how many of that handler's labels come before it.
 #[derive(Clone, Copy)]
-struct Place {
-    handler: Handler,
-    index: u32,
+pub struct Place {
+    pub handler: Handler,
+    pub index: u32,
 }
 
 const FIRST_RELOCATED: u32 = Label::R1 as u32;
 
 const FIRST_MONARCH: u32 = Label::S0 as u32;
 
-fn place_of(label: Label) -> Place
+/// Where a label stands among the labels.
+pub fn place_of(label: Label) -> Place
     ensures handler { part_named result.handler ≡ part_of label }
     ensures index { result.index ≡ index_of label }
     ensures below { result.index < 38 }

@@ -1,0 +1,44 @@
+//! The labels that have a row.
+
+ghost use Rattle.std.specs.Prelude.{◌≡◌};
+ghost use Rattle.hp_monarch.specs.Session.{label_of};
+
+use hp_model::Label;
+
+/// Where the monarch stands. Collection, adds and ejects have no row yet.
+#[derive(Clone, Copy)]
+pub enum Row {
+    /// The session byte becomes 1.
+    S0,
+    /// The release byte of each bound slot from slot 1 on becomes 0.
+    S1,
+    /// An SMI goes to all others.
+    S2,
+    /// The arrived byte of each known slot from slot 1 on is looked at.
+    S3,
+    /// The SMI command is read.
+    S4,
+    /// The session byte becomes 0.
+    E5,
+    /// The release byte of each bound slot from slot 1 on becomes 1.
+    E6,
+    /// RSM.
+    E7,
+}
+
+impl Row {
+    pub fn label(self) -> Label
+        ensures { result ≡ label_of self }
+    {
+        match self {
+            Row::S0 => Label::S0,
+            Row::S1 => Label::S1,
+            Row::S2 => Label::S2,
+            Row::S3 => Label::S3,
+            Row::S4 => Label::S4,
+            Row::E5 => Label::E5,
+            Row::E6 => Label::E6,
+            Row::E7 => Label::E7,
+        }
+    }
+}

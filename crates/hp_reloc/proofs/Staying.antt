@@ -1,0 +1,100 @@
+-- Slots stay with their APIC IDs.
+use Rattle.std.proofs.Common.{◌≡◌, ℕ, Bool, true, false, ◌==◌, ◌+◌, ◌<◌, cond, List, [], ◌∷◌, ◌++◌, length, get_or, Some, None, refl, sym, ◌∙◌, add-one, arith}
+use Rattle.std.specs.Prelude.{if◌then◌else◌}
+use Rattle.std.proofs.lemmas.Bool.Decides.{nat_tests}
+use Rattle.std.proofs.lemmas.Grind.{common_steps}
+use Rattle.std.proofs.lemmas.List.{get_or-set_same}
+use Rattle.hp_model.specs.Block.{is_in}
+use Rattle.hp_model.specs.Slots.{Slots, bind, completed, forgotten, is_known, place_of, slot_in}
+use Rattle.hp_reloc.proofs.Places.{place_in}
+
+-- one more at the end
+in_grown : (xs ys : List ℕ) (a : ℕ) → is_in a xs ≡ true → is_in a (xs ++ ys) ≡ true
+in_grown [] ys a e = absurd cc
+in_grown (x ∷ xs) ys a e = grind (arith, nat_tests, in_grown xs ys a)
+
+place_grown : (xs ys : List ℕ) (a : ℕ) → is_in a xs ≡ true → place_of (xs ++ ys) a ≡ place_of xs a
+place_grown [] ys a e = absurd cc
+place_grown (x ∷ xs) ys a e = grind (arith, nat_tests, place_grown xs ys a)
+
+-- a slot is that of an APIC ID that is bound
+pub record HasSlot (bound : List ℕ) (a k : ℕ) : Type 0 where
+  pub among : is_in a bound ≡ true
+  pub place : place_of bound a ≡ k
+
+has_slot : (bound : List ℕ) (a k : ℕ) → (if is_in a bound then Some (place_of bound a) else None) ≡ Some k → HasSlot bound a k
+has_slot bound a k e = by_test (is_in a bound) refl e
+  where
+    by_test : (b : Bool) → is_in a bound ≡ b → cond b (Some (place_of bound a)) None ≡ Some k → HasSlot bound a k
+    by_test true f g = record { among = f; place = cc }
+    by_test false f g = absurd cc
+
+slot_grown : (bound ys : List ℕ) (a k : ℕ) → (if is_in a bound then Some (place_of bound a) else None) ≡ Some k →
+    (if is_in a (bound ++ ys) then Some (place_of (bound ++ ys) a) else None) ≡ Some k
+slot_grown bound ys a k e =
+    let h = has_slot bound a k e in
+    rw (in_grown bound ys a h.among, place_grown bound ys a h.among, h.place) refl
+
+pub bind_stays : (s : Slots) (a b k : ℕ) → slot_in s a ≡ Some k → slot_in (bind b s) a ≡ Some k
+bind_stays s a b k e = by_test (is_in b s.bound)
+  where
+    by_test : (t : Bool) → slot_in (cond t s (record s { bound = s.bound ++ b ∷ []; known = s.known ++ false ∷ [] })) a ≡ Some k
+    by_test true = e
+    by_test false = slot_grown s.bound (b ∷ []) a k e
+
+pub completed_stays : (s : Slots) (a b k : ℕ) → slot_in s a ≡ Some k → slot_in (completed b s) a ≡ Some k
+completed_stays s a b k e = e
+
+pub forgotten_stays : (s : Slots) (a b k : ℕ) → slot_in s a ≡ Some k → slot_in (forgotten b s) a ≡ Some k
+forgotten_stays s a b k e = e
+
+pub ruleset stays = (bind_stays, completed_stays, forgotten_stays)
+
+same_place : (xs : List ℕ) (a b : ℕ) → is_in a xs ≡ true → is_in b xs ≡ true → place_of xs a ≡ place_of xs b → a ≡ b
+same_place [] a b e f p = absurd cc
+same_place (x ∷ xs) a b e f p = grind (arith, nat_tests, same_place xs a b)
+
+pub own_slot : (s : Slots) (a b k : ℕ) → slot_in s a ≡ Some k → slot_in s b ≡ Some k → a ≡ b
+own_slot s a b k e f =
+    let h = has_slot s.bound a k e in
+    let g = has_slot s.bound b k f in
+    same_place s.bound a b h.among g.among (h.place ∙ sym g.place)
+
+pub slot_is_below : (s : Slots) (a k : ℕ) → slot_in s a ≡ Some k → k < length s.bound
+slot_is_below s a k e =
+    let h = has_slot s.bound a k e in
+    omega (arith, h.place, place_in s.bound a h.among)
+
+pub ruleset own = (own_slot, slot_is_below)
+
+-- known bits and places, with one more false bit
+known_grown : (xs : List ℕ) (bs : List Bool) (a b : ℕ) → length bs ≡ length xs → is_in b xs ≡ false →
+    get_or (bs ++ false ∷ []) (place_of (xs ++ b ∷ []) a) false ≡ get_or bs (place_of xs a) false
+known_grown [] [] a b same out = grind (arith, nat_tests, common_steps)
+known_grown [] (c ∷ cs) a b same out = absurd (omega (arith, same))
+known_grown (x ∷ xs) [] a b same out = absurd (omega (arith, same))
+known_grown (x ∷ xs) (c ∷ cs) a b same out = by_head (x == a) (known_grown xs cs a b (omega (arith, same)) (grind (arith, nat_tests)))
+  where
+    by_head : (t : Bool) → get_or (cs ++ false ∷ []) (place_of (xs ++ b ∷ []) a) false ≡ get_or cs (place_of xs a) false →
+        get_or (c ∷ (cs ++ false ∷ [])) (cond t 0 (place_of (xs ++ b ∷ []) a + 1)) false ≡ get_or (c ∷ cs) (cond t 0 (place_of xs a + 1)) false
+    by_head true h = refl
+    by_head false h = rw (add-one (place_of (xs ++ b ∷ []) a), add-one (place_of xs a)) h
+
+pub bind_knows : (s : Slots) (a b : ℕ) → length s.known ≡ length s.bound → is_known (bind b s) a ≡ is_known s a
+bind_knows s a b same = by_test (is_in b s.bound) refl
+  where
+    by_test : (t : Bool) → is_in b s.bound ≡ t → is_known (cond t s (record s { bound = s.bound ++ b ∷ []; known = s.known ++ false ∷ [] })) a ≡ is_known s a
+    by_test true f = refl
+    by_test false f = known_grown s.bound s.known a b same f
+
+pub completed_knows : (s : Slots) (a k : ℕ) → length s.known ≡ length s.bound → slot_in s a ≡ Some k → is_known (completed a s) a ≡ true
+completed_knows s a k same e =
+    let h = has_slot s.bound a k e in
+    get_or-set_same s.known (place_of s.bound a) true false (omega (arith, same, place_in s.bound a h.among))
+
+pub forgotten_knows : (s : Slots) (a k : ℕ) → length s.known ≡ length s.bound → slot_in s a ≡ Some k → is_known (forgotten a s) a ≡ false
+forgotten_knows s a k same e =
+    let h = has_slot s.bound a k e in
+    get_or-set_same s.known (place_of s.bound a) false false (omega (arith, same, place_in s.bound a h.among))
+
+pub ruleset knows = (bind_knows, completed_knows, forgotten_knows)

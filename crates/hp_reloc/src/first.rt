@@ -1,0 +1,98 @@
+//! The first handler, at the default SMBASE (own rule): a processor passes the gate, takes the SMBASE that lies there, and sends
+//! itself an SMI, which leads it to its own handler once it leaves.
+
+ghost use Rattle.std.specs.Prelude.{◌≡◌, ℕ, ◌≤◌, ◌*◌, Some};
+ghost use Rattle.hp_model.specs.Boot.{value_in};
+ghost use Rattle.hp_model.specs.Handlers.{next_at, want_at};
+ghost use Rattle.hp_model.specs.Labels.{First, part_of};
+ghost use Rattle.hp_model.specs.Monarch.{Monarch};
+ghost use Rattle.hp_model.specs.SharedBytes.{Layout};
+ghost use Rattle.hp_reloc.specs.Fits.{FitsFirst};
+
+use hp_model::{Access, Answer, Label, Want};
+
+/// The APIC ID that may pass, or `CLOSED`: 8 bytes.
+const GATE: u32 = 0x30000;
+
+const CLOSED: u64 = 0xffffffffffffffff;
+/// The SMBASE for whoever passes: 4 bytes.
+const NEW_SMBASE: u32 = 0x30008;
+/// 1 once whoever passed has stored its new SMBASE: 1 byte.
+const FLAG: u32 = 0x3000c;
+/// Where SMI entry at the default SMBASE saves SMBASE: 4 bytes.
+const SMBASE_FIELD: u32 = 0x3ff00;
+/// The low half of an interrupt command that is an SMI to one APIC ID.
+const SMI: u32 = 0x200;
+
+/// The high half of an interrupt command to this APIC ID, which is in bits 31 to 24.
+fn destination(apic: u32) -> u32
+    requires { apic ≤ 254 }
+    ensures { result ≡ apic * 0x1000000 }
+{
+    apic * 0x1000000
+}
+
+/// What the processor of this APIC ID wants at a label of the first handler. `base` is the SMBASE that it has loaded.
+pub fn first_want(label: Label, apic: u32, base: u32) -> Want
+    requires first { part_of label ≡ First }
+    requires apic { apic ≤ 254 }
+    ensures { (y : Layout) (slot : ℕ) (r : Monarch) → want_at y (record { apic = apic; slot = slot; base = base }) r label ≡ Some result }
+{
+    let access = match label {
+        Label::F1 => Access::Swap {
+            addr: GATE,
+            expected: u64::from(apic),
+            desired: CLOSED,
+        },
+        Label::F2 => Access::Load {
+            addr: NEW_SMBASE,
+            width: 4,
+        },
+        Label::F3 => Access::Store {
+            addr: SMBASE_FIELD,
+            width: 4,
+            value: u64::from(base),
+        },
+        Label::F4 => Access::Store {
+            addr: FLAG,
+            width: 1,
+            value: 1,
+        },
+        Label::F5 => Access::Icr {
+            high: destination(apic),
+            low: SMI,
+        },
+        Label::F6 => return Want::Resume,
+        _ => unreachable!(),
+    };
+    Want::Do(access)
+}
+
+/// The value of an answer, 0 where it has none.
+pub fn value_of(answer: Answer) -> u64
+    ensures { result ≡ value_in answer }
+{
+    match answer {
+        Answer::Quiet => 0,
+        Answer::Value(value) => value,
+    }
+}
+
+/// Where the answer leads: the next label of the first handler, and the base from there on. Who isn't at the gate stays at F1.
+pub fn first_next(label: Label, apic: u32, base: u32, answer: Answer) -> (Label, u32)
+    requires first { part_of label ≡ First }
+    requires fits { FitsFirst label apic base answer }
+    ensures { (y : Layout) (slot : ℕ) (r : Monarch) →
+        next_at y (record { apic = apic; slot = slot; base = base }) r label (value_in answer) ≡ record { label = result.0; base = result.1; monarch = r } }
+{
+    let value = value_of(answer);
+    match label {
+        Label::F1 if value == u64::from(apic) => (Label::F2, base),
+        Label::F1 => (Label::F1, base),
+        Label::F2 => (Label::F3, value as u32),
+        Label::F3 => (Label::F4, base),
+        Label::F4 => (Label::F5, base),
+        Label::F5 | Label::F6 => (Label::F6, base),
+        _ => unreachable!(),
+    }
+}

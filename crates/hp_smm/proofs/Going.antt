@@ -1,0 +1,135 @@
+-- The monarch's rows: what they want is the same whoever looks, and the label where they lead is the record's.
+use Rattle.std.proofs.Common.{◌≡◌, ℕ, refl, sym, subst, ap, ◌∙◌}
+use Rattle.hp_model.specs.declared.accesses.Answer.{Answer}
+use Rattle.hp_model.specs.declared.accesses.Want.{Want}
+use Rattle.std.proofs.Common.{Option}
+use Rattle.hp_reloc.specs.Fits.{FitsWant}
+use Rattle.hp_monarch.specs.Session.{Fits, Session}
+use Rattle.hp_model.specs.declared.labels.Label.{Label}
+use Rattle.hp_model.specs.declared.labels.Label.TheVariants.{F1, F2, F3, F4, F5, F6, R1, R2, R3, R4, R5, R6, S0, S1, S2, S3, S4, C1, C2, C3, C4, C5, C6, NB, N0, N1, N2, N3, N4, N5, N6, N7, N8a, N8b, N9, N10, N11, E0, E1, E2, E3, E4a, E4b, E4c, E4d, E4e, T, E5, E6, E7}
+use Rattle.hp_model.specs.Handlers.{Seat, goes, next_at, want_at}
+use Rattle.hp_model.specs.Labels.{Monarch as Monarchs, part_of}
+use Rattle.hp_model.specs.Monarch.{Monarch}
+use Rattle.hp_model.specs.SharedBytes.{Layout}
+
+pub wants_same : (y : Layout) (x z : Seat) (r : Monarch) (l : Label) → part_of l ≡ Monarchs → want_at y x r l ≡ want_at y z r l
+wants_same y x z r F1 e = absurd cc
+wants_same y x z r F2 e = absurd cc
+wants_same y x z r F3 e = absurd cc
+wants_same y x z r F4 e = absurd cc
+wants_same y x z r F5 e = absurd cc
+wants_same y x z r F6 e = absurd cc
+wants_same y x z r R1 e = absurd cc
+wants_same y x z r R2 e = absurd cc
+wants_same y x z r R3 e = absurd cc
+wants_same y x z r R4 e = absurd cc
+wants_same y x z r R5 e = absurd cc
+wants_same y x z r R6 e = absurd cc
+wants_same y x z r S0 e = refl
+wants_same y x z r S1 e = refl
+wants_same y x z r S2 e = refl
+wants_same y x z r S3 e = refl
+wants_same y x z r S4 e = refl
+wants_same y x z r C1 e = refl
+wants_same y x z r C2 e = refl
+wants_same y x z r C3 e = refl
+wants_same y x z r C4 e = refl
+wants_same y x z r C5 e = refl
+wants_same y x z r C6 e = refl
+wants_same y x z r NB e = refl
+wants_same y x z r N0 e = refl
+wants_same y x z r N1 e = refl
+wants_same y x z r N2 e = refl
+wants_same y x z r N3 e = refl
+wants_same y x z r N4 e = refl
+wants_same y x z r N5 e = refl
+wants_same y x z r N6 e = refl
+wants_same y x z r N7 e = refl
+wants_same y x z r N8a e = refl
+wants_same y x z r N8b e = refl
+wants_same y x z r N9 e = refl
+wants_same y x z r N10 e = refl
+wants_same y x z r N11 e = refl
+wants_same y x z r E0 e = refl
+wants_same y x z r E1 e = refl
+wants_same y x z r E2 e = refl
+wants_same y x z r E3 e = refl
+wants_same y x z r E4a e = refl
+wants_same y x z r E4b e = refl
+wants_same y x z r E4c e = refl
+wants_same y x z r E4d e = refl
+wants_same y x z r E4e e = refl
+wants_same y x z r T e = refl
+wants_same y x z r E5 e = refl
+wants_same y x z r E6 e = refl
+wants_same y x z r E7 e = refl
+
+pub goes_on : (y : Layout) (x : Seat) (r : Monarch) (l : Label) (v : ℕ) → part_of l ≡ Monarchs → next_at y x r l v ≡ goes x (next_at y x r l v).monarch
+goes_on y x r F1 v e = absurd cc
+goes_on y x r F2 v e = absurd cc
+goes_on y x r F3 v e = absurd cc
+goes_on y x r F4 v e = absurd cc
+goes_on y x r F5 v e = absurd cc
+goes_on y x r F6 v e = absurd cc
+goes_on y x r R1 v e = absurd cc
+goes_on y x r R2 v e = absurd cc
+goes_on y x r R3 v e = absurd cc
+goes_on y x r R4 v e = absurd cc
+goes_on y x r R5 v e = absurd cc
+goes_on y x r R6 v e = absurd cc
+goes_on y x r S0 v e = refl
+goes_on y x r S1 v e = refl
+goes_on y x r S2 v e = refl
+goes_on y x r S3 v e = refl
+goes_on y x r S4 v e = refl
+goes_on y x r C1 v e = refl
+goes_on y x r C2 v e = refl
+goes_on y x r C3 v e = refl
+goes_on y x r C4 v e = refl
+goes_on y x r C5 v e = refl
+goes_on y x r C6 v e = refl
+goes_on y x r NB v e = refl
+goes_on y x r N0 v e = refl
+goes_on y x r N1 v e = refl
+goes_on y x r N2 v e = refl
+goes_on y x r N3 v e = refl
+goes_on y x r N4 v e = refl
+goes_on y x r N5 v e = refl
+goes_on y x r N6 v e = refl
+goes_on y x r N7 v e = refl
+goes_on y x r N8a v e = refl
+goes_on y x r N8b v e = refl
+goes_on y x r N9 v e = refl
+goes_on y x r N10 v e = refl
+goes_on y x r N11 v e = refl
+goes_on y x r E0 v e = refl
+goes_on y x r E1 v e = refl
+goes_on y x r E2 v e = refl
+goes_on y x r E3 v e = refl
+goes_on y x r E4a v e = refl
+goes_on y x r E4b v e = refl
+goes_on y x r E4c v e = refl
+goes_on y x r E4d v e = refl
+goes_on y x r E4e v e = refl
+goes_on y x r T v e = refl
+goes_on y x r E5 v e = refl
+goes_on y x r E6 v e = refl
+goes_on y x r E7 v e = refl
+
+-- an answer that fits what one who looks sees fits what all see
+pub fits_all : (h : Session) (z : Seat) (l : Label) (answer : Answer) → l ≡ h.monarch.label → part_of l ≡ Monarchs →
+    FitsWant (want_at h.layout z h.monarch l) answer → Fits h answer
+fits_all h z l answer e p f x =
+    subst (λ (w : Option Want). FitsWant w answer) (wants_same h.layout z x h.monarch l p ∙ ap (λ (k : Label). want_at h.layout x h.monarch k) e) f
+
+-- where the monarch goes on
+pub next_is : (h n : Session) (z : Seat) (l : Label) (v : ℕ) (after : Label) → l ≡ h.monarch.label → part_of l ≡ Monarchs →
+    n ≡ record h { monarch = (next_at h.layout z h.monarch h.monarch.label v).monarch } → after ≡ n.monarch.label →
+    next_at h.layout z h.monarch l v ≡ record { label = after; base = z.base; monarch = n.monarch }
+next_is h n z l v after e p fed at =
+    let led : n.monarch ≡ (next_at h.layout z h.monarch l v).monarch = ap (λ (s : Session). s.monarch) fed ∙ ap (λ (k : Label). (next_at h.layout z h.monarch k v).monarch) (sym e) in
+    let there : after ≡ (next_at h.layout z h.monarch l v).monarch.label = at ∙ ap (λ (m : Monarch). m.label) led in
+    goes_on h.layout z h.monarch l v p ∙ same (next_at h.layout z h.monarch l v).monarch n.monarch after z (sym led) (sym there)
+  where
+    same : (m n : Monarch) (after : Label) (z : Seat) → m ≡ n → m.label ≡ after → goes z m ≡ record { label = after; base = z.base; monarch = n }
+    same m n after z e f = ap (λ (l : Label). record { label = l; base = z.base; monarch = m }) f ∙ ap (λ (k : Monarch). record { label = after; base = z.base; monarch = k }) e

@@ -1,0 +1,219 @@
+//! All SMI handlers of a machine.
+
+ghost use Rattle.std.specs.Prelude.{◌≡◌, ◌≢◌, ◌≤◌, ◌==◌, Some, IfOk, IfSome, IsTrue, if◌then◌else◌};
+ghost use Rattle.hp_model.specs.declared.labels.Label.{Label as ALabel};
+ghost use Rattle.hp_model.specs.declared.accesses.Want.TheVariants as wants;
+ghost use Rattle.hp_model.specs.Boot.{value_in};
+ghost use Rattle.hp_model.specs.Handlers.{address_of_label, is_due as is_due_at, is_tile as is_tile_at, next_at, runs_at, slot_at as slot_of, want_at};
+ghost use Rattle.hp_model.specs.Labels.{part_of};
+ghost use Rattle.hp_model.specs.Monarch.{monarch_start, restarted, with_features};
+ghost use Rattle.hp_model.specs.Platform.{IsFit};
+ghost use Rattle.hp_model.specs.SharedBytes.{layout_of, tile_in};
+ghost use Rattle.hp_image.specs.Handlers.{part_named};
+ghost use Rattle.hp_reloc.specs.Fits.{FitsWant};
+ghost use Rattle.hp_smm.specs.Rows.{next_for, row_for, seat_for, want_for};
+
+use crate::relocated::{relocated_next, relocated_want};
+use hp_image::{Handler, label_of, mark, place_of};
+use hp_model::{Answer, Label, NoMemory, Platform, Want};
+use hp_monarch::Monarch;
+use hp_reloc::{first_next, first_want};
+use std::alloc::Global;
+use std::marker::Model;
+
+/// What the handlers know of a processor in SMM.
+#[derive(Clone, Copy)]
+pub struct Stand {
+    /// Its place.
+    pub cpu: u32,
+    /// Its APIC ID.
+    pub apic: u32,
+    pub smbase: u32,
+    /// What the first handler has loaded as its new SMBASE.
+    pub base: u32,
+    /// The 4 bytes at its instruction address, as it reads them.
+    pub mark: u32,
+}
+
+/// The SMI handlers: the monarch of processor 0, and for all others the first handler and the relocated one, which keep nothing.
+#[derive(Drop)]
+pub struct Handlers {
+    monarch: Monarch,
+}
+
+impl Model for Handlers {
+    ghost use Rattle.hp_monarch.specs.Session.{Session};
+
+    ghost Value = { Session };
+
+    ghost view = { λ h. h.monarch };
+}
+
+/// The instruction address of a label, in the handler that runs at this SMBASE.
+fn address(smbase: u32, label: Label) -> u32
+    requires { smbase ≤ 0x90000000 }
+    ensures { result ≡ address_of_label smbase label }
+{
+    smbase + 0x8000 + 4 * place_of(label).index
+}
+
+impl Handlers {
+    /// No session has begun. Later calls take no memory.
+    pub fn new(alloc: Global, p: &Platform) -> Result<Handlers, NoMemory>
+        requires { IsFit p.now }
+        ensures layout { IfOk result (λ h. h.layout ≡ layout_of p.now) }
+        ensures monarch { IfOk result (λ h. h.monarch ≡ monarch_start p.now) }
+    {
+        Ok(Handlers {
+            monarch: Monarch::new(alloc, p)?,
+        })
+    }
+
+    /// The negotiated SMI features: bit 0 broadcast, bit 1 hot-plug, bit 2 hot-unplug.
+    pub fn features(&mut self, negotiated: u64)
+        ensures { self.new ≡ record self.old { monarch = with_features negotiated self.old.monarch } }
+    {
+        self.monarch.features(negotiated);
+    }
+
+    /// SMI entry of a processor. That of processor 0 begins a session.
+    pub fn entered(&mut self, cpu: u32)
+        ensures { self.new ≡ (if cpu == 0 then record self.old { monarch = restarted self.old.monarch } else self.old) }
+    {
+        if cpu == 0 {
+            self.monarch.restart();
+        }
+    }
+
+    /// The first address of the tile of slot 0.
+    fn first_tile(&self) -> u32
+        ensures value { result ≡ tile_in self.now.layout 0 }
+        ensures below { result ≤ 0x80020000 }
+    {
+        self.monarch.tseg() + 0x20000
+    }
+
+    /// The slot of the tile where this SMBASE lies, if it is one of a possible slot.
+    fn slot_at(&self, smbase: u32) -> u32
+        ensures value { result ≡ slot_of self.now.layout smbase }
+        ensures below { result ≤ 0xffff }
+    {
+        smbase.saturating_sub(self.first_tile()) / 0x10000
+    }
+
+    /// Whether this SMBASE is the tile of a possible slot.
+    fn is_tile(&self, smbase: u32) -> bool
+        ensures value { result ≡ is_tile_at self.now.layout smbase }
+        ensures below { IsTrue result → smbase ≤ 0x90000000 }
+    {
+        let slot = self.slot_at(smbase);
+        slot < self.monarch.count() && smbase == self.first_tile() + slot * 0x10000
+    }
+
+    /// Whether this handler runs where the processor stands: processor 0 runs the monarch alone.
+    fn runs(&self, handler: Handler, s: &Stand) -> bool
+        ensures value { result ≡ runs_at self.now.layout (part_named handler) s.now.cpu s.now.smbase }
+        ensures below { IsTrue result → s.now.smbase ≤ 0x90000000 }
+    {
+        match handler {
+            Handler::First => s.cpu != 0 && s.smbase == 0x30000,
+            Handler::Relocated => {
+                s.cpu != 0 && self.slot_at(s.smbase) != 0 && self.is_tile(s.smbase)
+            }
+            Handler::Monarch => s.cpu == 0 && s.smbase == self.first_tile(),
+        }
+    }
+
+    /// Whether it is this label's turn: the monarch's is the one where its record stands.
+    fn is_due(&self, label: Label) -> bool
+        ensures { result ≡ is_due_at self.now.monarch (part_of label) label }
+    {
+        match place_of(label).handler {
+            Handler::Monarch => mark(label) == mark(self.monarch.label()),
+            Handler::First | Handler::Relocated => true,
+        }
+    }
+
+    /// The label whose row is due where the processor stands.
+    #[tactic(auto, unfolding(hp_model::specs::Handlers::row_of))]
+    fn row(&self, s: &Stand) -> Option<Label>
+        ensures value { result ≡ row_for self.now s.now }
+        ensures below { IfSome result (λ label. s.now.smbase ≤ 0x90000000) }
+    {
+        match label_of(s.mark) {
+            Some(label) if self.runs(place_of(label).handler, s) && self.is_due(label) => {
+                Some(label)
+            }
+            _ => None,
+        }
+    }
+
+    /// What is wanted at a label whose row is due.
+    fn want_at(&self, s: &Stand, label: Label) -> Want
+        requires apic { s.now.apic ≤ 254 }
+        requires row { row_for self.now s.now ≡ Some label }
+        ensures { want_at self.now.layout (seat_for self.now s.now) self.now.monarch label ≡ Some result }
+    {
+        match place_of(label).handler {
+            Handler::First => first_want(label, s.apic, s.base),
+            Handler::Relocated => {
+                relocated_want(label, self.monarch.tseg(), self.slot_at(s.smbase))
+            }
+            Handler::Monarch => self.monarch.want(),
+        }
+    }
+
+    /// What the processor wants; `None` where no handler's row is due.
+    pub fn want(&self, s: &Stand) -> Option<Want>
+        requires { s.now.apic ≤ 254 }
+        ensures { result ≡ want_for self.now s.now }
+    {
+        match self.row(s) {
+            Some(label) => Some(self.want_at(s, label)),
+            None => None,
+        }
+    }
+
+    /// The next label and the base.
+    fn next_at(&mut self, s: &Stand, label: Label, answer: Answer) -> (Label, u32)
+        requires row { row_for self.old s.now ≡ Some label }
+        requires fits { FitsWant (want_at self.old.layout (seat_for self.old s.now) self.old.monarch label) answer }
+        ensures next { next_for self.old s.now label answer ≡ record { label = result.0; base = result.1; monarch = self.new.monarch } }
+        ensures layout { self.new.layout ≡ self.old.layout }
+    {
+        match place_of(label).handler {
+            Handler::First => first_next(label, s.apic, s.base, answer),
+            Handler::Relocated => (relocated_next(label, answer), s.base),
+            Handler::Monarch => {
+                self.monarch.feed(answer);
+                (self.monarch.label(), s.base)
+            }
+        }
+    }
+
+    /// The answer to the access that the processor wanted. Answers the instruction address where it goes on, and its base from
+    /// there on.
+    pub fn feed(&mut self, s: &Stand, answer: Answer) -> (u32, u32)
+        requires fits { FitsWant (want_for self.old s.now) answer }
+        requires access { want_for self.old s.now ≢ Some wants.Resume }
+        ensures address { (l : ALabel) → row_for self.old s.now ≡ Some l → result.0 ≡ address_of_label s.now.smbase (next_for self.old s.now l answer).label }
+        ensures base { (l : ALabel) → row_for self.old s.now ≡ Some l → result.1 ≡ (next_for self.old s.now l answer).base }
+        ensures monarch { (l : ALabel) → row_for self.old s.now ≡ Some l → self.new ≡ record self.old { monarch = (next_for self.old s.now l answer).monarch } }
+    {
+        match self.row(s) {
+            Some(label) => {
+                let (next, base) = self.next_at(s, label, answer);
+                (address(s.smbase, next), base)
+            }
+            None => unreachable!(),
+        }
+    }
+
+    /// The processor has left by RSM, which it wanted. The record stays: the next session begins with `entered`.
+    pub fn left(&mut self, s: &Stand)
+        requires { want_for self.old s.now ≡ Some wants.Resume }
+        ensures { self.new ≡ self.old }
+    {
+        let _ = s;
+    }
+}

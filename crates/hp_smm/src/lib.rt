@@ -1,0 +1,9 @@
+//! The SMI handlers as one: whose row is due where a processor stands in SMM, what it wants, and where its answer leads.
+#![tactic(auto)]
+
+mod handlers;
+mod relocated;
+#[cfg(test)]
+mod tests;
+
+pub use handlers::{Handlers, Stand};
