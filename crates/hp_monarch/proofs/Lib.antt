@@ -1,2 +1,3 @@
 pub mod Start
 pub mod Looks
+pub mod Order

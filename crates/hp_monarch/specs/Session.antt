@@ -29,7 +29,7 @@ label_of row.E5 = label.E5
 label_of row.E6 = label.E6
 label_of row.E7 = label.E7
 
--- each bound slot has its byte and may be known, the next byte is one of a bound slot, and addresses have 32 bits
+-- each bound slot has its byte, the slot whose byte is next is bound, addresses have 32 bits, and there is room for all possible slots
 pub record IsSound (tseg count slot : ℕ) (slots : Slots) (possible last : List ℕ) (room : ℕ) : Type 0 where
   pub bound : slot < length slots.bound
   pub read : length last ≡ length slots.bound

@@ -1,9 +1,11 @@
 //! The monarch, the handler of processor 0 in SMM (own rule): a session from SMI entry to RSM.
 #![tactic(auto)]
 
+mod laws;
 mod rows;
 mod sessions;
 #[cfg(test)]
 mod tests;
 
+pub use laws::a_session_keeps_its_order;
 pub use sessions::{Monarch, Phase};

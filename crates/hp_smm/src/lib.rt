@@ -2,8 +2,10 @@
 #![tactic(auto)]
 
 mod handlers;
+mod laws;
 mod relocated;
 #[cfg(test)]
 mod tests;
 
 pub use handlers::{Handlers, Stand};
+pub use laws::a_processor_leaves_once_it_is_released;

@@ -1,0 +1,22 @@
+//! Laws over definitions: public functions with empty bodies, whose clauses are what is proved.
+
+ghost use Rattle.std.specs.Prelude.{◌≡◌, ◌⊎◌, ℕ};
+ghost use Rattle.hp_model.specs.declared.labels.Label.{Label};
+ghost use Rattle.hp_model.specs.declared.labels.Label.TheVariants.{S0, S1, S2, S4, E5, E6};
+ghost use Rattle.hp_model.specs.Handlers.{Seat, next_at};
+ghost use Rattle.hp_model.specs.Labels.{Monarch as Monarchs, part_of};
+ghost use Rattle.hp_model.specs.Monarch.{Monarch};
+ghost use Rattle.hp_model.specs.SharedBytes.{Layout};
+
+/// Whatever was answered: release bytes become 1 (E6) only once the session byte was cleared (E5), which comes only once the SMI
+/// command was read (S4). The SMI to all others (S2) goes out only once the release bytes are 0 (S1), or where no other slot is
+/// bound (S0).
+#[tactic(auto, using(crate::proofs::Order::order))]
+pub fn a_session_keeps_its_order()
+    ensures release { (y : Layout) (x : Seat) (r : Monarch) (l : Label) (v : ℕ) → part_of l ≡ Monarchs → r.label ≡ l →
+        (next_at y x r l v).label ≡ E6 → (l ≡ E5) ⊎ (l ≡ E6) }
+    ensures session { (y : Layout) (x : Seat) (r : Monarch) (l : Label) (v : ℕ) → part_of l ≡ Monarchs → r.label ≡ l →
+        (next_at y x r l v).label ≡ E5 → l ≡ S4 }
+    ensures broadcast { (y : Layout) (x : Seat) (r : Monarch) (l : Label) (v : ℕ) → part_of l ≡ Monarchs → r.label ≡ l →
+        (next_at y x r l v).label ≡ S2 → (l ≡ S0) ⊎ (l ≡ S1) }
+{}
