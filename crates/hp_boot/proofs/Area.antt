@@ -1,9 +1,10 @@
 -- Accesses 5 to 17: the default area, the marks and the locks.
-use Rattle.std.proofs.Common.{◌≡◌, ℕ, Bool, true, false, ◌+◌, ◌≤◌, [], refl, arith, bit_and}
+use Rattle.std.proofs.Common.{◌≡◌, ℕ, Bool, true, false, ◌+◌, ◌≤◌, refl, arith, bit_and}
 use Rattle.hp_model.specs.declared.platforms.Platform.{Platform}
 use Rattle.hp_model.specs.declared.accesses.Access.TheVariants.{CfgRead, CfgWrite}
 use Rattle.hp_model.specs.declared.outcomes.BootFact.TheVariants.{NoDefaultSmram}
 use Rattle.hp_model.specs.declared.labels.Label.TheVariants.{F1, F2, F3, F4, F5, F6}
+use Rattle.hp_model.specs.Image.{image}
 use Rattle.hp_model.specs.Labels.{mark_of}
 use Rattle.hp_model.specs.View.{Locks, is_hole}
 use Rattle.hp_model.specs.Block.{Block, bit}
@@ -56,7 +57,7 @@ module _ (p : Platform) (f : Facts p) (end : Stage) (b : Block) (c : FwCfg) wher
 -- 5 and 6: whether the default area can be locked
 module _ (p : Platform) (f : Facts p) (b : Block) where
   abbrev pub at_area : ℕ → ℕ → State
-  at_area f_smbase done = at_place p b (locks_by p f_smbase 0 0) [] (fw_cfg_start p.features) done 0
+  at_area f_smbase done = at_place p b (locks_by p f_smbase 0 0) (image p) (fw_cfg_start p.features) done 0
 
   asks_area : (has_default : Bool) → p.default_smram ≡ has_default → made p f (CfgWrite 0x9c 0xff) (at_area 0 4) ≡ at_area (bit has_default) 5
   asks_area true is = rw is refl
@@ -70,7 +71,7 @@ module _ (p : Platform) (f : Facts p) (b : Block) where
       (goes p f end (at_area 1 5) (at_area 1 6) 5 0 (CfgRead 0x9c) refl refl refl refl refl refl
       (marks p f end b (fw_cfg_start p.features)
       (locks p f end b (fw_cfg_start p.features)
-      (λ ws. requested p f end b ws (chosen_end p f b ws (is_negotiable p.features) refl))) []))
+      (λ ws. requested p f end b ws (chosen_end p f b ws (is_negotiable p.features) refl))) (image p)))
   area_end false is =
       let end = Refused (NoDefaultSmram 0) in
       goes p f end (at_area 0 4) (at_area 0 5) 4 0 (CfgWrite 0x9c 0xff) refl refl refl refl (asks_area false is) refl

@@ -12,7 +12,7 @@ use Rattle.hp_model.specs.Ich9.{ich9_start}
 use Rattle.hp_model.specs.FwCfg.{FwCfg, fw_cfg_start, big_value, selected, advanced, dma_address, without_high}
 use Rattle.hp_model.specs.Transfers.{ask, descriptor_at, Transferred, transfer}
 use Rattle.hp_model.specs.Boot.{Stage, Boots, Refused, Handed, boot_accesses, boot_access, stage_after}
-use Rattle.hp_model.specs.Step.{State}
+use Rattle.hp_model.specs.Step.{State, with_agreed}
 use Rattle.hp_boot.specs.Ending.{is_negotiable}
 use Rattle.hp_boot.proofs.Start.{Facts}
 use Rattle.hp_boot.proofs.Open.{is_low, IsOpen, IsOpen-memory, same_transfer}
@@ -87,7 +87,7 @@ module _ (p : Platform) (f : Facts p) (b : Block) (ws : List Write) where
 
   -- the state after 26 accesses, by what the last of them read
   abbrev pub looked : ℕ → State
-  looked value = record choice { fw_cfg = advanced 1 choice.fw_cfg; stage = stage_after (Value value) (Boots 25 p.features) }
+  looked value = record (with_agreed (record choice { fw_cfg = advanced 1 choice.fw_cfg })) { stage = stage_after (Value value) (Boots 25 p.features) }
 
   abbrev pub over : State
   over = record (looked 1) { ich9 = record ich9_start { smi_en = 0x21 }; stage = Handed (p.features % 8) }

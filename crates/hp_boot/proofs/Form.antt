@@ -1,5 +1,5 @@
 -- Accesses 1 to 4: the register block, and so the whole boot.
-use Rattle.std.proofs.Common.{◌≡◌, ℕ, Bool, true, false, ◌&&◌, not, [], Option, Some, None, refl, ap, ◌∙◌, if◌then◌else◌}
+use Rattle.std.proofs.Common.{◌≡◌, ℕ, Bool, true, false, ◌&&◌, not, Option, Some, None, refl, ap, ◌∙◌, if◌then◌else◌}
 use Rattle.std.proofs.lemmas.Bool.{cond_both, ne_eqb}
 use Rattle.hp_model.specs.declared.platforms.Platform.{Platform}
 use Rattle.hp_model.specs.declared.accesses.Access.TheVariants.{In, Out}
@@ -9,7 +9,8 @@ use Rattle.hp_model.specs.View.{locks_start}
 use Rattle.hp_model.specs.Block.{Block, slots_from, block_start, block_write, block_read, cut, is_selected, found_from}
 use Rattle.hp_model.specs.FwCfg.{fw_cfg_start}
 use Rattle.hp_model.specs.Boot.{Stage, Boots, Refused, boot_accesses, boot_access, stage_after, stage_by}
-use Rattle.hp_model.specs.Step.{State, write_block, start}
+use Rattle.hp_model.specs.Image.{image}
+use Rattle.hp_model.specs.Step.{State, write_block, with_agreed, start}
 use Rattle.hp_model.specs.declared.files.File.{File}
 use Rattle.hp_model.specs.Platform.{IsFit}
 use Rattle.hp_model.specs.Schedule.{booted, scene_start}
@@ -53,12 +54,12 @@ write_leaves : (s : State) (d : Block) (offset width value : ℕ) → block_writ
 write_leaves s d offset width value writes slots = rw (writes, slots, no_eject) refl
 
 module _ (p : Platform) (f : Facts p) (end : Stage) (modern : Bool) (is : p.modern ≡ modern) where
-  blocks : FromHere p (at_place p (block_by p modern) (locks_start p) [] (fw_cfg_start p.features) 3 0) 3 end → FromHere p (start p) 0 end
+  blocks : FromHere p (at_place p (block_by p modern) (locks_start p) (image p) (fw_cfg_start p.features) 3 0) 3 end → FromHere p (start p) 0 end
   unfolding boot_access boot_accesses
   blocks later =
-      let at : Block → ℕ → State = λ (b : Block) (done : ℕ). at_place p b (locks_start p) [] (fw_cfg_start p.features) done 0 in
+      let at : Block → ℕ → State = λ (b : Block) (done : ℕ). at_place p b (locks_start p) (image p) (fw_cfg_start p.features) done 0 in
       let b = block_by p modern in
-      let stage : ℕ → State → State = λ (done : ℕ) (s : State). record s { stage = Boots done 0 } in
+      let stage : ℕ → State → State = λ (done : ℕ) (s : State). record (with_agreed s) { stage = Boots done 0 } in
       goes p f end (start p) (at b 1) 0 0 (Out 0xcd8 4 0) refl refl refl refl
       (ap (stage 1) (write_leaves (start p) b 0 4 0 (written p modern is) refl)) refl
       (goes p f end (at b 1) (at b 2) 1 0 (Out 0xcd8 4 0) refl refl refl refl
@@ -70,7 +71,7 @@ module _ (p : Platform) (f : Facts p) (end : Stage) (modern : Bool) (is : p.mode
 -- 4: whether the register block is modern
 module _ (p : Platform) (f : Facts p) where
   abbrev at_form : Bool → ℕ → State
-  at_form modern done = at_place p (block_by p modern) (locks_start p) [] (fw_cfg_start p.features) done 0
+  at_form modern done = at_place p (block_by p modern) (locks_start p) (image p) (fw_cfg_start p.features) done 0
 
   -- the state after 4 accesses, by what the last of them read
   abbrev shown_form : Bool → ℕ → State

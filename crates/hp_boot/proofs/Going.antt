@@ -9,7 +9,7 @@ use Rattle.hp_model.specs.declared.outcomes.BootFact.{BootFact}
 use Rattle.hp_model.specs.declared.processors.Cpu.{Cpu as OneCpu}
 use Rattle.hp_model.specs.Cpu.{is_free, is_in_smm, cpu_at, cpus_start}
 use Rattle.hp_model.specs.Boot.{Stage, Boots, Refused, boot_access, stage_after}
-use Rattle.hp_model.specs.Step.{State, After, at as state_cpu, is_normal, same_access, is_enabled, is_wanted, wanted_in, access_effect, answer_to, after, step}
+use Rattle.hp_model.specs.Step.{State, After, at as state_cpu, is_normal, same_access, is_enabled, is_wanted, wanted_in, access_effect, effect_of, answer_to, answer_of, with_agreed, firmware_led, after, step}
 use Rattle.hp_model.specs.Schedule.{Scene, Made, made_by, act, act_all}
 use Rattle.hp_model.proofs.Same.{same_access-refl}
 use Rattle.hp_boot.proofs.Turns.{all_refused, act_boots}
@@ -30,9 +30,9 @@ ends_refused p n s fact refused w at =
     ap (λ (m : Made). m.scene.state.stage) (all_refused p w fact (replicate n (Cpu 0)) same) ∙ same
 
 module _ (p : Platform) (f : Facts p) where
-  -- the state after an access of processor 0, outside SMM
+  -- the state after an access of processor 0, outside SMM, which tells the monarch what was agreed on
   abbrev pub made : Access → State → State
-  made a s = record (access_effect p 0 false a s) { stage = stage_after (answer_to false a s) s.stage }
+  made a s = record (with_agreed (access_effect p 0 false a s)) { stage = stage_after (answer_to false a s) s.stage }
 
   module _ (s : State) (done supported : ℕ) (a : Access) (cpus : s.cpus ≡ cpus_start p) (boots : s.stage ≡ Boots done supported)
       (is : boot_access p.tseg_mib supported done ≡ a) (normal : is_normal a ≡ true) where
@@ -51,7 +51,8 @@ module _ (p : Platform) (f : Facts p) where
     after_made : (after p s (Do 0 a)).state ≡ made a s
     after_made =
         let outside : is_in_smm (state_cpu s 0).mode ≡ false = ap (λ (cs : List OneCpu). is_in_smm (cpu_at cs 0).mode) cpus ∙ IsOutside-start p in
-        ap (λ (b : Bool). record (access_effect p 0 b a s) { stage = stage_after (answer_to b a s) s.stage }) outside
+        ap (λ (t : Stage). record (firmware_led p s t (Do 0 a) (effect_of p s (Do 0 a))) { stage = stage_after (answer_of s (Do 0 a)) s.stage }) boots
+        ∙ ap (λ (b : Bool). record (with_agreed (access_effect p 0 b a s)) { stage = stage_after (answer_to b a s) s.stage }) outside
 
     turned : (w : Scene) → w.state ≡ s → (act p w (Cpu 0)).scene.state ≡ made a s
     turned w at =

@@ -1,5 +1,6 @@
 -- Places of a boot: a state after so many accesses, and one access from it to the next.
 use Rattle.std.proofs.Common.{◌≡◌, ℕ, suc, Bool, true, false, not, ◌+◌, ◌-◌, List, ◌∷◌, Option, Some, None, refl, sym, subst, bit_and, if◌then◌else◌}
+use Rattle.std.specs.Option.{unwrap_or}
 use Rattle.hp_model.specs.declared.platforms.Platform.{Platform}
 use Rattle.hp_model.specs.declared.accesses.Access.{Access}
 use Rattle.hp_model.specs.declared.accesses.Access.TheVariants.{Store}
@@ -12,15 +13,26 @@ use Rattle.hp_model.specs.Cpu.{cpus_start}
 use Rattle.hp_model.specs.Block.{Block}
 use Rattle.hp_model.specs.Ich9.{ich9_start}
 use Rattle.hp_model.specs.FwCfg.{FwCfg}
+use Rattle.hp_model.specs.Monarch.{monarch_start, with_features}
 use Rattle.hp_model.specs.Boot.{Stage, Boots, tseg_enabled, boot_access, stage_after}
 use Rattle.hp_model.specs.Step.{State, is_normal}
 use Rattle.hp_boot.specs.Ending.{legacy_value, ended}
 use Rattle.hp_boot.proofs.Start.{Facts}
 use Rattle.hp_boot.proofs.Going.{Ends, made, ends_later}
 
--- after so many accesses, where access 21 answered `supported`
+-- after so many accesses, where access 21 answered `supported`; the monarch knows what was agreed on
 abbrev pub at_place : Platform → Block → Locks → List Write → FwCfg → ℕ → ℕ → State
-at_place p b l ws c done supported = record { cpus = cpus_start p; writes = ws; locks = l; block = b; ich9 = ich9_start; fw_cfg = c; stage = Boots done supported }
+at_place p b l ws c done supported =
+    record {
+      cpus = cpus_start p;
+      writes = ws;
+      locks = l;
+      block = b;
+      ich9 = ich9_start;
+      fw_cfg = c;
+      monarch = with_features (unwrap_or c.negotiated 0) (monarch_start p);
+      stage = Boots done supported;
+    }
 
 -- the locks at the start, but for their registers
 abbrev pub locks_by : Platform → ℕ → ℕ → ℕ → Locks

@@ -20,8 +20,8 @@ use Rattle.hp_model.specs.declared.processors.Cpu.{Cpu}
 use Rattle.hp_model.specs.declared.processors.Mode.{Mode}
 use Rattle.hp_model.specs.declared.processors.Mode.TheVariants.{Wait, Running, Halted, Smm}
 use Rattle.hp_model.specs.Cpu.{is_in_smm, address_in, smm_address}
-use Rattle.hp_model.specs.Boot.{Boots, Refused, Handed, boot_accesses, boot_access, boot_refusal, value_in, stage_after, stage_by, fact_of}
-use Rattle.hp_model.specs.Step.{State, After, at, answer_to, after, step}
+use Rattle.hp_model.specs.Boot.{Stage, Boots, Refused, Handed, boot_accesses, boot_access, boot_refusal, value_in, stage_after, stage_by, fact_of}
+use Rattle.hp_model.specs.Step.{State, After, at, effect_of, answer_to, firmware_led, after, step}
 use Rattle.hp_model.specs.Schedule.{Scene, Made, makes_none, both_make, made_by, event_of, entry_of, act, act_all, booted, boot_fact, boot_turns, scene_start}
 use Rattle.hp_boot.specs.Ending.{reads_fact, IsRefusing, StopsAt}
 use Rattle.hp_boot.proofs.Turns.{all_refused, all_handed, step_either, event_boots, act_boots}
@@ -106,7 +106,9 @@ module _ (p : Platform) (w : Scene) (fact : BootFact) (done supported : ℕ) (bo
   stage_then = ap (stage_after then_after.answer) boots
 
   outside_then : IsOutside then_after.state.cpus
-  outside_then = IsOutside-access p 0 w.state outside (is_in_smm (at w.state 0).mode) next (boot_calm p.tseg_mib supported done)
+  outside_then =
+      subst (λ (t : Stage). IsOutside (firmware_led p w.state t (Do 0 next) (effect_of p w.state (Do 0 next))).cpus) (sym boots)
+      (IsOutside-access p 0 w.state outside (is_in_smm (at w.state 0).mode) next (boot_calm p.tseg_mib supported done))
 
   entry_then : entry_of w (event_of p w (actor.Cpu 0)) then_after ≡ record { event = Do 0 next; at = None; answer = then_after.answer }
   entry_then =

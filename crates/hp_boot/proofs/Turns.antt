@@ -7,8 +7,8 @@ use Rattle.hp_model.specs.declared.entries.Event.{Event}
 use Rattle.hp_model.specs.declared.entries.Event.TheVariants.{Do}
 use Rattle.hp_model.specs.declared.outcomes.BootFact.{BootFact}
 use Rattle.hp_model.specs.Boot.{Stage, Boots, Refused, Handed, boot_access, stage_after}
-use Rattle.hp_model.specs.Step.{State, After, at as state_cpu, is_enabled, is_wanted, wanted_in, answer_of, after, step}
-use Rattle.hp_model.specs.Schedule.{Scene, makes_none, voice_at, says, made_by, cpu_event, event_of, stage_event, act, act_all}
+use Rattle.hp_model.specs.Step.{State, After, is_enabled, is_wanted, wanted_in, answer_of, after, step}
+use Rattle.hp_model.specs.Schedule.{Scene, makes_none, made_by, own_event, event_of, stage_event, act, act_all}
 
 unwanted : (b c : Bool) (a : After) → c ≡ false → (if b && c then Some a else None) ≡ None
 unwanted true true a h = cc
@@ -59,7 +59,7 @@ all_handed p w requested (a ∷ as') at = all_handed p (act p w a).scene request
 -- before both, a turn of processor 0 is the boot's next access
 pub event_boots : (p : Platform) (w : Scene) (done supported : ℕ) → w.state.stage ≡ Boots done supported →
     event_of p w (Cpu 0) ≡ Do 0 (boot_access p.tseg_mib supported done)
-event_boots p w done supported at = ap (λ (t : Stage). stage_event p t 0 (cpu_event 0 (state_cpu w.state 0) (says (voice_at w 0)).access)) at
+event_boots p w done supported at = ap (λ (t : Stage). stage_event p t 0 (own_event p w 0)) at
 
 pub act_boots : (p : Platform) (w : Scene) (done supported : ℕ) → w.state.stage ≡ Boots done supported →
     act p w (Cpu 0) ≡ made_by p w (Cpu 0) (step p w.state (Do 0 (boot_access p.tseg_mib supported done)))

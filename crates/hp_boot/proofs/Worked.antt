@@ -13,6 +13,7 @@ use Rattle.hp_model.specs.Block.{first_places}
 use Rattle.hp_model.specs.FwCfg.{big_bytes, big_value, little_value, directory, listed}
 use Rattle.hp_model.specs.Transfers.{bytes_stored, bytes_loaded, transfer}
 use Rattle.hp_model.specs.Boot.{boot_accesses, boot_access}
+use Rattle.hp_model.specs.Voices.{says}
 use Rattle.hp_model.specs.Step.{step, same_access}
 use Rattle.hp_model.specs.Schedule.{booted, boot_fact, act, act_all}
 
@@ -75,7 +76,7 @@ record Worked : Type 0 where
   bare_is_answered : answers (file_of (0 ∷ []) true false 7) ≡ Quiet ∷ Quiet ∷ Quiet ∷ Value 0 ∷ Quiet ∷ Value 0 ∷ []
 
 worked : Worked
-unfolding file_of answers locked_answers boot_fact booted act act_all step same_access is_hole bytes_of value_from big_bytes big_value little_value directory listed bytes_stored bytes_loaded transfer boot_accesses boot_access boot_cpus cpus_start first_places
+unfolding file_of answers locked_answers boot_fact booted act act_all says step same_access is_hole bytes_of value_from big_bytes big_value little_value directory listed bytes_stored bytes_loaded transfer boot_accesses boot_access boot_cpus cpus_start first_places
 worked =
     record {
       zero_is_handed_over = refl;

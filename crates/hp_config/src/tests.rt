@@ -159,7 +159,9 @@ fn what_is_not_built_is_rule_16(rt: HostRuntime) -> Result<(), Fail> {
         ),
         ("host = [{ turn = 7, insert = 0 }]\n", "", FINE),
         ("", "[[stall]]\ncpu = 0\nfrom = 5\nto = 5", FINE),
-        ("", "[[agent]]\ncpu = 0\nkind = 'pen'", 16),
+        ("", "[[agent]]\ncpu = 0\nkind = 'pen'", FINE),
+        ("", "[[agent]]\ncpu = 0\nkind = 'os'", 16),
+        ("", "[[agent]]\ncpu = 0\nkind = 'handed'", 16),
         (
             "",
             "[[agent]]\ncpu = 0\nkind = 'seeded'\nseed = 4294967295",

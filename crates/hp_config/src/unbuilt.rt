@@ -10,7 +10,7 @@ use hp_model::VoiceKind;
 fn does_agent_run(agent: &AgentRow) -> bool
     ensures { result ≡ kind_runs agent.now.kind }
 {
-    matches!(agent.kind, Some(VoiceKind::Script(_)))
+    matches!(agent.kind, Some(VoiceKind::Script(_) | VoiceKind::Pen))
 }
 
 fn do_agents_run(agents: &[AgentRow]) -> bool

@@ -1,5 +1,5 @@
--- How many processors and slots there are stays.
-use Rattle.std.proofs.Common.{◌≡◌, ◌≤◌, ℕ, suc, Bool, true, false, List, [], ◌∷◌, length, Option, Some, None, refl, ◌∙◌, ap}
+-- How many processors and slots there are stays; who stands in SMM is one of the processors.
+use Rattle.std.proofs.Common.{◌≡◌, ◌≤◌, ◌<◌, ℕ, zero, suc, Bool, true, false, List, [], ◌∷◌, length, Option, Some, None, refl, ◌∙◌, ap, arith}
 use Rattle.std.proofs.Math.ListN.{length-set}
 use Rattle.std.proofs.lemmas.List.{get_or_past}
 use Rattle.hp_model.specs.declared.processors.Cpu.{Cpu}
@@ -10,7 +10,7 @@ use Rattle.hp_model.specs.Cpu.{absent, cpu_at, hit}
 use Rattle.std.specs.Prelude.{slice_set, if◌then◌else◌}
 use Rattle.hp_model.specs.Block.{Block, block_write, with_insert, with_removal}
 use Rattle.hp_model.specs.Interrupts.{is_target, hit_each, sent, smi_raised}
-use Rattle.hp_model.specs.Step.{without_ejected}
+use Rattle.hp_model.specs.Step.{stands_in_smm, without_ejected}
 use Rattle.hp_regs.proofs.Ejects.{stays_count, inserted_count, requested_count}
 use Rattle.hp_machine.specs.Machine.{IsSized}
 
@@ -71,3 +71,11 @@ pub cpu_at-past : (cs : List Cpu) (k : ℕ) → length cs ≤ k → cpu_at cs k 
 cpu_at-past cs k past = get_or_past cs k absent past
 
 pub ruleset past_cpus = (cpu_at-past)
+
+-- absent processors don't stand in SMM
+pub standing-within : (cs : List Cpu) (k : ℕ) → stands_in_smm (cpu_at cs k) ≡ true → k < length cs
+standing-within [] k stands = cc
+standing-within (c ∷ cs) zero stands = omega arith
+standing-within (c ∷ cs) (suc k) stands = omega (arith, standing-within cs k stands)
+
+pub ruleset standing = (standing-within)

@@ -30,7 +30,7 @@ pub record Machine : Type 0 where
   pub ejected : Option ℕ  -- the processor that the last step ejected
 
 -- the machine stands for this state of the model: its memory by the writes, all else by equality.
--- Where the boot stands isn't the machine's to know.
+-- Where the boot stands and what the monarch keeps aren't the machine's to know.
 pub record IsState (p : Platform) (m : Machine) (s : State) : Type 0 where
   pub apic : m.apic ≡ p.apic
   pub memory : Stands m.memory s.writes

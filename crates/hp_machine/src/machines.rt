@@ -1,13 +1,12 @@
 //! The machine, one step an event.
 
-ghost use Rattle.std.specs.Prelude.{◌≡◌, ◌≤◌, ◌<◌, ◌-◌, ◌^◌, true, List, IfOk, OnErr, OnOk, IsOk, length, option_map, slice_set};
+ghost use Rattle.std.specs.Prelude.{◌≡◌, ◌≤◌, ◌<◌, ◌-◌, ◌^◌, true, List, IfOk, IfSome, OnErr, OnOk, IsOk, length, slice_set};
 ghost use Rattle.hp_model.specs.declared.platforms.Platform.{Platform};
 ghost use Rattle.hp_model.specs.declared.entries.Event.TheVariants.{Do, Insert, Remove, TakeSmi, TakeInit, Resume};
 ghost use Rattle.hp_model.specs.Platform.{IsFit};
 ghost use Rattle.hp_model.specs.Cpu.{cpu_at, is_in_smm, smm_address, moved};
-ghost use Rattle.hp_model.specs.Step.{State, can_do, stands_in_smm};
-ghost use Rattle.hp_model.specs.Memory.{Write, byte_at};
-ghost use Rattle.hp_model.specs.View.{loaded};
+ghost use Rattle.hp_model.specs.Step.{State, can_do, mark_at, stands_in_smm};
+ghost use Rattle.hp_model.specs.Memory.{Write};
 ghost use Rattle.hp_mem.specs.Kept.{Stands};
 ghost use Rattle.hp_model.specs.Block.{ejected_by};
 ghost use Rattle.hp_image.specs.Cells.{AreCells, cells_fit, stored_cells};
@@ -378,13 +377,14 @@ impl Machine {
         ensures room { OnOk result (272 ≤ self.new.memory.spare) }
         ensures succeeds { 272 ≤ self.old.memory.spare → IsOk result }
         ensures unchanged { (p : Platform) (s : State) → IsState p self.old s → IsState p self.new s }
+        ensures rest { self.new ≡ record self.old { memory = self.new.memory } }
     {
         take_room(&mut self.memory)
     }
 
     /// Where a processor in SMM goes on: its next instruction address, and the base that the first handler has loaded.
+    #[tactic(auto, using(crate::proofs::Sizes::standing))]
     pub fn go(&mut self, s: u32, address: u32, base: u32)
-        requires place { s < length self.old.cpus }
         requires in_smm { stands_in_smm (cpu_at self.old.cpus s) ≡ true }
         ensures { self.new ≡ record self.old { cpus = slice_set self.old.cpus s (moved address base (cpu_at self.old.cpus s)) } }
     {
@@ -399,9 +399,8 @@ impl Machine {
         self.fw_cfg.negotiated()
     }
 
-    /// The processor in a possible place.
+    /// The processor in a place; an absent one in a place that isn't possible.
     pub fn cpu(&self, s: u32) -> Cpu
-        requires { s < length self.now.cpus }
         ensures { result ≡ cpu_at self.now.cpus s }
     {
         self.cpu_or_absent(s)
@@ -418,10 +417,13 @@ impl Machine {
         }
     }
 
-    /// What stands at the instruction address of a processor in SMM: its handler's mark. None outside SMM.
+    /// The mark where a processor in SMM stands: the 4 bytes at its instruction address, as it loads them. None outside SMM,
+    /// and in a place that isn't possible.
+    #[tactic(auto, unfolding(hp_model::specs::Step::mark_at))]
     pub fn mark_at(&self, s: u32) -> Option<u32>
-        requires { s < length self.now.cpus }
-        ensures { (p : Platform) (state : State) → IsState p self.now state → result ≡ option_map (λ address. loaded state.locks true (byte_at state.writes) address 4) (smm_address (cpu_at self.now.cpus s)) }
+        ensures mark { (p : Platform) (state : State) → IsState p self.now state → result ≡ mark_at state s }
+        ensures within { IfSome result (λ m. stands_in_smm (cpu_at self.now.cpus s) ≡ true) }
+        ensures place { IfSome result (λ mark. s < length self.now.apic) }
     {
         self.address(s).map(|address| load(&self.memory, &self.locks, true, address, 4) as u32)
     }

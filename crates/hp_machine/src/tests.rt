@@ -1,7 +1,5 @@
 //! The machine by its public calls, with values that were written by hand.
 
-ghost use Rattle.std.specs.Prelude.{◌<◌, IsTrue, length};
-
 mod features;
 mod guest;
 mod holes;
@@ -134,10 +132,7 @@ fn play(rt: &impl Abort, machine: &mut Machine, steps: &[(Event, Answer)]) -> Re
 }
 
 /// Whether some event shows that a processor is there. One that waits for SIPI in place 0 would not be seen.
-#[tactic(auto, using(crate::proofs::Sizes::past_cpus))]
-fn is_present(machine: &Machine, k: u32) -> bool
-    ensures { IsTrue result → k < length machine.now.cpus }
-{
+fn is_present(machine: &Machine, k: u32) -> bool {
     machine.enabled(&Event::Remove(k))
         || machine.enabled(&Event::Do(k, Access::Nop))
         || machine.enabled(&Event::TakeSmi(k))

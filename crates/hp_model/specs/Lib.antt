@@ -19,5 +19,6 @@ pub mod Handlers
 pub mod Voices
 pub mod Step
 pub mod Runs
+pub mod Safety
 pub mod Schedule
 pub mod Text

@@ -3,6 +3,8 @@ use Rattle.std.specs.Prelude.{ℕ, Bool, true, false, ◌&&◌, ◌==◌, List, 
 use Rattle.hp_model.specs.declared.platforms.Platform.{Platform}
 use Rattle.hp_model.specs.declared.accesses.Answer.{Answer}
 use Rattle.hp_model.specs.declared.accesses.Answer.TheVariants.{Quiet, Value}
+use Rattle.hp_model.specs.declared.entries.Actor.{Actor}
+use Rattle.hp_model.specs.declared.entries.Actor.TheVariants as actor
 use Rattle.hp_model.specs.declared.entries.Event.{Event}
 use Rattle.hp_model.specs.declared.entries.Event.TheVariants.{Insert, Remove, Do, TakeSmi, TakeInit, Resume, Tell}
 use Rattle.hp_model.specs.declared.entries.Entry.{Entry}
@@ -21,7 +23,17 @@ same_address None (Some y) = false
 same_address (Some x) None = false
 same_address (Some x) (Some y) = x == y
 
--- the instruction address that the actor has before the step; the actor of a told outcome is processor 0
+-- whose event it is; an outcome is told by processor 0
+abbrev pub actor_of : Event → Actor
+actor_of (Insert k) = actor.Insert k
+actor_of (Remove k) = actor.Remove k
+actor_of (Do k a) = actor.Cpu k
+actor_of (TakeSmi k) = actor.Cpu k
+actor_of (TakeInit k) = actor.Cpu k
+actor_of (Resume k) = actor.Cpu k
+actor_of (Tell o) = actor.Cpu 0
+
+-- the instruction address that the actor has before the step
 abbrev pub address_of : State → Event → Option ℕ
 address_of s (Insert k) = None
 address_of s (Remove k) = None

@@ -3,56 +3,45 @@ use Rattle.std.specs.Prelude.{ℕ, zero, suc, Bool, ◌&&◌, ◌==◌, nat_le, 
 use Rattle.std.specs.List.{list_any}
 use Rattle.hp_model.specs.declared.platforms.Platform.{Platform}
 use Rattle.hp_model.specs.declared.accesses.Access.{Access}
-use Rattle.hp_model.specs.declared.accesses.Access.TheVariants.{Halt}
+use Rattle.hp_model.specs.declared.accesses.Answer.{Answer}
+use Rattle.hp_model.specs.declared.accesses.Answer.TheVariants.{Quiet}
+use Rattle.hp_model.specs.declared.accesses.Want.{Want}
+use Rattle.hp_model.specs.declared.accesses.Want.TheVariants as want
 use Rattle.hp_model.specs.declared.entries.Actor.{Actor}
 use Rattle.hp_model.specs.declared.entries.Actor.TheVariants as actor
 use Rattle.hp_model.specs.declared.entries.Event.{Event}
 use Rattle.hp_model.specs.declared.entries.Event.TheVariants as event
 use Rattle.hp_model.specs.declared.entries.Entry.{Entry}
 use Rattle.hp_model.specs.declared.files.Stall.{Stall}
-use Rattle.hp_model.specs.declared.files.VoiceKind.{VoiceKind}
-use Rattle.hp_model.specs.declared.files.VoiceKind.TheVariants.{Script, Os, Pen, Seeded, Handed}
 use Rattle.hp_model.specs.declared.files.File.{File}
 use Rattle.hp_model.specs.Platform.{count_of}
 use Rattle.hp_model.specs.declared.processors.Cpu.{Cpu}
-use Rattle.hp_model.specs.Cpu.{is_free, may_take_smi, may_take_init}
+use Rattle.hp_model.specs.Cpu.{is_free, is_in_smm, page_of, may_take_smi, may_take_init}
+use Rattle.hp_model.specs.Voices.{Voice, Question, Said, silent, says, voice_of}
 use Rattle.hp_model.specs.declared.outcomes.BootFact.{BootFact}
 use Rattle.hp_model.specs.Block.{ejected_by}
 use Rattle.hp_model.specs.Boot.{Stage, Boots, Refused, Handed, is_handed, fact_of, boot_access}
-use Rattle.hp_model.specs.Step.{State, After, at, step, start}
+use Rattle.hp_model.specs.Step.{State, After, at, normal, wanted, step, start}
 use Rattle.hp_model.specs.Runs.{address_of}
-
--- what a processor still says: the steps of its script that are left, and halts after them.
--- Runs have no other voices yet: files with other kinds are refused, and a pen halts. `Voices` has those to come.
-pub data Voice : Type 0 where
-  script : List Access → Voice
-
-abbrev pub voice_of : VoiceKind → Voice
-voice_of (Script steps) = script steps
-voice_of Os = script []
-voice_of Pen = script []
-voice_of (Seeded seed) = script []
-voice_of Handed = script []
-
--- the access that a voice says, and what is left of it
-pub record Said : Type 0 where
-  pub access : Access
-  pub voice : Voice
-
-abbrev pub says : Voice → Said
-says (script []) = record { access = Halt; voice = script [] }
-says (script (a ∷ as')) = record { access = a; voice = script as' }
 
 -- the machine and the voices, between two steps
 pub record Scene : Type 0 where
   pub state : State
   pub voices : List Voice
+  pub last : List Answer  -- of each processor, the answer to the last access that its voice was asked for
 
 abbrev pub voice_at : Scene → ℕ → Voice
-voice_at w k = slice_index_or w.voices k (script [])
+voice_at w k = slice_index_or w.voices k silent
+
+-- what the voice of a processor is asked
+abbrev pub question : Scene → ℕ → Question
+question w k = record { cpu = k; page = page_of (at w.state k).mode; last = slice_index_or w.last k Quiet }
+
+abbrev pub said_by : Scene → ℕ → Said
+said_by w k = says (voice_at w k) (question w k)
 
 abbrev pub scene_start : File → Scene
-scene_start f = record { state = start f.platform; voices = map voice_of f.voices }
+scene_start f = record { state = start f.platform; voices = map voice_of f.voices; last = map (λ v. Quiet) f.voices }
 
 -- the entries that a part of the schedule makes, and the scene after it
 pub record Made : Type 0 where
@@ -62,9 +51,23 @@ pub record Made : Type 0 where
 abbrev pub makes_none : Scene → Made
 makes_none w = record { entries = []; scene = w }
 
--- what a processor does: it takes a latched SMI, else a latched INIT, else the access that its voice says
-abbrev pub cpu_event : ℕ → Cpu → Access → Event
-cpu_event k c access = if may_take_smi c then event.TakeSmi k else if may_take_init c then event.TakeInit k else event.Do k access
+-- what a processor in SMM does: what its handler wants, where processor 0 alone tells outcomes. Where it wants nothing, an access that then is no step.
+abbrev pub want_event : ℕ → Access → Option Want → Event
+want_event k access None = event.Do k access
+want_event k access (Some (want.Do a)) = event.Do k a
+want_event k access (Some (want.Tell o)) = if k == 0 then event.Tell o else event.Do k access
+want_event k access (Some want.Resume) = event.Resume k
+
+-- what a processor does: it takes a latched SMI, else a latched INIT, else in SMM what its handler wants, and outside what its voice says
+abbrev pub cpu_event : ℕ → Cpu → Access → Option Want → Event
+cpu_event k c access wanted =
+    if may_take_smi c then event.TakeSmi k
+    else if may_take_init c then event.TakeInit k
+    else if is_in_smm c.mode then want_event k access wanted
+    else event.Do k access
+
+abbrev pub own_event : Platform → Scene → ℕ → Event
+own_event p w k = cpu_event k (at w.state k) (normal (said_by w k).access) (wanted p w.state k)
 
 -- before the hand-over it is the boot's next access
 abbrev pub stage_event : Platform → Stage → ℕ → Event → Event
@@ -76,7 +79,7 @@ stage_event p (Handed requested) k own = own
 abbrev pub event_of : Platform → Scene → Actor → Event
 event_of p w (actor.Insert k) = event.Insert k
 event_of p w (actor.Remove k) = event.Remove k
-event_of p w (actor.Cpu k) = stage_event p w.state.stage k (cpu_event k (at w.state k) (says (voice_at w k)).access)
+event_of p w (actor.Cpu k) = stage_event p w.state.stage k (own_event p w k)
 
 -- a voice is asked after the hand-over, where its processor is running and nothing is latched
 abbrev pub is_asked : Scene → ℕ → Bool
@@ -86,12 +89,18 @@ is_asked w k = is_handed w.state.stage && is_free (at w.state k)
 abbrev pub voices_asked : Scene → Actor → List Voice
 voices_asked w (actor.Insert k) = w.voices
 voices_asked w (actor.Remove k) = w.voices
-voices_asked w (actor.Cpu k) = if is_asked w k then slice_set w.voices k (says (voice_at w k)).voice else w.voices
+voices_asked w (actor.Cpu k) = if is_asked w k then slice_set w.voices k (said_by w k).voice else w.voices
+
+-- and the answer to what it said
+abbrev pub last_asked : Scene → Actor → Answer → List Answer
+last_asked w (actor.Insert k) answer = w.last
+last_asked w (actor.Remove k) answer = w.last
+last_asked w (actor.Cpu k) answer = if is_asked w k then slice_set w.last k answer else w.last
 
 -- the voice of an ejected processor says halts alone
 abbrev pub without_voice : Option ℕ → List Voice → List Voice
 without_voice None vs = vs
-without_voice (Some k) vs = slice_set vs k (script [])
+without_voice (Some k) vs = slice_set vs k silent
 
 abbrev pub voices_after : Scene → Actor → State → List Voice
 voices_after w a next = without_voice (ejected_by w.state.block next.block) (voices_asked w a)
@@ -102,7 +111,7 @@ entry_of w e after = record { event = e; at = address_of w.state e; answer = aft
 -- an actor's event makes an entry where the machine has it as a step, and else nothing
 abbrev pub made_by : Platform → Scene → Actor → Option After → Made
 made_by p w a None = makes_none w
-made_by p w a (Some after) = record { entries = entry_of w (event_of p w a) after ∷ []; scene = record { state = after.state; voices = voices_after w a after.state } }
+made_by p w a (Some after) = record { entries = entry_of w (event_of p w a) after ∷ []; scene = record { state = after.state; voices = voices_after w a after.state; last = last_asked w a after.answer } }
 
 unfoldable pub act : Platform → Scene → Actor → Made
 act p w a = made_by p w a (step p w.state (event_of p w a))

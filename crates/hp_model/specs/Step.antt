@@ -1,27 +1,38 @@
--- One step of the machine: a table of events over guards and effects. The handlers in SMM aren't built yet.
-use Rattle.std.specs.Prelude.{ℕ, Bool, true, false, not, ◌&&◌, ◌||◌, ◌==◌, nat_lt, nat_le, ◌-◌, ◌^◌, List, [], ◌∷◌, Option, Some, None, slice_index_or, slice_set, if◌then◌else◌}
+-- One step of the machine and its firmware: a table of events over guards and effects, where the boot sequence and the handlers in SMM say what is wanted.
+use Rattle.std.specs.Prelude.{ℕ, Bool, true, false, not, ◌&&◌, ◌||◌, ◌==◌, nat_lt, nat_le, ◌-◌, ◌%◌, ◌^◌, List, [], ◌∷◌, Option, Some, None, option_map, option_and_then, slice_index_or, slice_set, if◌then◌else◌}
 use Rattle.std.specs.Str.{bytes_eq}
+use Rattle.std.specs.Option.{unwrap_or}
 use Rattle.hp_model.specs.declared.platforms.Platform.{Platform}
 use Rattle.hp_model.specs.declared.processors.Cpu.{Cpu}
 use Rattle.hp_model.specs.declared.accesses.Access.{Access}
 use Rattle.hp_model.specs.declared.accesses.Access.TheVariants.{Load, Store, Swap, In, Out, CfgRead, CfgWrite, Icr, Halt, Nop}
 use Rattle.hp_model.specs.declared.accesses.Answer.{Answer}
 use Rattle.hp_model.specs.declared.accesses.Answer.TheVariants.{Quiet, Value}
+use Rattle.hp_model.specs.declared.accesses.Want.{Want}
+use Rattle.hp_model.specs.declared.accesses.Want.TheVariants as want
+use Rattle.hp_model.specs.declared.outcomes.Outcome.{Outcome}
+use Rattle.hp_model.specs.declared.outcomes.Outcome.TheVariants as outcome
+use Rattle.hp_model.specs.declared.outcomes.Refusal.TheVariants as refusal
+use Rattle.hp_model.specs.declared.labels.Label.{Label}
 use Rattle.hp_model.specs.declared.entries.Event.{Event}
 use Rattle.hp_model.specs.declared.entries.Event.TheVariants.{Insert, Remove, Do, TakeSmi, TakeInit, Resume, Tell}
 use Rattle.hp_model.specs.Platform.{count_of}
 use Rattle.hp_model.specs.Memory.{Write, byte_at}
 use Rattle.hp_model.specs.View.{Locks, locks_start, lock_read, lock_write, loaded, stored, swapped}
-use Rattle.hp_model.specs.Cpu.{absent, inserted, cpus_start, cpu_at, is_free, is_in_smm, halt, may_take_smi, take_smi, may_take_init, take_init, resumed}
+use Rattle.hp_model.specs.Cpu.{absent, inserted, cpus_start, cpu_at, is_free, is_in_smm, smm_address, moved, halt, may_take_smi, take_smi, may_take_init, take_init, resumed}
 use Rattle.hp_model.specs.Block.{Block, block_start, block_read, block_write, ejected_by, with_insert, with_removal}
 use Rattle.hp_model.specs.Interrupts.{decoded, sent, smi_raised}
 use Rattle.hp_model.specs.Ich9.{Ich9, ich9_start, is_at, ich9_read, ich9_write, raises_smi, with_event, processor_event}
 use Rattle.hp_model.specs.FwCfg.{FwCfg, fw_cfg_start, selected, advanced, next_byte, with_high, dma_address, without_high, has_broadcast}
 use Rattle.hp_model.specs.Transfers.{Transferred, transfer}
-use Rattle.hp_model.specs.Boot.{Stage, Boots, Refused, Handed, boot_start, boot_access, stage_after}
+use Rattle.hp_model.specs.Boot.{Stage, Boots, Refused, Handed, boot_start, boot_access, stage_after, value_in}
 use Rattle.hp_model.specs.SaveArea.{saved, saved_smbase, saved_rip}
+use Rattle.hp_model.specs.SharedBytes.{layout_of}
+use Rattle.hp_model.specs.Image.{image}
+use Rattle.hp_model.specs.Monarch.{Monarch, monarch_start, restarted, with_features}
+use Rattle.hp_model.specs.Handlers.{Seat, Next, seat_of, row_of, wanted_at, next_at, address_of_label}
 
--- the machine; its parts that aren't built yet join this record
+-- the machine and its firmware
 pub record State : Type 0 where
   pub cpus : List Cpu
   pub writes : List Write
@@ -29,6 +40,7 @@ pub record State : Type 0 where
   pub block : Block
   pub ich9 : Ich9
   pub fw_cfg : FwCfg
+  pub monarch : Monarch  -- the record that the handler of processor 0 keeps
   pub stage : Stage
 
 -- what a step answers, and the state after it
@@ -36,16 +48,17 @@ pub record After : Type 0 where
   pub answer : Answer
   pub state : State
 
--- the machine before its first step
+-- the machine before its first step: memory holds the handlers' marks
 abbrev pub start : Platform → State
 start p =
     record {
       cpus = cpus_start p;
-      writes = [];
+      writes = image p;
       locks = locks_start p;
       block = block_start p;
       ich9 = ich9_start;
       fw_cfg = fw_cfg_start p.features;
+      monarch = monarch_start p;
       stage = boot_start;
     }
 
@@ -78,6 +91,19 @@ is_normal (CfgWrite reg value) = true
 is_normal (Icr high low) = true
 is_normal Halt = true
 is_normal Nop = true
+
+-- an access as the machine takes it (own rule): of a width that there is none it does nothing, and a value is cut to its width
+abbrev pub normal : Access → Access
+normal (Load addr width) = if is_memory_width width then Load addr width else Nop
+normal (Store addr width value) = if is_memory_width width then Store addr width (value % 256 ^ width) else Nop
+normal (Swap addr expected desired) = Swap addr expected desired
+normal (In port width) = if is_port_width width then In port width else Nop
+normal (Out port width value) = if is_port_width width then Out port width (value % 256 ^ width) else Nop
+normal (CfgRead reg) = CfgRead reg
+normal (CfgWrite reg value) = CfgWrite reg value
+normal (Icr high low) = Icr high low
+normal Halt = Halt
+normal Nop = Nop
 
 abbrev pub is_halt : Access → Bool
 is_halt (Load addr width) = false
@@ -138,21 +164,73 @@ is_boots mib done supported (TakeInit k) = false
 is_boots mib done supported (Resume k) = false
 is_boots mib done supported (Tell o) = false
 
--- after it, in SMM, a processor does what its handler wants; no handler is built yet
-abbrev pub is_handlers : State → Event → Bool
-is_handlers s (Insert k) = true
-is_handlers s (Remove k) = true
-is_handlers s (Do k a) = not (is_in_smm (at s k).mode)
-is_handlers s (TakeSmi k) = true
-is_handlers s (TakeInit k) = true
-is_handlers s (Resume k) = false
-is_handlers s (Tell o) = false
+-- an outcome as numbers, its kind first: two outcomes are one where these are equal
+abbrev pub outcome_numbers : Outcome → List ℕ
+outcome_numbers (outcome.Added cpu apic slot) = 0 ∷ cpu ∷ apic ∷ slot ∷ []
+outcome_numbers (outcome.Ejected cpu apic slot) = 1 ∷ cpu ∷ apic ∷ slot ∷ []
+outcome_numbers (outcome.Refused (refusal.Disabled cpu status)) = 2 ∷ cpu ∷ status ∷ []
+outcome_numbers (outcome.Refused (refusal.Both cpu status)) = 3 ∷ cpu ∷ status ∷ []
+outcome_numbers (outcome.Refused (refusal.AlreadyKnown cpu apic slot)) = 4 ∷ cpu ∷ apic ∷ slot ∷ []
+outcome_numbers (outcome.Refused (refusal.GateHeld cpu apic held)) = 5 ∷ cpu ∷ apic ∷ held ∷ []
+outcome_numbers (outcome.Refused (refusal.NotAtGate cpu apic)) = 6 ∷ cpu ∷ apic ∷ []
+outcome_numbers (outcome.Refused (refusal.NotCheckedIn cpu apic)) = 7 ∷ cpu ∷ apic ∷ []
+outcome_numbers (outcome.Refused (refusal.NoUnplug cpu features)) = 8 ∷ cpu ∷ features ∷ []
+outcome_numbers (outcome.Refused (refusal.NotKnown cpu apic)) = 9 ∷ cpu ∷ apic ∷ []
+outcome_numbers (outcome.Refused (refusal.NotArrived cpu apic)) = 10 ∷ cpu ∷ apic ∷ []
+outcome_numbers (outcome.Refused (refusal.NotParked cpu apic)) = 11 ∷ cpu ∷ apic ∷ []
+
+unfoldable pub same_outcome : Outcome → Outcome → Bool
+same_outcome a b = bytes_eq (outcome_numbers a) (outcome_numbers b)
+
+-- the four bytes at the instruction address of a processor in SMM, as it loads them
+unfoldable pub mark_at : State → ℕ → Option ℕ
+mark_at s k = option_map (λ address. loaded s.locks true (byte_at s.writes) address 4) (smm_address (at s k))
+
+-- the label whose row a processor in SMM has, by the mark where it stands
+unfoldable pub row_at : Platform → State → ℕ → Option Label
+row_at p s k = option_and_then (row_of (layout_of p) s.monarch k (at s k).smbase) (mark_at s k)
+
+-- who stands there
+abbrev pub seat : Platform → State → ℕ → Seat
+seat p s k = seat_of (layout_of p) (apic_of p k) (at s k).smbase (at s k).base
+
+-- what a processor in SMM wants; none where it has no row
+abbrev pub wanted : Platform → State → ℕ → Option Want
+wanted p s k = wanted_at (layout_of p) s.monarch (seat p s k) (row_at p s k)
+
+abbrev pub is_that_access : Option Want → Access → Bool
+is_that_access None a = false
+is_that_access (Some (want.Do b)) a = same_access a b
+is_that_access (Some (want.Tell o)) a = false
+is_that_access (Some want.Resume) a = false
+
+abbrev pub is_that_outcome : Option Want → Outcome → Bool
+is_that_outcome None o = false
+is_that_outcome (Some (want.Do a)) o = false
+is_that_outcome (Some (want.Tell t)) o = same_outcome o t
+is_that_outcome (Some want.Resume) o = false
+
+abbrev pub is_rsm : Option Want → Bool
+is_rsm None = false
+is_rsm (Some (want.Do a)) = false
+is_rsm (Some (want.Tell o)) = false
+is_rsm (Some want.Resume) = true
+
+-- after the hand-over a processor in SMM does what its handler wants, and nothing else
+abbrev pub is_handlers : Platform → State → Event → Bool
+is_handlers p s (Insert k) = true
+is_handlers p s (Remove k) = true
+is_handlers p s (Do k a) = not (is_in_smm (at s k).mode) || is_that_access (wanted p s k) a
+is_handlers p s (TakeSmi k) = true
+is_handlers p s (TakeInit k) = true
+is_handlers p s (Resume k) = is_rsm (wanted p s k)
+is_handlers p s (Tell o) = is_that_outcome (wanted p s 0) o
 
 -- nothing is wanted after a refusal
 abbrev pub wanted_in : Platform → State → Stage → Event → Bool
 wanted_in p s (Boots done supported) e = is_boots p.tseg_mib done supported e
 wanted_in p s (Refused fact) e = false
-wanted_in p s (Handed requested) e = is_handlers s e
+wanted_in p s (Handed requested) e = is_handlers p s e
 
 abbrev pub is_wanted : Platform → State → Event → Bool
 is_wanted p s e = wanted_in p s s.stage e
@@ -281,9 +359,45 @@ effect_of p s (TakeInit k) = set_cpu k (take_init (at s k)) s
 effect_of p s (Resume k) = leave_smm k s
 effect_of p s (Tell o) = s
 
--- an event's answer and the state after it, where the boot may have gone on
+-- where a handler's row leads: its processor goes on at the next label, if it is still in SMM, and the monarch's record with it
+abbrev pub go_on : ℕ → Next → Cpu → Cpu
+go_on smbase n c = if stands_in_smm c then moved (address_of_label smbase n.label) n.base c else c
+
+abbrev pub with_next : ℕ → ℕ → Next → State → State
+with_next k smbase n t = record t { cpus = slice_set t.cpus k (go_on smbase n (at t k)); monarch = n.monarch }
+
+-- the state t after a processor's event in SMM, where its answer has led its row in s on
+abbrev pub row_led : Platform → State → ℕ → Answer → Option Label → State → State
+row_led p s k answer None t = t
+row_led p s k answer (Some l) t = with_next k (at s k).smbase (next_at (layout_of p) (seat p s k) s.monarch l (value_in answer)) t
+
+-- SMI entry of processor 0 begins a session of the monarch
+abbrev pub with_session : ℕ → State → State
+with_session k t = if k == 0 then record t { monarch = restarted t.monarch } else t
+
+-- what the handlers make of an event
+abbrev pub handlers_led : Platform → State → Event → State → State
+handlers_led p s (Insert k) t = t
+handlers_led p s (Remove k) t = t
+handlers_led p s (Do k a) t = if is_in_smm (at s k).mode then row_led p s k (answer_of s (Do k a)) (row_at p s k) t else t
+handlers_led p s (TakeSmi k) t = with_session k t
+handlers_led p s (TakeInit k) t = t
+handlers_led p s (Resume k) t = t
+handlers_led p s (Tell o) t = row_led p s 0 Quiet (row_at p s 0) t
+
+-- the boot tells the monarch the features that were agreed on, none as 0
+abbrev pub with_agreed : State → State
+with_agreed t = record t { monarch = with_features (unwrap_or t.fw_cfg.negotiated 0) t.monarch }
+
+-- what the firmware makes of an event: the boot before the hand-over, the handlers after it
+abbrev pub firmware_led : Platform → State → Stage → Event → State → State
+firmware_led p s (Boots done supported) e t = with_agreed t
+firmware_led p s (Refused fact) e t = t
+firmware_led p s (Handed requested) e t = handlers_led p s e t
+
+-- an event's answer and the state after it, where the firmware has gone on
 abbrev pub after : Platform → State → Event → After
-after p s e = record { answer = answer_of s e; state = record (effect_of p s e) { stage = stage_after (answer_of s e) s.stage } }
+after p s e = record { answer = answer_of s e; state = record (firmware_led p s s.stage e (effect_of p s e)) { stage = stage_after (answer_of s e) s.stage } }
 
 -- nothing where the event isn't enabled, or isn't what the boot sequence or a handler wants
 unfoldable pub step : Platform → State → Event → Option After

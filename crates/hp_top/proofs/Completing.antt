@@ -1,17 +1,23 @@
--- A file whose machine is handed over is run to its end.
-use Rattle.std.proofs.Common.{◌≡◌, ℕ, true, List, Option, Some, None, Ok, option_map, refl, sym, ◌∙◌, ap, subst}
+-- How the run of a file that was read ends; where its machine is handed over, to its end.
+use Rattle.std.proofs.Common.{◌≡◌, ℕ, true, List, Option, Some, None, IsSome, Ok, option_map, inr, refl, sym, ◌∙◌, ap, subst}
 use Rattle.std.proofs.lemmas.Option.{same_Some}
 use Rattle.hp_model.specs.declared.files.File.{File}
 use Rattle.hp_model.specs.declared.outcomes.BootFact.{BootFact}
 use Rattle.hp_model.specs.Platform.{IsFit}
-use Rattle.hp_model.specs.Schedule.{boot_fact}
+use Rattle.hp_model.specs.declared.platforms.Platform.{Platform}
+use Rattle.hp_model.specs.declared.entries.Entry.{Entry}
+use Rattle.hp_model.specs.Runs.{run}
+use Rattle.hp_model.specs.Safety.{IsLockedBefore}
+use Rattle.hp_model.specs.Schedule.{booted, boot_fact, scheduled}
+use Rattle.hp_model.specs.Step.{State}
 use Rattle.hp_config.specs.Reading.{Reading, good, broken, file_of, text_reading, IsReadAs}
 use Rattle.hp_config.specs.Sound.{IsSound}
-use Rattle.hp_boot.specs.Ending.{hands_over}
+use Rattle.hp_boot.specs.Ending.{StopsAt, hands_over}
 use Rattle.hp_top.specs.declared.statuses.Status.{Status}
 use Rattle.hp_top.specs.declared.statuses.Status.TheVariants.{Done, BadWords, ReadFault, TooLong, NotToml, Rule, BootRefused, WriteFault, TraceRefused, NoMemory}
-use Rattle.hp_top.specs.Answers.{EndsRun, IsWritten, IsDoneOrNoMemory}
-use Rattle.hp_top.specs.Turns.{text_by, output}
+use Rattle.hp_top.specs.Answers.{EndsFile, EndsRun, IsCutRun, IsWritten, IsDoneOrNoMemory}
+use Rattle.hp_top.specs.Sent.{HoldsFront}
+use Rattle.hp_top.specs.Turns.{text_by, output, entries_by, spelled}
 use Rattle.std.specs.Io.KnownBytes.{Appends}
 
 -- a text is one file
@@ -39,6 +45,62 @@ module _ (sound : (bytes : List ℕ) (f : File) → IsReadAs bytes (Ok f) → Is
   completed bytes old new WriteFault f ends written read up = written refl
   completed bytes old new (TraceRefused line why) f ends written read up = ends
   completed bytes old new NoMemory f ends written read up = tt
+
+-- the entries that are written are a run in which each instruction executed in SMM was locked before it
+module _ (whole : (f : File) → IsSome (run f.platform (scheduled f))) (boot : (f : File) → IsSome (run f.platform (booted f).entries))
+    (locked : (p : Platform) (es : List Entry) (s : State) → IsFit p → run p es ≡ Some s → IsLockedBefore p es)
+    (stops : (f : File) (fact : BootFact) → boot_fact f ≡ Some fact → StopsAt fact (booted f).entries) where
+  safe_run : (p : Platform) (es : List Entry) → IsFit p → IsSome (run p es) → IsLockedBefore p es
+  safe_run p es fit some = by (run p es) refl some
+    where
+      by : (o : Option State) → run p es ≡ o → IsSome o → IsLockedBefore p es
+      by None e none = cc
+      by (Some s) e found = locked p es s fit e
+
+  spelled_run : (f : File) → IsSome (run f.platform (spelled f))
+  unfolding spelled
+  spelled_run f = by (boot_fact f)
+    where
+      by : (o : Option BootFact) → IsSome (run f.platform (entries_by o f))
+      by None = whole f
+      by (Some fact) = boot f
+
+  cut_run : (bytes : List ℕ) (old new : Option (List ℕ)) (f : File) → IsReadAs bytes (Ok f) → IsSound f → HoldsFront old new (output f) → IsCutRun bytes old new
+  cut_run bytes old new f read sound front = record {
+    file = f;
+    read = read;
+    front = front;
+    is_run = spelled_run f;
+    safe = safe_run f.platform (spelled f) sound.fit (spelled_run f);
+  }
+
+  pub ends_read : (bytes : List ℕ) (old new : Option (List ℕ)) (f : File) (status : Status) → IsReadAs bytes (Ok f) → IsSound f → EndsFile f old new status →
+      EndsRun bytes old new status
+  ends_read bytes old new f Done read sound written = record {
+    file = f;
+    read = read;
+    handed = written.fact;
+    appended = written.appended;
+    is_run = whole f;
+    safe = safe_run f.platform (scheduled f) sound.fit (whole f);
+  }
+  ends_read bytes old new f BadWords read sound written = written
+  ends_read bytes old new f ReadFault read sound written = written
+  ends_read bytes old new f TooLong read sound written = written
+  ends_read bytes old new f NotToml read sound written = absurd written
+  ends_read bytes old new f (Rule rule) read sound written = absurd written
+  ends_read bytes old new f (BootRefused fact) read sound written = record {
+    file = f;
+    read = read;
+    refused = written.fact;
+    appended = written.appended;
+    stops = stops f fact written.fact;
+    is_run = boot f;
+    safe = safe_run f.platform (booted f).entries sound.fit (boot f);
+  }
+  ends_read bytes old new f WriteFault read sound front = cut_run bytes old new f read sound front
+  ends_read bytes old new f (TraceRefused line why) read sound written = written
+  ends_read bytes old new f NoMemory read sound front = inr (cut_run bytes old new f read sound front)
 
 -- what was written is what the boot's fact says
 pub written : (f : File) (o : Option BootFact) (a b : Option (List ℕ)) → o ≡ boot_fact f → Appends a b (output f) → IsWritten f o a b

@@ -5,15 +5,19 @@ use Rattle.std.specs.Io.KnownBytes.{Appends}
 use Rattle.hp_model.specs.declared.entries.Actor.{Actor}
 use Rattle.hp_model.specs.declared.entries.Entry.{Entry}
 use Rattle.hp_model.specs.declared.files.File.{File}
+use Rattle.hp_model.specs.declared.files.VoiceKind.{VoiceKind}
 use Rattle.hp_model.specs.declared.outcomes.BootFact.{BootFact}
 use Rattle.hp_model.specs.Schedule.{Scene, Made, both_make, act, act_all, hosts_of, cpus_of, actors_of, turns_from, scene_start, boot_turns, booted, boot_fact, scheduled}
 use Rattle.hp_model.specs.Boot.{fact_of}
+use Rattle.hp_model.specs.Runs.{run}
+use Rattle.hp_model.specs.Step.{State}
 use Rattle.hp_model.specs.Text.{lines_text, end_text, head_text}
 use Rattle.hp_top.proofs.Sending.{sent_none, sent_more, sent_all, front_part}
 use Rattle.hp_top.proofs.Turning.{lines_text-append, both-assoc, act_all-append, act_all-one, sends_both, sends_empty, front_both, front_more}
-use Rattle.hp_top.specs.Scenes.{Seen, Shows}
+use Rattle.hp_platform.specs.World.{World}
+use Rattle.hp_top.specs.Worlds.{Shows}
 use Rattle.hp_top.specs.Sent.{IsSent, HoldsFront}
-use Rattle.hp_top.specs.Turns.{Sends, run_text, boot_text, text_by, output, boot_left, turns_text}
+use Rattle.hp_top.specs.Turns.{Sends, run_text, boot_text, text_by, output, boot_left, turns_text, with_voices}
 
 module _ (f : File) (turn : ℕ) (w : Scene) (hosts : List Actor) (same : hosts ≡ hosts_of f turn) where
   stalled : cpus_of f turn ≡ [] → hosts ≡ actors_of f turn
@@ -24,7 +28,7 @@ module _ (f : File) (turn : ℕ) (w : Scene) (hosts : List Actor) (same : hosts 
   unfolding actors_of
   free x e = ap (λ (xs : List Actor). xs ++ (x ∷ [])) same ∙ ap (λ (xs : List Actor). hosts_of f turn ++ xs) (sym e)
 
-  module _ (mid : Seen) (made : ℕ) (a b : Option (List ℕ)) (first : Sends f.platform mid (act_all f.platform w hosts) made a b) where
+  module _ (mid : World) (made : ℕ) (a b : Option (List ℕ)) (first : Sends f.platform mid (act_all f.platform w hosts) made a b) where
     -- the host's events alone, where the processor is stalled
     pub turn_stalled : cpus_of f turn ≡ [] → Sends f.platform mid (act_all f.platform w (actors_of f turn)) made a b
     turn_stalled e = subst (λ (xs : List Actor). Sends f.platform mid (act_all f.platform w xs) made a b) (stalled e) first
@@ -35,7 +39,7 @@ module _ (f : File) (turn : ℕ) (w : Scene) (hosts : List Actor) (same : hosts 
           ∙ sym (act_all-append f.platform hosts (x ∷ []) w) ∙ ap (act_all f.platform w) (free x e)
 
       -- and then the processor
-      pub turn_both : (new : Seen) (count : ℕ) → ((v : Scene) → Shows f.platform mid v → Sends f.platform new (act f.platform v x) count b c)
+      pub turn_both : (new : World) (count : ℕ) → ((v : Scene) → Shows f.platform mid v → Sends f.platform new (act f.platform v x) count b c)
           → Sends f.platform new (act_all f.platform w (actors_of f turn)) (made + count) a c
       turn_both new count next =
           subst (λ (m : Made). Sends f.platform new m (made + count) a c) both
@@ -84,13 +88,13 @@ turns-first : (f : File) (m t : ℕ) (w : Scene) → turns_from f (suc m) t w �
 unfolding turns_from
 turns-first f m t w = refl
 
-pub turns_start : (f : File) (w : Scene) (seen : Seen) (a : Option (List ℕ)) → Shows f.platform seen w → Sends f.platform seen (turns_from f 0 0 w) 0 a a
+pub turns_start : (f : File) (w : Scene) (seen : World) (a : Option (List ℕ)) → Shows f.platform seen w → Sends f.platform seen (turns_from f 0 0 w) 0 a a
 unfolding turns_from act_all
 turns_start f w seen a shows = sends_empty f.platform w seen a shows
 
-module _ (f : File) (turn : ℕ) (w : Scene) (mid : Seen) (made : ℕ) (a b c : Option (List ℕ)) (first : Sends f.platform mid (turns_from f turn 0 w) made a b) where
+module _ (f : File) (turn : ℕ) (w : Scene) (mid : World) (made : ℕ) (a b c : Option (List ℕ)) (first : Sends f.platform mid (turns_from f turn 0 w) made a b) where
   -- a turn more
-  pub turns_more : (new : Seen) (count : ℕ) → ((v : Scene) → Shows f.platform mid v → Sends f.platform new (act_all f.platform v (actors_of f turn)) count b c)
+  pub turns_more : (new : World) (count : ℕ) → ((v : Scene) → Shows f.platform mid v → Sends f.platform new (act_all f.platform v (actors_of f turn)) count b c)
       → Sends f.platform new (turns_from f (turn + 1) 0 w) (made + count) a c
   turns_more new count next =
       let here : 0 + turn ≡ turn = omega arith in
@@ -118,22 +122,33 @@ pub booted-is : (f : File) → booted f ≡ act_all f.platform (scene_start f) (
 unfolding booted boot_left
 booted-is f = refl
 
-pub sends_boot : (f : File) (seen : Seen) (made : ℕ) (a b : Option (List ℕ)) →
+pub sends_boot : (f : File) (seen : World) (made : ℕ) (a b : Option (List ℕ)) →
     Sends f.platform seen (act_all f.platform (scene_start f) (boot_left boot_turns)) made a b → Sends f.platform seen (booted f) made a b
 sends_boot f seen made a b sends = subst (λ (m : Made). Sends f.platform seen m made a b) (sym (booted-is f)) sends
 
 -- the scene after it shows what refused it
-pub boot_fact-is : (f : File) (seen : Seen) (o : Option BootFact) → Shows f.platform seen (booted f).scene → o ≡ fact_of seen.boot.stage → o ≡ boot_fact f
+pub boot_fact-is : (f : File) (world : World) (o : Option BootFact) → Shows f.platform world (booted f).scene →
+    ((s : State) → run world.platform world.entries ≡ Some s → o ≡ fact_of s.stage) → o ≡ boot_fact f
 unfolding boot_fact
-boot_fact-is f seen o shows is = is ∙ ap fact_of shows.stage
+boot_fact-is f world o shows is = is (booted f).scene.state shows.tells.is
+
+-- no turn asks for the file's voices
+turns_rest : (kinds : List VoiceKind) (f : File) (n t : ℕ) (w : Scene) → turns_from (with_voices kinds f) n t w ≡ turns_from f n t w
+unfolding turns_from actors_of
+turns_rest kinds f zero t w = refl
+turns_rest kinds f (suc n) t w =
+    let made = act_all f.platform w (actors_of f t) in ap (both_make made) (turns_rest kinds f n (t + 1) made.scene)
 
 -- what is written: the header, the lines of the boot, and what follows them
 abbrev pub after_boot : Option BootFact → File → List ℕ
 after_boot None f = turns_text (length (booted f).entries) (turns_from f f.platform.turns 0 (booted f).scene)
 after_boot (Some fact) f = []
 
-pub turns-after : (f : File) (made : ℕ) → length (booted f).entries ≡ made → turns_text made (turns_from f f.platform.turns 0 (booted f).scene) ≡ after_boot None f
-turns-after f made count = ap (λ (n : ℕ). turns_text n (turns_from f f.platform.turns 0 (booted f).scene)) (sym count)
+pub turns-after : (kinds : List VoiceKind) (f : File) (made : ℕ) → length (booted (with_voices kinds f)).entries ≡ made →
+    turns_text made (turns_from f f.platform.turns 0 (booted (with_voices kinds f)).scene) ≡ after_boot None (with_voices kinds f)
+turns-after kinds f made count =
+    ap (turns_text made) (sym (turns_rest kinds f f.platform.turns 0 (booted (with_voices kinds f)).scene))
+    ∙ ap (λ (n : ℕ). turns_text n (turns_from (with_voices kinds f) f.platform.turns 0 (booted (with_voices kinds f)).scene)) (sym count)
 
 run_parts : (f : File) → run_text f ≡ head_text f.platform ++ (lines_text (booted f).entries ++ after_boot None f)
 unfolding run_text scheduled

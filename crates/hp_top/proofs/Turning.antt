@@ -12,7 +12,9 @@ use Rattle.hp_model.specs.declared.entries.Entry.{Entry}
 use Rattle.hp_model.specs.Schedule.{Scene, Made, both_make, boot_turns, act, act_all}
 use Rattle.hp_model.specs.Text.{line_text, lines_text}
 use Rattle.hp_top.proofs.Sending.{sent_none, sent_more, sent_all, front_part, front_none}
-use Rattle.hp_top.specs.Scenes.{Seen, Shows, Acts}
+use Rattle.hp_platform.specs.declared.worlds.Turn.TheVariants as turn
+use Rattle.hp_platform.specs.World.{World}
+use Rattle.hp_top.specs.Worlds.{Shows, Takes}
 use Rattle.hp_top.specs.Sent.{HoldsFront}
 use Rattle.hp_top.specs.Turns.{Sends, due, past, boot_left, DoneActors}
 
@@ -23,27 +25,31 @@ lines_text-append (e ∷ es) fs = ap (λ t. line_text e ++ t) (lines_text-append
 lines_text-one : (e : Entry) → lines_text (e ∷ []) ≡ line_text e
 lines_text-one e = append-nil (line_text e)
 
-module _ (p : Platform) (seen : Seen) (m : Made) (a b : Option (List ℕ)) where
+module _ (p : Platform) (world : World) (m : Made) (a b : Option (List ℕ)) where
   -- an actor made no entry
-  pub sends_none : Acts p seen m None → Sends p seen m 0 a a
-  sends_none acts = record { scene = acts.scene; count = ap length acts.entries; lines = subst (λ (es : List Entry). Appends a a (lines_text es)) (sym acts.entries) (Appends-nil a) }
+  pub sends_none : Takes p world m turn.Idle → Sends p world m 0 a a
+  sends_none took = record {
+    scene = record { platform = took.platform; tells = took.acts.scene };
+    count = ap length took.acts.entries;
+    lines = subst (λ (es : List Entry). Appends a a (lines_text es)) (sym took.acts.entries) (Appends-nil a);
+  }
 
   -- or one, whose line was sent
-  pub sends_one : (e : Entry) → Acts p seen m (Some e) → Appends a b (line_text e) → Sends p seen m 1 a b
-  sends_one e acts grown = record {
-    scene = acts.scene;
-    count = ap length acts.entries;
-    lines = subst (λ (es : List Entry). Appends a b (lines_text es)) (sym acts.entries) (subst (Appends a b) (sym (lines_text-one e)) grown);
+  pub sends_one : (e : Entry) → Takes p world m (turn.Made e) → Appends a b (line_text e) → Sends p world m 1 a b
+  sends_one e took grown = record {
+    scene = record { platform = took.platform; tells = took.acts.scene };
+    count = ap length took.acts.entries;
+    lines = subst (λ (es : List Entry). Appends a b (lines_text es)) (sym took.acts.entries) (subst (Appends a b) (sym (lines_text-one e)) grown);
   }
 
   -- or sent in part
-  pub front_one : (e : Entry) → Acts p seen m (Some e) → HoldsFront a b (line_text e) → HoldsFront a b (lines_text m.entries)
-  front_one e acts part = subst (λ (es : List Entry). HoldsFront a b (lines_text es)) (sym acts.entries) (subst (HoldsFront a b) (sym (lines_text-one e)) part)
+  pub front_one : (e : Entry) → Takes p world m (turn.Made e) → HoldsFront a b (line_text e) → HoldsFront a b (lines_text m.entries)
+  front_one e took part = subst (λ (es : List Entry). HoldsFront a b (lines_text es)) (sym took.acts.entries) (subst (HoldsFront a b) (sym (lines_text-one e)) part)
 
 pub ruleset one_actor = (sends_none, sends_one, front_one, front_none)
 
 -- one part and then another
-pub sends_both : (p : Platform) (mid new : Seen) (m n : Made) (j k : ℕ) (a b c : Option (List ℕ)) → Sends p mid m j a b → Sends p new n k b c → Sends p new (both_make m n) (j + k) a c
+pub sends_both : (p : Platform) (mid new : World) (m n : Made) (j k : ℕ) (a b c : Option (List ℕ)) → Sends p mid m j a b → Sends p new n k b c → Sends p new (both_make m n) (j + k) a c
 sends_both p mid new m n j k a b c first second = record {
   scene = second.scene;
   count = length-append m.entries n.entries ∙ omega (arith, first.count, second.count);
@@ -51,7 +57,7 @@ sends_both p mid new m n j k a b c first second = record {
 }
 
 -- a part, and then another that stopped
-pub front_both : (p : Platform) (mid : Seen) (m n : Made) (j : ℕ) (a b c : Option (List ℕ)) → Sends p mid m j a b → HoldsFront b c (lines_text n.entries) → HoldsFront a c (lines_text (both_make m n).entries)
+pub front_both : (p : Platform) (mid : World) (m n : Made) (j : ℕ) (a b c : Option (List ℕ)) → Sends p mid m j a b → HoldsFront b c (lines_text n.entries) → HoldsFront a c (lines_text (both_make m n).entries)
 front_both p mid m n j a b c first part =
     subst (HoldsFront a c) (sym (lines_text-append m.entries n.entries))
     (front_part a b c (lines_text n.entries) [] (lines_text m.entries ++ lines_text n.entries)
@@ -93,17 +99,17 @@ act_all-cons : (p : Platform) (w : Scene) (x : Actor) (xs : List Actor) → act_
 unfolding act_all
 act_all-cons p w x xs = refl
 
-pub sends_empty : (p : Platform) (w : Scene) (seen : Seen) (a : Option (List ℕ)) → Shows p seen w → Sends p seen (act_all p w []) 0 a a
+pub sends_empty : (p : Platform) (w : Scene) (seen : World) (a : Option (List ℕ)) → Shows p seen w → Sends p seen (act_all p w []) 0 a a
 unfolding act_all
 sends_empty p w seen a shows = record { scene = shows; count = refl; lines = Appends-nil a }
 
 pub due-first : (turn : ℕ) (h : HostEvent) (hs : List HostEvent) → h.turn ≡ turn → due turn (h ∷ hs) ≡ h.actor ∷ due turn hs
 due-first turn h hs is = rw (eq-eqb h.turn turn is) refl
 
-module _ (p : Platform) (w : Scene) (all rest more : List Actor) (x : Actor) (seen : Seen) (made : ℕ) (a b c : Option (List ℕ))
+module _ (p : Platform) (w : Scene) (all rest more : List Actor) (x : Actor) (seen : World) (made : ℕ) (a b c : Option (List ℕ))
     (is : rest ≡ x ∷ more) (done : DoneActors p w all rest seen made a b) where
   -- the next of them acted
-  pub done_more : (new : Seen) (count : ℕ) → ((v : Scene) → Shows p seen v → Sends p new (act p v x) count b c) → DoneActors p w all more new (made + count) a c
+  pub done_more : (new : World) (count : ℕ) → ((v : Scene) → Shows p seen v → Sends p new (act p v x) count b c) → DoneActors p w all more new (made + count) a c
   done_more new count next = record {
     front = done.front ++ x ∷ [];
     actors = append_assoc done.front (x ∷ []) more ∙ ap (λ (xs : List Actor). done.front ++ xs) (sym is) ∙ done.actors;
@@ -127,13 +133,13 @@ module _ (p : Platform) (w : Scene) (all rest more : List Actor) (x : Actor) (se
       whole = sym (act_all-append p done.front (x ∷ more) w) ∙ ap (act_all p w) (ap (λ (xs : List Actor). done.front ++ xs) (sym is) ∙ done.actors)
 
 -- none of them is left
-pub done_all : (p : Platform) (w : Scene) (all rest : List Actor) (seen : Seen) (made : ℕ) (a b : Option (List ℕ)) →
+pub done_all : (p : Platform) (w : Scene) (all rest : List Actor) (seen : World) (made : ℕ) (a b : Option (List ℕ)) →
     DoneActors p w all rest seen made a b → rest ≡ [] → Sends p seen (act_all p w all) made a b
 done_all p w all rest seen made a b done none =
     subst (λ (xs : List Actor). Sends p seen (act_all p w xs) made a b) (sym (append-nil done.front) ∙ ap (λ (xs : List Actor). done.front ++ xs) (sym none) ∙ done.actors) done.sends
 
 -- none of them acted yet
-pub done_start : (p : Platform) (w : Scene) (all : List Actor) (seen : Seen) (a : Option (List ℕ)) → Shows p seen w → DoneActors p w all all seen 0 a a
+pub done_start : (p : Platform) (w : Scene) (all : List Actor) (seen : World) (a : Option (List ℕ)) → Shows p seen w → DoneActors p w all all seen 0 a a
 done_start p w all seen a shows = record { front = []; actors = refl; sends = sends_empty p w seen a shows }
 
 -- the boot's turns: one is next while some are left

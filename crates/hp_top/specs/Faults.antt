@@ -1,5 +1,5 @@
 -- Counts of faults: what a call may say of the outside's failures.
-use Rattle.std.specs.Prelude.{ℕ, Bool, true, false, ◌+◌, ◌-◌, ◌^◌, ◌≤◌, min, Result, Ok, Err, OnErr}
+use Rattle.std.specs.Prelude.{◌≡◌, ℕ, Bool, true, false, ◌+◌, ◌-◌, ◌^◌, ◌≤◌, min, Result, Ok, Err, OnErr, OnOk}
 use Rattle.hp_top.specs.declared.outside.WriteStop.{WriteStop}
 use Rattle.hp_top.specs.declared.outside.WriteStop.TheVariants.{Failed, NoMemory}
 
@@ -7,10 +7,11 @@ use Rattle.hp_top.specs.declared.outside.WriteStop.TheVariants.{Failed, NoMemory
 abbrev pub Rose : ℕ → ℕ → Type 0
 Rose before now = min (before + 1) (2 ^ 64 - 1) ≤ now
 
--- the count never falls, and a failure comes only where it rose
+-- the count never falls; a failure comes only where it rose, and where there is none it stays
 pub record HasCause {T E : Type 0} (before now : ℕ) (result : Result T E) : Type 0 where
   pub later : before ≤ now
   pub failed : OnErr result (Rose before now)
+  pub calm : OnOk result (now ≡ before)
 
 -- the same for a sink, whose want of memory is no failure of the outside
 abbrev pub RoseAt : ℕ → ℕ → WriteStop → Type 0
@@ -21,9 +22,19 @@ abbrev pub RoseIfFailed : {T : Type 0} → ℕ → ℕ → Result T WriteStop �
 RoseIfFailed before now (Ok done) = Unit {0}
 RoseIfFailed before now (Err stop) = RoseAt before now stop
 
+-- after anything but a failure of the outside it stays
+abbrev pub StaysAt : ℕ → ℕ → WriteStop → Type 0
+StaysAt before now Failed = Unit {0}
+StaysAt before now NoMemory = now ≡ before
+
+abbrev pub StaysUnlessFailed : {T : Type 0} → ℕ → ℕ → Result T WriteStop → Type 0
+StaysUnlessFailed before now (Ok done) = now ≡ before
+StaysUnlessFailed before now (Err stop) = StaysAt before now stop
+
 pub record StopsFor {T : Type 0} (before now : ℕ) (result : Result T WriteStop) : Type 0 where
   pub later : before ≤ now
   pub failed : RoseIfFailed before now result
+  pub calm : StaysUnlessFailed before now result
 
 -- the write failed by the outside, and not for memory
 abbrev pub is_failure : WriteStop → Bool

@@ -1,5 +1,5 @@
 -- What the top call reads of its input.
-use Rattle.std.specs.Prelude.{ℕ, ◌<◌, ◌≤◌, List, length, Option}
+use Rattle.std.specs.Prelude.{◌≡◌, ℕ, ◌<◌, ◌≤◌, List, length, Option}
 use Rattle.std.specs.Io.KnownBytes.{Consumes, IsAtEnd}
 use Rattle.hp_top.specs.declared.reading.ReadStop.{ReadStop}
 use Rattle.hp_top.specs.declared.reading.ReadStop.TheVariants.{ReadFault, TooLong, NoMemory}
@@ -25,3 +25,9 @@ abbrev pub StopsReading : Option (List ℕ) → Option (List ℕ) → ℕ → �
 StopsReading old new before now ReadFault = Rose before now
 StopsReading old new before now TooLong = HasReadPast old new
 StopsReading old new before now NoMemory = Unit {0}
+
+-- the count of faults stays, but after a fault
+abbrev pub StaysReading : ℕ → ℕ → ReadStop → Type 0
+StaysReading before now ReadFault = Unit {0}
+StaysReading before now TooLong = now ≡ before
+StaysReading before now NoMemory = now ≡ before

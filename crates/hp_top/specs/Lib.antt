@@ -2,8 +2,8 @@ pub mod Answers
 pub mod Codes
 pub mod Faults
 pub mod Input
-pub mod Scenes
 pub mod Scripted
 pub mod Sent
 pub mod Stalls
 pub mod Turns
+pub mod Worlds

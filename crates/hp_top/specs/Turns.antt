@@ -3,18 +3,21 @@ use Rattle.std.specs.Prelude.{◌≡◌, ℕ, ◌==◌, ◌≤◌, List, [], ◌
 use Rattle.std.specs.Io.KnownBytes.{Appends}
 use Rattle.hp_model.specs.declared.platforms.Platform.{Platform}
 use Rattle.hp_model.specs.declared.entries.Actor.{Actor}
+use Rattle.hp_model.specs.declared.entries.Entry.{Entry}
 use Rattle.hp_model.specs.declared.entries.Actor.TheVariants.{Cpu}
 use Rattle.hp_model.specs.declared.files.HostEvent.{HostEvent}
 use Rattle.hp_model.specs.declared.files.Stall.{Stall}
 use Rattle.hp_model.specs.declared.files.File.{File}
+use Rattle.hp_model.specs.declared.files.VoiceKind.{VoiceKind}
 use Rattle.hp_model.specs.declared.outcomes.BootFact.{BootFact}
 use Rattle.hp_model.specs.Schedule.{Scene, Made, act_all, booted, boot_fact, scheduled}
 use Rattle.hp_model.specs.Text.{head_text, lines_text, end_text, trace_text}
-use Rattle.hp_top.specs.Scenes.{Seen, Shows}
+use Rattle.hp_platform.specs.World.{World}
+use Rattle.hp_top.specs.Worlds.{Shows}
 
--- a part of the schedule was made: the scene after it, how many entries it has, and their lines in the sink
-pub record Sends (p : Platform) (seen : Seen) (m : Made) (made : ℕ) (old new : Option (List ℕ)) : Type 0 where
-  pub scene : Shows p seen m.scene
+-- a part of the schedule was made: the scene that the world then stands for, how many entries it has, and their lines in the sink
+pub record Sends (p : Platform) (world : World) (m : Made) (made : ℕ) (old new : Option (List ℕ)) : Type 0 where
+  pub scene : Shows p world m.scene
   pub count : length m.entries ≡ made
   pub lines : Appends old new (lines_text m.entries)
 
@@ -43,6 +46,10 @@ abbrev pub Rises : {X : Type 0} → (X → ℕ) → ℕ → List X → Type 0
 Rises key n [] = Unit {0}
 Rises key n (x ∷ xs) = (n ≤ key x) × Rises key (key x) xs
 
+-- a file with other voices
+abbrev pub with_voices : List VoiceKind → File → File
+with_voices kinds f = record f { voices = kinds }
+
 -- the whole trace of the run that a file's schedule makes
 unfoldable pub run_text : File → List ℕ
 run_text f = trace_text f.platform (scheduled f)
@@ -59,6 +66,14 @@ text_by (Some fact) f = boot_text f
 unfoldable pub output : File → List ℕ
 output f = text_by (boot_fact f) f
 
+-- the entries that it spells
+abbrev pub entries_by : Option BootFact → File → List Entry
+entries_by None f = scheduled f
+entries_by (Some fact) f = (booted f).entries
+
+unfoldable pub spelled : File → List Entry
+spelled f = entries_by (boot_fact f) f
+
 -- what follows the boot's lines: the lines of the turns, and the end line that counts all entries
 abbrev pub turns_text : ℕ → Made → List ℕ
 turns_text booted m = lines_text m.entries ++ end_text (booted + length m.entries)
@@ -68,7 +83,7 @@ unfoldable pub boot_left : ℕ → List Actor
 boot_left n = replicate n (Cpu 0)
 
 -- these actors acted, as far as they did
-pub record DoneActors (p : Platform) (w : Scene) (all rest : List Actor) (seen : Seen) (made : ℕ) (old new : Option (List ℕ)) : Type 0 where
+pub record DoneActors (p : Platform) (w : Scene) (all rest : List Actor) (world : World) (made : ℕ) (old new : Option (List ℕ)) : Type 0 where
   pub front : List Actor
   pub actors : front ++ rest ≡ all
-  pub sends : Sends p seen (act_all p w front) made old new
+  pub sends : Sends p world (act_all p w front) made old new

@@ -1,6 +1,6 @@
 //! The top call.
 
-ghost use Rattle.std.specs.Prelude.{◌≡◌, ◌≤◌, ◌↔◌, codes, map, string_bytes, true, false, Ok};
+ghost use Rattle.std.specs.Prelude.{◌≡◌, ◌≢◌, ◌≤◌, ◌↔◌, codes, map, string_bytes, true, false, Ok};
 ghost use Rattle.std.specs.Str.{bytes_eq};
 ghost use Rattle.hp_model.specs.declared.files.File.{File as AFile};
 ghost use Rattle.hp_boot.specs.Ending.{hands_over};
@@ -13,9 +13,11 @@ use crate::outside::{Sink, Source, WriteStop};
 use crate::reading::{ReadStop, read_all};
 use crate::running::run_file;
 use crate::statuses::Status;
+use hp_agent::Script;
 use hp_boot::{boot_ends, boot_stops_at_its_fact};
 use hp_config::{ConfigFault, read, read_files_are_sound};
 use hp_model::{File, schedule_is_a_run};
+use hp_safety::locked_before;
 use std::alloc::Global;
 
 fn is_run(word: &str) -> bool
@@ -35,13 +37,14 @@ fn are_run(words: &[String]) -> bool
 }
 
 /// Runs the file that was read.
-fn run_read<K: Sink>(alloc: Global, file: &File, out: &mut K) -> Status
-    requires { IsSound file.now }
-    ensures ends { EndsFile file.now (K.held out.old) (K.held out.new) result }
+fn run_read<K: Sink>(alloc: Global, file: File, out: &mut K) -> Status
+    requires { IsSound file }
+    ensures ends { EndsFile file (K.held out.old) (K.held out.new) result }
     ensures fault { result ≡ Status.WriteFault → Rose (K.faults out.old) (K.faults out.new) }
     ensures later { K.faults out.old ≤ K.faults out.new }
+    ensures calm { result ≢ Status.WriteFault → K.faults out.new ≡ K.faults out.old }
 {
-    match run_file(alloc, file, out) {
+    match run_file::<Script, K>(alloc, file, out) {
         Ok(None) => Status::Done,
         Ok(Some(fact)) => Status::BootRefused(fact),
         Err(WriteStop::Failed) => Status::WriteFault,
@@ -54,12 +57,14 @@ fn run_bytes<K: Sink>(alloc: Global, bytes: &[u8], out: &mut K) -> Status
     ensures ends { EndsRun bytes.now (K.held out.old) (K.held out.new) result }
     ensures fault { result ≡ Status.WriteFault → Rose (K.faults out.old) (K.faults out.new) }
     ensures later { K.faults out.old ≤ K.faults out.new }
+    ensures calm { result ≢ Status.WriteFault → K.faults out.new ≡ K.faults out.old }
 {
     schedule_is_a_run();
+    locked_before();
     read_files_are_sound();
     boot_stops_at_its_fact();
     match read(alloc, bytes) {
-        Ok(file) => run_read(alloc, &file, out),
+        Ok(file) => run_read(alloc, file, out),
         Err(ConfigFault::NotToml) => Status::NotToml,
         Err(ConfigFault::Rule(rule)) => Status::Rule(rule),
         Err(ConfigFault::NoMemory) => Status::NoMemory,
@@ -71,6 +76,7 @@ fn complete<K: Sink>(alloc: Global, bytes: &[u8], out: &mut K) -> Status
     ensures ends { EndsRun bytes.now (K.held out.old) (K.held out.new) result }
     ensures fault { result ≡ Status.WriteFault → Rose (K.faults out.old) (K.faults out.new) }
     ensures later { K.faults out.old ≤ K.faults out.new }
+    ensures calm { result ≢ Status.WriteFault → K.faults out.new ≡ K.faults out.old }
     ensures completes { (file : AFile) → IsReadAs bytes.now (Ok file) → hands_over file.platform ≡ true
         → ¬ Rose (K.faults out.old) (K.faults out.new) → IsDoneOrNoMemory result }
 {
@@ -86,7 +92,9 @@ pub fn top<S: Source, K: Sink>(alloc: Global, words: &[String], src: &mut S, out
     ensures bad_words { (result ≡ Status.BadWords) ↔ (are_the_run (map string_bytes words.now) ≡ false) }
     ensures ends { Ends (S.left src.old) (S.left src.new) (K.held out.old) (K.held out.new) result }
     ensures read_fault { result ≡ Status.ReadFault → Rose (S.faults src.old) (S.faults src.new) }
+    ensures read_calm { result ≢ Status.ReadFault → S.faults src.new ≡ S.faults src.old }
     ensures write_fault { result ≡ Status.WriteFault → Rose (K.faults out.old) (K.faults out.new) }
+    ensures write_calm { result ≢ Status.WriteFault → K.faults out.new ≡ K.faults out.old }
     ensures completes { HoldsFile (S.left src.old) → are_the_run (map string_bytes words.now) ≡ true
         → ¬ Rose (S.faults src.old) (S.faults src.new) → ¬ Rose (K.faults out.old) (K.faults out.new)
         → IsDoneOrNoMemory result }

@@ -6,7 +6,6 @@ mod in_memory;
 mod outside;
 mod reading;
 mod running;
-mod scenes;
 mod scripted;
 mod sorting;
 mod stalling;

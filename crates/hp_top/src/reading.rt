@@ -1,7 +1,7 @@
 //! Reads the whole input, up to a limit.
 
-ghost use Rattle.std.specs.Prelude.{◌≤◌, ◌<◌, ◌+◌, MatchResult};
-ghost use Rattle.hp_top.specs.Input.{HasRead, StopsReading};
+ghost use Rattle.std.specs.Prelude.{◌≡◌, ◌≤◌, ◌<◌, ◌+◌, MatchResult};
+ghost use Rattle.hp_top.specs.Input.{HasRead, StaysReading, StopsReading};
 
 use crate::outside::Source;
 use std::alloc::Global;
@@ -24,6 +24,8 @@ pub(crate) fn read_all<S: Source>(alloc: Global, src: &mut S) -> Result<Vec<u8>,
     ensures later { S.faults src.old ≤ S.faults src.new }
     ensures ends { MatchResult result (λ all. HasRead (S.left src.old) (S.left src.new) all.items)
         (λ stop. StopsReading (S.left src.old) (S.left src.new) (S.faults src.old) (S.faults src.new) stop) }
+    ensures calm { MatchResult result (λ all. S.faults src.new ≡ S.faults src.old)
+        (λ stop. StaysReading (S.faults src.old) (S.faults src.new) stop) }
 {
     let mut all = Vec::new(alloc);
     let mut piece = [0u8; PIECE];

@@ -1,23 +1,30 @@
 //! The boot and the run of a file: each line is handed to the sink when its entry is made.
 
-ghost use Rattle.std.specs.Prelude.{ℕ, ◌≡◌, ◌≤◌, ◌+◌, ◌^◌, ◌∷◌, [], IfOk, IfSome, OnOk, OnErr, None, length};
+ghost use Rattle.std.specs.Prelude.{ℕ, ◌≡◌, ◌≤◌, ◌+◌, ◌^◌, List, ◌∷◌, [], map, IfOk, IfSome, OnOk, OnErr, None, Some, length};
 ghost use Rattle.std.specs.Io.KnownBytes.{Appends};
 ghost use Rattle.hp_model.specs.declared.platforms.Platform.{Platform};
+ghost use Rattle.hp_model.specs.declared.files.File.{File as Whole};
+ghost use Rattle.hp_model.specs.declared.files.VoiceKind.{VoiceKind};
+ghost use Rattle.hp_model.specs.Platform.{IsFit, count_of};
+ghost use Rattle.hp_model.specs.Voices.{voice_of};
 ghost use Rattle.hp_model.specs.Schedule.{Scene as Shown, act, act_all, actors_of, boot_fact as fact_of_boot, boot_turns, cpus_of, hosts_of as of_turn, is_stalled, scene_start, turns_from};
 ghost use Rattle.hp_config.specs.Sound.{IsSound};
 ghost use Rattle.hp_model.specs.Text.{head_text, line_text, lines_text, end_text};
 ghost use Rattle.hp_top.specs.Faults.{StopsFor};
-ghost use Rattle.hp_top.specs.Scenes.{Shows};
+ghost use Rattle.hp_top.specs.Worlds.{Shows, Takes};
 ghost use Rattle.hp_top.specs.Sent.{HoldsFront};
 ghost use Rattle.hp_top.specs.Stalls.{IsTracking};
-ghost use Rattle.hp_top.specs.Turns.{Sends, Rises, at_turn, boot_left, due, output, past, start_of, turn_of, turns_text};
+ghost use Rattle.hp_top.specs.Turns.{Sends, Rises, at_turn, boot_left, due, output, past, start_of, turn_of, turns_text, with_voices};
 
 use crate::outside::{Sink, WriteStop};
-use crate::scenes::Scene;
 use crate::sorting::by_turn;
 use crate::stalling::{Stalled, by_start};
 use crate::writing::write_all;
-use hp_model::{Actor, BootFact, Entry, File, HostEvent, NoMemory, Platform, Stall, VoiceKind};
+use hp_agent::{Agent, Agents, voice_for};
+use hp_model::{
+    Actor, BootFact, Entry, File, HostEvent, NoMemory, Platform, Stall, VoiceKind, Voices,
+};
+use hp_platform::{Turn, World, a_turn_is_the_schedules};
 use std::alloc::Global;
 
 /// The boot sequence's accesses, each a turn of processor 0.
@@ -62,22 +69,30 @@ fn send_end<K: Sink>(entries: u64, text: &mut Vec<u8>, out: &mut K) -> Result<()
     write_all(out, text.as_slice())
 }
 
+/// An actor's turn, which makes what the schedule makes of that actor.
+fn take_turn<A: Agent>(world: &mut World<A>, actor: Actor) -> Result<Turn, NoMemory>
+    ensures { (p : Platform) (w : Shown) → Shows p world.old w → IfOk result (Takes p world.new (act p w actor)) }
+{
+    a_turn_is_the_schedules();
+    world.turn(actor)
+}
+
 /// What one actor does, and how many entries that made.
 #[tactic(auto, using(crate::proofs::Turning::one_actor))]
-fn make_step<K: Sink>(
-    scene: &mut Scene,
+fn make_step<A: Agent, K: Sink>(
+    world: &mut World<A>,
     actor: Actor,
     text: &mut Vec<u8>,
     out: &mut K,
 ) -> Result<u64, WriteStop>
     ensures bound { IfOk result (λ made. made ≤ 1) }
-    ensures made { (p : Platform) (w : Shown) → Shows p scene.old w → IfOk result (λ made. Sends p scene.new (act p w actor) made (K.held out.old) (K.held out.new)) }
-    ensures part { (p : Platform) (w : Shown) → Shows p scene.old w → OnErr result (HoldsFront (K.held out.old) (K.held out.new) (lines_text (act p w actor).entries)) }
+    ensures made { (p : Platform) (w : Shown) → Shows p world.old w → IfOk result (λ made. Sends p world.new (act p w actor) made (K.held out.old) (K.held out.new)) }
+    ensures part { (p : Platform) (w : Shown) → Shows p world.old w → OnErr result (HoldsFront (K.held out.old) (K.held out.new) (lines_text (act p w actor).entries)) }
     ensures cause { StopsFor (K.faults out.old) (K.faults out.new) result }
 {
-    let entry = match scene.act(actor) {
-        Ok(Some(entry)) => entry,
-        Ok(None) => return Ok(0),
+    let entry = match take_turn(world, actor) {
+        Ok(Turn::Made(entry)) => entry,
+        Ok(Turn::Idle) => return Ok(0),
         Err(NoMemory) => return Err(WriteStop::NoMemory),
     };
     match send_line(&entry, text, out) {
@@ -109,8 +124,8 @@ fn next_host(hosts: &[HostEvent], turn: u32) -> Option<(Actor, &[HostEvent])>
 
 /// The host events of a turn, which are at the front of these: how many entries they made, and the events after them.
 #[tactic(auto, using(crate::proofs::Turning::host_events))]
-fn make_hosts<'h, K: Sink>(
-    scene: &mut Scene,
+fn make_hosts<'h, A: Agent, K: Sink>(
+    world: &mut World<A>,
     hosts: &'h [HostEvent],
     turn: u32,
     text: &mut Vec<u8>,
@@ -118,16 +133,16 @@ fn make_hosts<'h, K: Sink>(
 ) -> Result<(u64, &'h [HostEvent]), WriteStop>
     ensures bound { IfOk result (λ done. done.0 + length done.1.now ≤ length hosts.now) }
     ensures rest { IfOk result (λ done. done.1.now ≡ past turn hosts.now) }
-    ensures made { (p : Platform) (w : Shown) → Shows p scene.old w
-        → IfOk result (λ done. Sends p scene.new (act_all p w (due turn hosts.now)) done.0 (K.held out.old) (K.held out.new)) }
-    ensures part { (p : Platform) (w : Shown) → Shows p scene.old w
+    ensures made { (p : Platform) (w : Shown) → Shows p world.old w
+        → IfOk result (λ done. Sends p world.new (act_all p w (due turn hosts.now)) done.0 (K.held out.old) (K.held out.new)) }
+    ensures part { (p : Platform) (w : Shown) → Shows p world.old w
         → OnErr result (HoldsFront (K.held out.old) (K.held out.new) (lines_text (act_all p w (due turn hosts.now)).entries)) }
     ensures cause { StopsFor (K.faults out.old) (K.faults out.new) result }
 {
     let mut made = 0u64;
     let mut rest = hosts;
     'hosts: while let Some((actor, more)) = next_host(rest, turn) {
-        match make_step(scene, actor, text, out) {
+        match make_step(world, actor, text, out) {
             Ok(count) => made += count,
             Err(stop) => return Err(stop),
         }
@@ -138,7 +153,7 @@ fn make_hosts<'h, K: Sink>(
 
 /// The processor whose turn it is; none where a stall covers it.
 fn cpu_of(file: &File, stalled: &mut Stalled, turn: u32) -> Option<u32>
-    requires sound { IsSound file.now }
+    requires fit { IsFit file.now.platform }
     requires tracking { IsTracking file.now turn stalled.old }
     ensures some { IfSome result (λ k. cpus_of file.now turn ≡ Actor.Cpu k ∷ []) }
     ensures none { result ≡ None → cpus_of file.now turn ≡ [] }
@@ -154,8 +169,8 @@ fn cpu_of(file: &File, stalled: &mut Stalled, turn: u32) -> Option<u32>
 
 /// One turn: the host's events, and then the processor whose turn it is unless a stall covers it. How many entries they
 /// made, and the host events that are left.
-fn make_turn<'h, K: Sink>(
-    scene: &mut Scene,
+fn make_turn<'h, A: Agent, K: Sink>(
+    world: &mut World<A>,
     file: &File,
     hosts: &'h [HostEvent],
     stalled: &mut Stalled,
@@ -163,55 +178,55 @@ fn make_turn<'h, K: Sink>(
     text: &mut Vec<u8>,
     out: &mut K,
 ) -> Result<(u64, &'h [HostEvent]), WriteStop>
-    requires sound { IsSound file.now }
+    requires fit { IsFit file.now.platform }
     requires tracking { IsTracking file.now turn stalled.old }
     requires due { due turn hosts.now ≡ of_turn file.now turn }
     ensures bound { IfOk result (λ done. done.0 + length done.1.now ≤ length hosts.now + 1) }
     ensures rest { IfOk result (λ done. done.1.now ≡ past turn hosts.now) }
     ensures tracking { IfOk result (λ done. IsTracking file.now (turn + 1) stalled.new) }
-    ensures made { (w : Shown) → Shows file.now.platform scene.old w
-        → IfOk result (λ done. Sends file.now.platform scene.new (act_all file.now.platform w (actors_of file.now turn)) done.0 (K.held out.old) (K.held out.new)) }
-    ensures part { (w : Shown) → Shows file.now.platform scene.old w
+    ensures made { (w : Shown) → Shows file.now.platform world.old w
+        → IfOk result (λ done. Sends file.now.platform world.new (act_all file.now.platform w (actors_of file.now turn)) done.0 (K.held out.old) (K.held out.new)) }
+    ensures part { (w : Shown) → Shows file.now.platform world.old w
         → OnErr result (HoldsFront (K.held out.old) (K.held out.new) (lines_text (act_all file.now.platform w (actors_of file.now turn)).entries)) }
     ensures cause { StopsFor (K.faults out.old) (K.faults out.new) result }
 {
-    let (made, rest) = match make_hosts(scene, hosts, turn, text, out) {
+    let (made, rest) = match make_hosts(world, hosts, turn, text, out) {
         Ok(done) => done,
         Err(stop) => return Err(stop),
     };
     let Some(k) = cpu_of(file, stalled, turn) else {
         return Ok((made, rest));
     };
-    match make_step(scene, Actor::Cpu(k), text, out) {
+    match make_step(world, Actor::Cpu(k), text, out) {
         Ok(count) => Ok((made + count, rest)),
         Err(stop) => Err(stop),
     }
 }
 
 /// All turns of the file, and how many entries they made. Takes its host events by turn, and its stalls before their first.
-fn make_turns<K: Sink>(
-    scene: &mut Scene,
+fn make_turns<A: Agent, K: Sink>(
+    world: &mut World<A>,
     file: &File,
     hosts: &[HostEvent],
     stalled: &mut Stalled,
     text: &mut Vec<u8>,
     out: &mut K,
 ) -> Result<u64, WriteStop>
-    requires sound { IsSound file.now }
+    requires fit { IsFit file.now.platform }
     requires tracking { IsTracking file.now 0 stalled.old }
     requires rises { Rises turn_of 0 hosts.now }
     requires same { (turn : ℕ) → at_turn turn hosts.now ≡ of_turn file.now turn }
     ensures bound { IfOk result (λ made. made ≤ 2 ^ 63 + 2 ^ 32) }
-    ensures made { (w : Shown) → Shows file.now.platform scene.old w
-        → IfOk result (λ made. Sends file.now.platform scene.new (turns_from file.now file.now.platform.turns 0 w) made (K.held out.old) (K.held out.new)) }
-    ensures part { (w : Shown) → Shows file.now.platform scene.old w
+    ensures made { (w : Shown) → Shows file.now.platform world.old w
+        → IfOk result (λ made. Sends file.now.platform world.new (turns_from file.now file.now.platform.turns 0 w) made (K.held out.old) (K.held out.new)) }
+    ensures part { (w : Shown) → Shows file.now.platform world.old w
         → OnErr result (HoldsFront (K.held out.old) (K.held out.new) (lines_text (turns_from file.now file.now.platform.turns 0 w).entries)) }
     ensures cause { StopsFor (K.faults out.old) (K.faults out.new) result }
 {
     let mut made = 0u64;
     let mut rest = hosts;
     'turns: for turn in 0..file.platform.turns {
-        match make_turn(scene, file, rest, stalled, turn, text, out) {
+        match make_turn(world, file, rest, stalled, turn, text, out) {
             Ok((count, more)) => {
                 made += count;
                 rest = more;
@@ -222,24 +237,55 @@ fn make_turns<K: Sink>(
     Ok(made)
 }
 
-fn voices_in(file: &File) -> &[VoiceKind]
-    ensures { result.now ≡ file.now.voices }
-{
-    file.voices.0.as_slice()
-}
-
 fn hosts_in(file: &File) -> &[HostEvent]
     ensures { result.now ≡ file.now.hosts }
 {
     file.hosts.0.as_slice()
 }
 
-/// A scene of the file, before its first step.
-fn scene_of<'f>(alloc: Global, file: &'f File) -> Result<Scene<'f>, NoMemory>
-    requires { IsSound file.now }
-    ensures { IfOk result (λ scene. Shows file.now.platform scene (scene_start file.now)) }
+/// The file without its voices, and these.
+fn take_voices(alloc: Global, file: File) -> (File, Vec<VoiceKind>)
+    ensures { with_voices result.1.items result.0 ≡ file }
 {
-    Scene::new(alloc, &file.platform, voices_in(file))
+    let File {
+        platform,
+        hosts,
+        stalls,
+        voices,
+    } = file;
+    let rest = File {
+        platform,
+        hosts,
+        stalls,
+        voices: Voices(Vec::new(alloc)),
+    };
+    (rest, voices.0)
+}
+
+/// An agent of each of these kinds.
+fn agents_of<A: Agent>(alloc: Global, kinds: Vec<VoiceKind>) -> Result<Agents<A>, NoMemory>
+    ensures { IfOk result (λ agents. agents ≡ map (λ v. Some v) (map voice_of kinds.items)) }
+{
+    let mut places = Vec::new(alloc);
+    for kind in kinds {
+        places.push(Some(voice_for(alloc, kind)))?;
+    }
+    Ok(Agents::new(places))
+}
+
+/// The world before its first step, where each processor's voice is of the kind in its place.
+fn world_of<A: Agent>(
+    alloc: Global,
+    p: &Platform,
+    kinds: Vec<VoiceKind>,
+) -> Result<World<A>, NoMemory>
+    requires fit { IsFit p.now }
+    requires voices { length kinds.items ≡ count_of p.now }
+    ensures { (f : Whole) → f.platform ≡ p.now → f.voices ≡ kinds.items → IfOk result (λ world. Shows p.now world (scene_start f)) }
+{
+    let agents = agents_of(alloc, kinds)?;
+    let world = World::new(alloc, p, agents)?;
+    Ok(world)
 }
 
 /// The host events of the file, by turn.
@@ -274,17 +320,21 @@ fn stalled_of<'s>(alloc: Global, file: &File, sorted: &'s [Stall]) -> Result<Sta
 }
 
 /// The boot sequence: 27 turns of processor 0. How many entries they made: fewer where the boot is refused.
-fn make_boot<K: Sink>(scene: &mut Scene, text: &mut Vec<u8>, out: &mut K) -> Result<u64, WriteStop>
+fn make_boot<A: Agent, K: Sink>(
+    world: &mut World<A>,
+    text: &mut Vec<u8>,
+    out: &mut K,
+) -> Result<u64, WriteStop>
     ensures bound { IfOk result (λ made. made ≤ boot_turns) }
-    ensures made { (p : Platform) (w : Shown) → Shows p scene.old w
-        → IfOk result (λ made. Sends p scene.new (act_all p w (boot_left boot_turns)) made (K.held out.old) (K.held out.new)) }
-    ensures part { (p : Platform) (w : Shown) → Shows p scene.old w
+    ensures made { (p : Platform) (w : Shown) → Shows p world.old w
+        → IfOk result (λ made. Sends p world.new (act_all p w (boot_left boot_turns)) made (K.held out.old) (K.held out.new)) }
+    ensures part { (p : Platform) (w : Shown) → Shows p world.old w
         → OnErr result (HoldsFront (K.held out.old) (K.held out.new) (lines_text (act_all p w (boot_left boot_turns)).entries)) }
     ensures cause { StopsFor (K.faults out.old) (K.faults out.new) result }
 {
     let mut made = 0u64;
     'turns: for turn in 0..BOOT_TURNS {
-        match make_step(scene, Actor::Cpu(0), text, out) {
+        match make_step(world, Actor::Cpu(0), text, out) {
             Ok(count) => made += count,
             Err(stop) => return Err(stop),
         }
@@ -293,8 +343,8 @@ fn make_boot<K: Sink>(scene: &mut Scene, text: &mut Vec<u8>, out: &mut K) -> Res
 }
 
 /// All turns after a boot that made so many entries, and the end line.
-fn run_turns<K: Sink>(
-    scene: &mut Scene,
+fn run_turns<A: Agent, K: Sink>(
+    world: &mut World<A>,
     file: &File,
     hosts: &[HostEvent],
     stalled: &mut Stalled,
@@ -302,18 +352,18 @@ fn run_turns<K: Sink>(
     text: &mut Vec<u8>,
     out: &mut K,
 ) -> Result<(), WriteStop>
-    requires sound { IsSound file.now }
+    requires fit { IsFit file.now.platform }
     requires tracking { IsTracking file.now 0 stalled.old }
     requires rises { Rises turn_of 0 hosts.now }
     requires same { (turn : ℕ) → at_turn turn hosts.now ≡ of_turn file.now turn }
     requires booted { booted ≤ boot_turns }
-    ensures all { (w : Shown) → Shows file.now.platform scene.old w
+    ensures all { (w : Shown) → Shows file.now.platform world.old w
         → OnOk result (Appends (K.held out.old) (K.held out.new) (turns_text booted (turns_from file.now file.now.platform.turns 0 w))) }
-    ensures part { (w : Shown) → Shows file.now.platform scene.old w
+    ensures part { (w : Shown) → Shows file.now.platform world.old w
         → OnErr result (HoldsFront (K.held out.old) (K.held out.new) (turns_text booted (turns_from file.now file.now.platform.turns 0 w))) }
     ensures cause { StopsFor (K.faults out.old) (K.faults out.new) result }
 {
-    let made = match make_turns(scene, file, hosts, stalled, text, out) {
+    let made = match make_turns(world, file, hosts, stalled, text, out) {
         Ok(made) => made,
         Err(stop) => return Err(stop),
     };
@@ -321,58 +371,62 @@ fn run_turns<K: Sink>(
 }
 
 /// Boots the machine and runs the file's turns: header, one line an entry, end line. Where the boot is refused, the lines
-/// end with the access that read the value in the fact, which is answered.
-fn run_scene<K: Sink>(
-    scene: &mut Scene,
+/// end with the access that read the value in the fact, which is answered. The world has the voices, and the file the rest.
+fn run_world<A: Agent, K: Sink>(
+    world: &mut World<A>,
     file: &File,
     hosts: &[HostEvent],
     stalled: &mut Stalled,
     text: &mut Vec<u8>,
     out: &mut K,
 ) -> Result<Option<BootFact>, WriteStop>
-    requires sound { IsSound file.now }
-    requires shows { Shows file.now.platform scene.old (scene_start file.now) }
+    requires fit { IsFit file.now.platform }
     requires tracking { IsTracking file.now 0 stalled.old }
     requires rises { Rises turn_of 0 hosts.now }
     requires same { (turn : ℕ) → at_turn turn hosts.now ≡ of_turn file.now turn }
-    ensures fact { IfOk result (λ fact. fact ≡ fact_of_boot file.now) }
-    ensures all { OnOk result (Appends (K.held out.old) (K.held out.new) (output file.now)) }
-    ensures part { OnErr result (HoldsFront (K.held out.old) (K.held out.new) (output file.now)) }
+    ensures fact { (kinds : List VoiceKind) → Shows file.now.platform world.old (scene_start (with_voices kinds file.now))
+        → IfOk result (λ fact. fact ≡ fact_of_boot (with_voices kinds file.now)) }
+    ensures all { (kinds : List VoiceKind) → Shows file.now.platform world.old (scene_start (with_voices kinds file.now))
+        → OnOk result (Appends (K.held out.old) (K.held out.new) (output (with_voices kinds file.now))) }
+    ensures part { (kinds : List VoiceKind) → Shows file.now.platform world.old (scene_start (with_voices kinds file.now))
+        → OnErr result (HoldsFront (K.held out.old) (K.held out.new) (output (with_voices kinds file.now))) }
     ensures cause { StopsFor (K.faults out.old) (K.faults out.new) result }
 {
     if let Err(stop) = send_head(&file.platform, text, out) {
         return Err(stop);
     }
-    let booted = match make_boot(scene, text, out) {
+    let booted = match make_boot(world, text, out) {
         Ok(booted) => booted,
         Err(stop) => return Err(stop),
     };
-    match scene.boot_fact() {
+    match world.boot_fact() {
         Some(fact) => return Ok(Some(fact)),
         None => {}
     }
-    match run_turns(scene, file, hosts, stalled, booted, text, out) {
+    match run_turns(world, file, hosts, stalled, booted, text, out) {
         Ok(()) => Ok(None),
         Err(stop) => Err(stop),
     }
 }
 
-/// Runs the file: what is written for it, and the value that refused its boot, if one did.
+/// Runs the file of these voices and of the rest of this file: what is written for it, and the value that refused its boot,
+/// if one did.
 #[tactic(auto, using(crate::proofs::Sending::sending))]
-pub(crate) fn run_file<K: Sink>(
+fn run_voices<A: Agent, K: Sink>(
     alloc: Global,
     file: &File,
+    kinds: Vec<VoiceKind>,
     out: &mut K,
 ) -> Result<Option<BootFact>, WriteStop>
-    requires { IsSound file.now }
-    ensures fact { IfOk result (λ fact. fact ≡ fact_of_boot file.now) }
-    ensures all { OnOk result (Appends (K.held out.old) (K.held out.new) (output file.now)) }
-    ensures part { OnErr result (HoldsFront (K.held out.old) (K.held out.new) (output file.now)) }
+    requires { IsSound (with_voices kinds.items file.now) }
+    ensures fact { IfOk result (λ fact. fact ≡ fact_of_boot (with_voices kinds.items file.now)) }
+    ensures all { OnOk result (Appends (K.held out.old) (K.held out.new) (output (with_voices kinds.items file.now))) }
+    ensures part { OnErr result (HoldsFront (K.held out.old) (K.held out.new) (output (with_voices kinds.items file.now))) }
     ensures cause { StopsFor (K.faults out.old) (K.faults out.new) result }
 {
     let mut text = Vec::new(alloc);
-    let mut scene = match scene_of(alloc, file) {
-        Ok(scene) => scene,
+    let mut world: World<A> = match world_of(alloc, &file.platform, kinds) {
+        Ok(world) => world,
         Err(NoMemory) => return Err(WriteStop::NoMemory),
     };
     let hosts = match hosts_of(alloc, file) {
@@ -387,12 +441,28 @@ pub(crate) fn run_file<K: Sink>(
         Ok(stalled) => stalled,
         Err(NoMemory) => return Err(WriteStop::NoMemory),
     };
-    run_scene(
-        &mut scene,
+    run_world(
+        &mut world,
         file,
         hosts.as_slice(),
         &mut stalled,
         &mut text,
         out,
     )
+}
+
+/// Runs the file: what is written for it, and the value that refused its boot, if one did.
+pub(crate) fn run_file<A: Agent, K: Sink>(
+    alloc: Global,
+    file: File,
+    out: &mut K,
+) -> Result<Option<BootFact>, WriteStop>
+    requires { IsSound file }
+    ensures fact { IfOk result (λ fact. fact ≡ fact_of_boot file) }
+    ensures all { OnOk result (Appends (K.held out.old) (K.held out.new) (output file)) }
+    ensures part { OnErr result (HoldsFront (K.held out.old) (K.held out.new) (output file)) }
+    ensures cause { StopsFor (K.faults out.old) (K.faults out.new) result }
+{
+    let (rest, kinds) = take_voices(alloc, file);
+    run_voices::<A, K>(alloc, &rest, kinds, out)
 }

@@ -131,7 +131,7 @@ end 35
 };
 
 /// A processor that is added starts by SIPI alone, halts, and takes the INIT and the SMI that are latched for it. What SMI
-/// entry saves of it lies in the locked default area.
+/// entry saves of it lies in the locked default area, and in SMM it waits at the closed gate.
 const ADDED: Run = Run {
     file: b"[platform]
 apic = [0, 1]
@@ -163,10 +163,14 @@ p0 icr 01000000 00000200
 p0 icr 01000000 00000610
 p1 smi
 p0 load 4 0003ff00 = ffffffff
+p1 @00038000 cas 00030000 0000000000000001 ffffffffffffffff = ffffffffffffffff
 p0 in 1 0620 = 04
+p1 @00038000 cas 00030000 0000000000000001 ffffffffffffffff = ffffffffffffffff
 p0 in 1 00b3 = 00
+p1 @00038000 cas 00030000 0000000000000001 ffffffffffffffff = ffffffffffffffff
 p0 halt
-end 41
+p1 @00038000 cas 00030000 0000000000000001 ffffffffffffffff = ffffffffffffffff
+end 45
 ",
 };
 
@@ -235,6 +239,46 @@ end 39
 ",
 };
 
+/// A pen halts but at its page, where it stores its byte once. Processors that are added are pens.
+const PENS: Run = Run {
+    file: b"[platform]
+apic = [0, 1, 2]
+boot = [0, 2]
+low_memory = 0x8000000
+tseg_mib = 1
+features = 7
+polls = 8
+turns = 14
+
+[[host]]
+turn = 0
+insert = 1
+
+[[agent]]
+cpu = 0
+kind = \"script\"
+steps = [\"icr 01000000 0000069f\", \"load 1 0009f010\", \"icr 02000000 00000500\", \"icr 02000000 0000069f\"]
+
+[[agent]]
+cpu = 2
+kind = \"pen\"
+",
+    head: b"platform apic=0,1,2 boot=0,2 low=08000000 tseg=1 features=7 polls=8 turns=14 modern=true smram=true delivery=prompt\n",
+    text: b"host insert 1
+p0 icr 01000000 0000069f
+p1 store 1 0009f010 01
+p2 halt
+p0 load 1 0009f010 = 01
+p1 halt
+p0 icr 02000000 00000500
+p2 init
+p0 icr 02000000 0000069f
+p2 store 1 0009f010 01
+p0 halt
+end 38
+",
+};
+
 /// A boot that is refused: a line of the file that differs, the value that was read, and how many of the boot's lines come
 /// before the one that read it, and that line.
 #[derive(Clone, Copy)]
@@ -298,7 +342,7 @@ fn the_run_of_a_script_is_written_line_by_line(rt: HostRuntime) -> Result<(), Fa
 
 #[test]
 fn runs_are_written_as_they_were_by_hand(rt: HostRuntime) -> Result<(), Fail> {
-    for run in [LOCKED, CONTROL, ADDED, EJECTED].iter() {
+    for run in [LOCKED, CONTROL, ADDED, EJECTED, PENS].iter() {
         let (status, held) = answer_to(rt.alloc(), &["run"], run.file)?;
         assert_eq!(rt; status, Status::Done);
         let want = trace(rt.alloc(), run.head, BOOT.len(), run.text)?;

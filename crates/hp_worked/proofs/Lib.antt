@@ -1,1 +1,5 @@
-pub mod Computed
+pub mod Changed
+pub mod Opened
+pub mod Runs
+pub mod Scheduled
+pub mod Ways

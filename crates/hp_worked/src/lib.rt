@@ -3,4 +3,9 @@
 
 mod laws;
 
-pub use laws::{changed_traces_are_none, worked_traces_are_runs};
+pub use laws::{
+    changed_traces_are_none, changed_traces_stop_at_the_change, files_make_traces_alone,
+    files_make_worked_traces, nobody_is_astray_in_worked_traces, without_boot_one_is_astray,
+    worked_boots_are_refused, worked_instructions_are_locked, worked_traces_are_runs,
+    worked_traces_run_alone,
+};

@@ -1,8 +1,7 @@
 //! Which events each mode has, and what they make of it.
 
 use super::{
-    cpu_of, in_mode, is_cpu, is_present, load, mark_of, port_in, port_out, sent_to_1, store, take,
-    two,
+    cpu_of, in_mode, is_cpu, load, mark_of, port_in, port_out, sent_to_1, store, take, two,
 };
 use crate::Machine;
 use hp_model::{Access, Answer, Cpu, Event, Mode};
@@ -60,7 +59,7 @@ fn a_new_processor_goes_through_its_modes(rt: HostRuntime) -> Result<(), Fail> {
     }
     assert_eq!(rt; mark_of(&rt, &machine, 0), None);
     assert_eq!(rt; mark_of(&rt, &machine, 1), Some(0));
-    assert!(rt; machine.enabled(&Event::Resume(1)) && is_present(&machine, 1));
+    assert!(rt; machine.enabled(&Event::Resume(1)));
     machine.go(1, 0x38004, 0x7f30000);
     assert_eq!(rt; machine.address(1), Some(0x38004));
     let moved = Cpu {

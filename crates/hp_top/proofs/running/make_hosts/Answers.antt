@@ -9,7 +9,7 @@ hosts-init g c = record {
   done = λ p w shows. done_start p w (due c.args.turn c.args.hosts.now) _ _ shows;
   past = refl;
   bound = omega arith;
-  later = omega arith;
+  calm = refl;
 }
 
 pub returns-in-Err-clause-part : goal.returns-in-Err-clause-part
@@ -21,9 +21,9 @@ hosts-preserved g c = record {
   done = λ p w shows. done_more p w _ _ _ _ _ _ _ _ _ c.in-Some.ensures.due (c.hosts.invariant.done p w shows) _ _ (λ v seen. c.in-Ok.ensures.made p v seen);
   past = sym c.in-Some.ensures.past ∙ c.hosts.invariant.past;
   bound = omega (arith, c.hosts.invariant.bound, c.in-Some.ensures.fewer, c.in-Ok.ensures.bound);
-  later = omega (arith, c.in-Ok.ensures.cause.later, c.hosts.invariant.later);
+  calm = c.in-Ok.ensures.cause.calm ∙ c.hosts.invariant.calm;
 }
 
 pub returns-clause-made : goal.returns-clause-made
 returns-clause-made g c =
-    λ p w shows. done_all p w _ _ c.hosts.scene c.hosts.made _ _ (c.hosts.invariant.done p w shows) (c.in_default.ensures.none refl)
+    λ p w shows. done_all p w _ _ c.hosts.world c.hosts.made _ _ (c.hosts.invariant.done p w shows) (c.in_default.ensures.none refl)

@@ -1,5 +1,5 @@
 -- A turn after those before it.
-use Rattle.std.proofs.Common.{◌≡◌, ◌+◌, sym, ◌∙◌, ap, subst, arith}
+use Rattle.std.proofs.Common.{refl, ◌≡◌, ◌+◌, sym, ◌∙◌, ap, subst, arith}
 use Rattle.hp_model.specs.Schedule.{turns_from}
 use Rattle.hp_top.specs.Turns.{Sends, Rises, at_turn, turn_of}
 use Rattle.hp_top.proofs.Rising.{due-is, past-at, past-rises}
@@ -13,7 +13,7 @@ turns-init g c = record {
   same = λ t later. c.requires.same t;
   stalls = c.requires.tracking;
   bound = omega arith;
-  later = omega arith;
+  calm = refl;
 }
 
 pub make_turn-requires-clause-due : goal.make_turn-requires-clause-due
@@ -26,7 +26,7 @@ turns-preserved g c = record {
   same = λ t later. ap (at_turn t) c.in-Ok.ensures.rest ∙ past-at c.turns.turn t c.turns.rest.now (omega (arith, later)) ∙ c.turns.invariant.same t (omega (arith, later));
   stalls = c.in-Ok.ensures.tracking;
   bound = omega (arith, c.in-Ok.ensures.bound, c.turns.invariant.bound);
-  later = omega (arith, c.in-Ok.ensures.cause.later, c.turns.invariant.later);
+  calm = c.in-Ok.ensures.cause.calm ∙ c.turns.invariant.calm;
 }
 
 pub returns-in-Err-clause-part : goal.returns-in-Err-clause-part
@@ -36,4 +36,4 @@ returns-in-Err-clause-part g c =
 pub returns-clause-made : goal.returns-clause-made
 returns-clause-made g c =
     λ w shows. let all : c.turns.turn ≡ c.args.file.now.platform.turns = omega arith in
-    subst (λ n. Sends c.args.file.now.platform c.turns.scene (turns_from c.args.file.now n 0 w) c.turns.made (g.K.Sink.held c.args.out.now) (g.K.Sink.held c.turns.out)) all (c.turns.invariant.done w shows)
+    subst (λ n. Sends c.args.file.now.platform c.turns.world (turns_from c.args.file.now n 0 w) c.turns.made (g.K.Sink.held c.args.out.now) (g.K.Sink.held c.turns.out)) all (c.turns.invariant.done w shows)

@@ -1,0 +1,234 @@
+-- What a step leaves of the firmware's record, and what a step that is due says of who wanted it.
+use Rattle.std.proofs.Common.{◌≡◌, ◌≢◌, ℕ, Bool, true, false, ◌&&◌, ◌||◌, not, ◌==◌, List, length, Option, Some, None, refl, sym, ap, subst, ◌∙◌}
+use Rattle.std.specs.Prelude.{if◌then◌else◌}
+use Rattle.std.proofs.lemmas.Bool.{and_parts}
+use Rattle.std.proofs.lemmas.Option.{same_Some}
+use Rattle.hp_model.specs.declared.platforms.Platform.{Platform}
+use Rattle.hp_model.specs.declared.accesses.Access.{Access}
+use Rattle.hp_model.specs.declared.accesses.Access.TheVariants.{Load, Store, Swap, In, Out, CfgRead, CfgWrite, Icr, Halt, Nop}
+use Rattle.hp_model.specs.declared.accesses.Answer.{Answer}
+use Rattle.hp_model.specs.declared.accesses.Answer.TheVariants.{Quiet}
+use Rattle.hp_model.specs.declared.accesses.Want.{Want}
+use Rattle.hp_model.specs.declared.accesses.Want.TheVariants as want
+use Rattle.hp_model.specs.declared.outcomes.Outcome.{Outcome}
+use Rattle.hp_model.specs.declared.entries.Event.{Event}
+use Rattle.hp_model.specs.declared.entries.Event.TheVariants as event
+use Rattle.hp_model.specs.declared.labels.Label.{Label}
+use Rattle.hp_model.specs.Boot.{Stage, Boots, Refused, Handed, is_booting, is_handed, boot_access, boot_next}
+use Rattle.hp_model.specs.Cpu.{is_in_smm}
+use Rattle.hp_model.specs.Fitting.{FitsAccess}
+use Rattle.hp_model.specs.declared.processors.Cpu.{Cpu}
+use Rattle.hp_model.specs.Handlers.{Seat, wanted_at}
+use Rattle.hp_model.specs.SharedBytes.{Layout}
+use Rattle.hp_model.specs.Monarch.{Monarch}
+use Rattle.hp_model.specs.Step.{State, at, can_do, same_access, is_handlers, is_enabled, is_wanted, wanted_in, is_that_access, is_that_outcome, is_rsm, wanted, write_port, access_effect, effect_of, answer_of, is_on_block, is_fw_cfg_data, is_fw_cfg_selector, is_dma_high, is_dma_low, row_at, with_session, row_led, handlers_led}
+use Rattle.hp_model.proofs.Same.{same_access-equal}
+use Rattle.hp_machine.specs.Machine.{FitsEvent}
+use Rattle.hp_reloc.specs.Fits.{FitsWant}
+use Rattle.hp_platform.specs.Board.{Board, IsReady, Shows, row_event}
+
+-- the monarch's record is the firmware's alone
+either : (b : Bool) (m : Monarch) (x y : State) → x.monarch ≡ m → y.monarch ≡ m → (if b then x else y).monarch ≡ m
+either true m x y e f = e
+either false m x y e f = f
+
+port_keeps : (p : Platform) (k port width value : ℕ) (s : State) → (write_port p k port width value s).monarch ≡ s.monarch
+port_keeps p k port width value s =
+    either (is_on_block port) s.monarch _ _ refl
+    (either (is_fw_cfg_selector port width) s.monarch _ _ refl
+    (either (is_dma_high port width) s.monarch _ _ refl
+    (either (is_dma_low port width) s.monarch _ _ refl refl)))
+
+access_keeps : (p : Platform) (k : ℕ) (b : Bool) (a : Access) (s : State) → (access_effect p k b a s).monarch ≡ s.monarch
+access_keeps p k b (Load addr width) s = refl
+access_keeps p k b (Store addr width value) s = refl
+access_keeps p k b (Swap addr expected desired) s = refl
+access_keeps p k b (In port width) s = either (is_fw_cfg_data port width) s.monarch _ _ refl refl
+access_keeps p k b (Out port width value) s = port_keeps p k port width value s
+access_keeps p k b (CfgRead reg) s = refl
+access_keeps p k b (CfgWrite reg value) s = refl
+access_keeps p k b (Icr high low) s = refl
+access_keeps p k b Halt s = refl
+access_keeps p k b Nop s = refl
+
+pub effect_keeps : (p : Platform) (s : State) (e : Event) → (effect_of p s e).monarch ≡ s.monarch
+effect_keeps p s (event.Insert k) = refl
+effect_keeps p s (event.Remove k) = refl
+effect_keeps p s (event.Do k a) = access_keeps p k (is_in_smm (at s k).mode) a s
+effect_keeps p s (event.TakeSmi k) = refl
+effect_keeps p s (event.TakeInit k) = refl
+effect_keeps p s (event.Resume k) = refl
+effect_keeps p s (event.Tell o) = refl
+
+-- a row of a handler leads on
+rows : (b : Bool) (k j : ℕ) → (if b then Some k else None) ≡ Some j → (b ≡ true) × (k ≡ j)
+rows true k j e = (refl, same_Some k j e)
+rows false k j e = cc
+
+no_rows : (b : Bool) (k : ℕ) → (if b then Some k else None) ≡ None → b ≡ false
+no_rows true k e = cc
+no_rows false k e = refl
+
+pub handlers_led-row : (p : Platform) (s : State) (e : Event) (k : ℕ) (t : State) → row_event s e ≡ Some k → handlers_led p s e t ≡ row_led p s k (answer_of s e) (row_at p s k) t
+handlers_led-row p s (event.Insert j) k t e = cc
+handlers_led-row p s (event.Remove j) k t e = cc
+handlers_led-row p s (event.Do j a) k t e =
+    let is = rows (is_in_smm (at s j).mode) j k e in
+    ap (λ (b : Bool). if b then row_led p s j (answer_of s (event.Do j a)) (row_at p s j) t else t) is.0
+    ∙ ap (λ (i : ℕ). row_led p s i (answer_of s (event.Do j a)) (row_at p s i) t) is.1
+handlers_led-row p s (event.TakeSmi j) k t e = cc
+handlers_led-row p s (event.TakeInit j) k t e = cc
+handlers_led-row p s (event.Resume j) k t e = cc
+handlers_led-row p s (event.Tell o) k t e = ap (λ (i : ℕ). row_led p s i Quiet (row_at p s i) t) (same_Some 0 k e)
+
+-- of the other events SMI entry alone is told to the handlers
+abbrev pub plainly : Event → State → State
+plainly (event.Insert k) t = t
+plainly (event.Remove k) t = t
+plainly (event.Do k a) t = t
+plainly (event.TakeSmi k) t = with_session k t
+plainly (event.TakeInit k) t = t
+plainly (event.Resume k) t = t
+plainly (event.Tell o) t = t
+
+pub handlers_led-plain : (p : Platform) (s : State) (e : Event) (t : State) → row_event s e ≡ None → handlers_led p s e t ≡ plainly e t
+handlers_led-plain p s (event.Insert k) t e = refl
+handlers_led-plain p s (event.Remove k) t e = refl
+handlers_led-plain p s (event.Do k a) t e =
+    ap (λ (b : Bool). if b then row_led p s k (answer_of s (event.Do k a)) (row_at p s k) t else t) (no_rows (is_in_smm (at s k).mode) k e)
+handlers_led-plain p s (event.TakeSmi k) t e = refl
+handlers_led-plain p s (event.TakeInit k) t e = refl
+handlers_led-plain p s (event.Resume k) t e = refl
+handlers_led-plain p s (event.Tell o) t e = cc
+
+-- a wanted event says what is wanted
+abbrev IsThat : Option Want → Access → Type 0
+IsThat o a = o ≡ Some (want.Do a)
+
+pub that_access : (o : Option Want) (a : Access) → is_that_access o a ≡ true → o ≡ Some (want.Do a)
+that_access None a e = cc
+that_access (Some (want.Do b)) a e = ap (λ (c : Access). Some (want.Do c)) (sym (same_access-equal a b e))
+that_access (Some (want.Tell t)) a e = cc
+that_access (Some want.Resume) a e = cc
+
+pub record IsTold (o : Option Want) : Type 0 where
+  pub outcome : Outcome
+  pub is : o ≡ Some (want.Tell outcome)
+
+pub that_outcome : (o : Option Want) (t : Outcome) → is_that_outcome o t ≡ true → IsTold o
+that_outcome None t e = cc
+that_outcome (Some (want.Do b)) t e = cc
+that_outcome (Some (want.Tell u)) t e = record { outcome = u; is = refl }
+that_outcome (Some want.Resume) t e = cc
+
+pub that_rsm : (o : Option Want) → is_rsm o ≡ true → o ≡ Some want.Resume
+that_rsm None e = cc
+that_rsm (Some (want.Do b)) e = cc
+that_rsm (Some (want.Tell u)) e = cc
+that_rsm (Some want.Resume) e = refl
+
+pub right : (a b : Bool) → (a && b) ≡ true → b ≡ true
+right a b e = (and_parts a b e).1
+
+pub left : (a b : Bool) → (a && b) ≡ true → a ≡ true
+left a b e = (and_parts a b e).0
+
+-- after the hand-over a step is what a handler wants, before it the boot's access, and after a refusal there is none
+handed_wants : (p : Platform) (s : State) (e : Event) → is_handed s.stage ≡ true → is_wanted p s e ≡ true → is_handlers p s e ≡ true
+handed_wants p s e over is = by s.stage over is
+  where
+    by : (st : Stage) → is_handed st ≡ true → wanted_in p s st e ≡ true → is_handlers p s e ≡ true
+    by (Boots done supported) over is = cc
+    by (Refused fact) over is = cc
+    by (Handed requested) over is = is
+
+boot_wants : (p : Platform) (mib : ℕ) (st : Stage) (s : State) (e : Event) (v : Answer) → mib ≡ p.tseg_mib → is_booting st ≡ true → wanted_in p s st e ≡ true → FitsEvent e v → FitsAccess (boot_next mib st) v
+boot_wants p mib (Boots done supported) s (event.Insert k) v same boots is fits = cc
+boot_wants p mib (Boots done supported) s (event.Remove k) v same boots is fits = cc
+boot_wants p mib (Boots done supported) s (event.Do k a) v same boots is fits =
+    let equal : a ≡ boot_access p.tseg_mib supported done = same_access-equal a (boot_access p.tseg_mib supported done) (right (k == 0) (same_access a (boot_access p.tseg_mib supported done)) is) in
+    subst (λ (n : ℕ). FitsAccess (boot_access n supported done) v) (sym same) (subst (λ (x : Access). FitsAccess x v) equal fits)
+boot_wants p mib (Boots done supported) s (event.TakeSmi k) v same boots is fits = cc
+boot_wants p mib (Boots done supported) s (event.TakeInit k) v same boots is fits = cc
+boot_wants p mib (Boots done supported) s (event.Resume k) v same boots is fits = cc
+boot_wants p mib (Boots done supported) s (event.Tell o) v same boots is fits = cc
+boot_wants p mib (Refused fact) s e v same boots is fits = cc
+boot_wants p mib (Handed requested) s e v same boots is fits = cc
+
+refused_wants : (p : Platform) (st : Stage) (s : State) (e : Event) → is_booting st ≡ false → is_handed st ≡ false → wanted_in p s st e ≡ true → ⊥
+refused_wants p (Boots done supported) s e a b is = cc
+refused_wants p (Refused fact) s e a b is = cc
+refused_wants p (Handed requested) s e a b is = cc
+
+-- what a handler's row wants: something, but not RSM, and what the event's answers fit
+pub record IsWanting (o : Option Want) (e : Event) : Type 0 where
+  pub some : o ≢ None
+  pub access : o ≢ Some want.Resume
+  pub fits : (v : Answer) → FitsEvent e v → FitsWant o v
+
+wanting_access : (o : Option Want) (k : ℕ) (a : Access) → o ≡ Some (want.Do a) → IsWanting o (event.Do k a)
+wanting_access o k a is = subst (λ (w : Option Want). IsWanting w (event.Do k a)) (sym is) (record { some = λ e. cc; access = λ e. cc; fits = λ v fits. fits })
+
+wanting_outcome : (o : Option Want) (u t : Outcome) → o ≡ Some (want.Tell t) → IsWanting o (event.Tell u)
+wanting_outcome o u t is = subst (λ (w : Option Want). IsWanting w (event.Tell u)) (sym is) (record { some = λ e. cc; access = λ e. cc; fits = λ v fits. fits })
+
+row_wants : (p : Platform) (s : State) (e : Event) (k : ℕ) → row_event s e ≡ Some k → is_handlers p s e ≡ true → IsWanting (wanted p s k) e
+row_wants p s (event.Insert j) k row is = cc
+row_wants p s (event.Remove j) k row is = cc
+row_wants p s (event.Do j a) k row is =
+    let here = rows (is_in_smm (at s j).mode) j k row in
+    let that : is_that_access (wanted p s j) a ≡ true = subst (λ (b : Bool). (not b || is_that_access (wanted p s j) a) ≡ true) here.0 is in
+    subst (λ (i : ℕ). IsWanting (wanted p s i) (event.Do j a)) here.1 (wanting_access (wanted p s j) j a (that_access (wanted p s j) a that))
+row_wants p s (event.TakeSmi j) k row is = cc
+row_wants p s (event.TakeInit j) k row is = cc
+row_wants p s (event.Resume j) k row is = cc
+row_wants p s (event.Tell o) k row is =
+    let told = that_outcome (wanted p s 0) o is in
+    subst (λ (i : ℕ). IsWanting (wanted p s i) (event.Tell o)) (same_Some 0 k row) (wanting_outcome (wanted p s 0) o told.outcome told.is)
+
+module _ (b : Board) (e : Event) (ready : IsReady b e) where
+  abbrev s : State
+  s = ready.state
+
+  abbrev p : Platform
+  p = b.platform
+
+  pub ready_enabled : can_do (length b.machine.apic) b.machine.cpus e ≡ true
+  ready_enabled =
+      ap (λ (ids : List ℕ). can_do (length ids) b.machine.cpus e) ready.shows.state.apic ∙ ap (λ (cs : List Cpu). can_do (length p.apic) cs e) ready.shows.state.cpus
+      ∙ left (is_enabled p s e) (is_wanted p s e) ready.is
+
+  is_wanted-is : is_wanted p s e ≡ true
+  is_wanted-is = right (is_enabled p s e) (is_wanted p s e) ready.is
+
+  staged : (f : Stage → Bool) (x : Bool) → f b.boot.stage ≡ x → f s.stage ≡ x
+  staged f x e = subst (λ (st : Stage). f st ≡ x) ready.shows.stage e
+
+  pub ready_boot : (v : Answer) → is_booting b.boot.stage ≡ true → FitsEvent e v → FitsAccess (boot_next b.boot.mib b.boot.stage) v
+  ready_boot v boots fits =
+      subst (λ (st : Stage). FitsAccess (boot_next b.boot.mib st) v) (sym ready.shows.stage)
+      (boot_wants p b.boot.mib s.stage s e v ready.shows.mib (staged is_booting true boots) is_wanted-is fits)
+
+  pub ready_not_refused : is_booting b.boot.stage ≡ false → is_handed b.boot.stage ≡ false → ⊥
+  ready_not_refused boots handed = refused_wants p s.stage s e (staged is_booting false boots) (staged is_handed false handed) is_wanted-is
+
+  module _ (handed : is_handed b.boot.stage ≡ true) where
+    handlers_want : is_handlers p s e ≡ true
+    handlers_want = handed_wants p s e (staged is_handed true handed) is_wanted-is
+
+    -- whose row the event is, it wants that
+    pub ready_row : (k : ℕ) → ((t : State) → Shows b t → row_event t e ≡ Some k) → IsWanting (wanted p s k) e
+    ready_row k row = row_wants p s e k (row s ready.shows) handlers_want
+
+-- RSM is wanted where it is made
+pub ready_rsm : (b : Board) (k : ℕ) (ready : IsReady b (event.Resume k)) → is_handed b.boot.stage ≡ true → wanted b.platform ready.state k ≡ Some want.Resume
+ready_rsm b k ready handed = that_rsm (wanted b.platform ready.state k) (handlers_want b (event.Resume k) ready handed)
+
+-- who wants something has a row
+pub record IsAt (o : Option Label) : Type 0 where
+  pub label : Label
+  pub is : o ≡ Some label
+
+pub some_row : (y : Layout) (r : Monarch) (x : Seat) (o : Option Label) → wanted_at y r x o ≢ None → IsAt o
+some_row y r x None some = absurd (some refl)
+some_row y r x (Some l) some = record { label = l; is = refl }

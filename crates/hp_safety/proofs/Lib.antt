@@ -1,0 +1,11 @@
+pub mod Reached
+pub mod Invariant
+pub mod Saves
+pub mod EachRow
+pub mod Rows
+pub mod Keeps
+pub mod Accesses
+pub mod Entering
+pub mod Events
+pub mod Runs
+pub mod Law

@@ -1,0 +1,297 @@
+-- Each access of the boot sequence leads from what holds before it to what holds after it.
+use Rattle.std.proofs.Common.{ℕ, zero, suc, ◌≡◌, ◌+◌, ◌<◌, ◌≤◌, ◌==◌, ◌⊎◌, inl, inr, Bool, true, false, ◌||◌, nat_lt, nat_le, List, [], ◌∷◌, ◌++◌, length, Some, None, bit_and, refl, sym, ap, subst, ◌∙◌, arith}
+use Rattle.std.specs.Prelude.{slice_index_or}
+use Rattle.std.proofs.lemmas.Bool.Decides.{nat_tests}
+use Rattle.hp_model.specs.declared.platforms.Platform.{Platform}
+use Rattle.hp_model.specs.declared.processors.Cpu.{Cpu}
+use Rattle.hp_model.specs.declared.accesses.Access.{Access}
+use Rattle.hp_model.specs.declared.accesses.Access.TheVariants.{Store, Out, In, CfgRead, CfgWrite, Nop}
+use Rattle.hp_model.specs.declared.outcomes.BootFact.TheVariants.{NoDefaultSmram}
+use Rattle.hp_model.specs.Memory.{byte_at, write_of}
+use Rattle.hp_model.specs.View.{Locks, is_hidden, is_hole}
+use Rattle.hp_model.specs.Cpu.{absent, smm_address}
+use Rattle.hp_model.specs.Boot.{tseg_enabled, block_accesses, area_accesses, pen_accesses, mark_accesses, lock_accesses, feature_accesses, last_accesses, boot_accesses, boot_access, boot_refusal, value_in}
+use Rattle.hp_model.specs.Step.{State, at, answer_to, access_effect}
+use Rattle.hp_sealed.specs.Left.{Sound, Locked}
+use Rattle.hp_sealed.specs.Sealed.{is_based, Sized, IsOutside}
+use Rattle.hp_sealed.specs.Booting.{f_smbase_after, smram_after, esmramc_after, memory_after, Booting}
+use Rattle.hp_sealed.proofs.Outside.{Calm, Acts, acts, left_acted}
+use Rattle.hp_sealed.proofs.Places.{guarded_locked, kept_guarded}
+
+-- outside stays outside
+none_calm : (c d : Cpu) → Calm c d → smm_address c ≡ None → smm_address d ≡ None
+none_calm c d calm e = elim calm [ inl s ↦ s.address ∙ e | inr g ↦ rw g refl ]
+
+based_calm : (p : Platform) (k : ℕ) (c d : Cpu) → Calm c d → (c.present ≡ true → is_based p k c.smbase ≡ true) → d.present ≡ true → is_based p k d.smbase ≡ true
+based_calm p k c d calm h e = elim calm [
+  | inl s ↦ rw s.smbase (h (sym s.present ∙ e))
+  | inr g ↦ absurd (let f : absent.present ≡ true = subst (λ x. x.present ≡ true) g e in cc)
+]
+
+pub outside_acts : (p : Platform) (s u : State) → Acts p s u → IsOutside p s → IsOutside p u
+outside_acts p s u does h = record {
+  outside = λ k. none_calm (at s k) (at u k) (does.cpus k) (h.outside k);
+  based = λ k e. based_calm p k (at s k) (at u k) (does.cpus k) (h.based k) e;
+  first = does.first.present ∙ h.first;
+  sized = subst Sized (sym does.monarch) h.sized;
+}
+
+-- what the access after n others does to what holds before it
+pub record Passes (p : Platform) (n : ℕ) (b : Access) : Type 0 where
+  pub on : (s : State) → Booting p n s → boot_refusal n (value_in (answer_to false b s)) ≡ None → Booting p (n + 1) (access_effect p 0 false b s)
+
+-- a fact of each element of a list and its place
+abbrev Each : (ℕ → Access → Type 0) → ℕ → List Access → Type 0
+Each P k [] = Unit {0}
+Each P k (a ∷ as') = P k a × Each P (suc k) as'
+
+each_at : (P : ℕ → Access → Type 0) (k n : ℕ) (as' : List Access) → n < length as' → Each P k as' → P (k + n) (slice_index_or as' n Nop)
+each_at P k n [] less h = absurd (omega (arith, less))
+each_at P k zero (a ∷ as') less h = let e : k ≡ k + zero = omega arith in subst (λ i. P i a) e h.0
+each_at P k (suc n) (a ∷ as') less h = let e : suc k + n ≡ k + suc n = omega arith in subst (λ i. P i (slice_index_or as' n Nop)) e (each_at P (suc k) n as' (omega (arith, less)) h.1)
+
+each_append : (P : ℕ → Access → Type 0) (k : ℕ) (as' bs : List Access) → Each P k as' → Each P (k + length as') bs → Each P k (as' ++ bs)
+each_append P k [] bs h g = let e : k + 0 ≡ k = omega arith in subst (λ i. Each P i bs) e g
+each_append P k (a ∷ as') bs h g = let e : k + suc (length as') ≡ suc k + length as' = omega arith in (h.0, each_append P (suc k) as' bs h.1 (subst (λ i. Each P i bs) e g))
+
+-- an access that changes neither locks nor memory, before the fifth
+plain : (p : Platform) (n : ℕ) (b : Access) → n < 4 → ((s : State) → (access_effect p 0 false b s).locks ≡ s.locks) → ((s : State) → (access_effect p 0 false b s).writes ≡ s.writes) → Passes p n b
+plain p n b less locks writes = record {
+  on = λ s h free.
+      record {
+        cpus = outside_acts p s (access_effect p 0 false b s) (acts p 0 false b s) h.cpus;
+        low_memory = rw (locks s) h.low_memory;
+        f_smbase = λ e. rw (locks s) (h.f_smbase (λ f. omega (arith, f, less)) ∙ same_f n less);
+        smram = rw (locks s) (h.smram ∙ same_s n less);
+        esmramc = rw (locks s) (h.esmramc ∙ same_e p.tseg_mib n less);
+        memory = λ e. rw (writes s) (h.memory (omega (arith, less)) ∙ same_m p n less);
+        kept = λ e. absurd (omega (arith, e, less));
+      };
+}
+  where
+    same_f : (n : ℕ) → n < 4 → f_smbase_after n ≡ f_smbase_after (n + 1)
+    same_f n less = grind (arith, nat_tests)
+
+    same_s : (n : ℕ) → n < 4 → smram_after n ≡ smram_after (n + 1)
+    same_s n less = grind (arith, nat_tests)
+
+    same_e : (mib n : ℕ) → n < 4 → esmramc_after mib n ≡ esmramc_after mib (n + 1)
+    same_e mib n less = let a : nat_lt n 16 ≡ true = grind (arith, nat_tests) in let b : nat_lt (n + 1) 16 ≡ true = grind (arith, nat_tests) in rw (a, b) refl
+
+    same_m : (p : Platform) (n : ℕ) → n < 4 → memory_after p n ≡ memory_after p (n + 1)
+    same_m p zero less = refl
+    same_m p (suc zero) less = refl
+    same_m p (suc (suc zero)) less = refl
+    same_m p (suc (suc (suc zero))) less = refl
+    same_m p (suc (suc (suc (suc n)))) less = absurd (omega (arith, less))
+
+-- a store below 8 MiB isn't a hole while nothing is locked
+shown : (p : Platform) (l : Locks) (x : ℕ) → Sound p → l.f_smbase ≡ 1 → l.smram ≡ 0 → l.low_memory ≡ p.low_memory → x < 0x800000 → is_hidden l false x ≡ false
+shown p l x fit f s m small = let a = fit.above in let t = fit.top in rw (f, s) (below l.low_memory x (omega (arith, m, a, t, small)))
+  where
+    below : (top x : ℕ) → x < top → (nat_le top x || false) ≡ false
+    below top x h = grind (arith, nat_tests)
+
+open_store : (p : Platform) (l : Locks) (a w : ℕ) → Sound p → l.f_smbase ≡ 1 → l.smram ≡ 0 → l.low_memory ≡ p.low_memory → a + w ≤ 0x800000 → is_hole l false a w ≡ false
+unfolding is_hole
+open_store p l a zero fit f s m small = refl
+open_store p l a (suc w) fit f s m small = rw (shown p l a fit f s m (omega (arith, small)), open_store p l (a + 1) w fit f s m (omega (arith, small))) refl
+
+stored : (p : Platform) (n a w v : ℕ) → Sound p → n ≤ 13 → 6 ≤ n → f_smbase_after n ≡ 1 → f_smbase_after (n + 1) ≡ 1 → smram_after n ≡ 0 → smram_after (n + 1) ≡ 0 → esmramc_after p.tseg_mib (n + 1) ≡ esmramc_after p.tseg_mib n → a + w ≤ 0x800000 → memory_after p (n + 1) ≡ write_of a w v ∷ memory_after p n → Passes p n (Store a w v)
+stored p n a w v fit less more f next_f s next_s next_e small memory = record {
+  on = λ t h free.
+      let one : t.locks.f_smbase ≡ 1 = h.f_smbase (λ e. absurd (omega (arith, e, more))) ∙ f in
+      let zero_s : t.locks.smram ≡ 0 = h.smram ∙ s in
+      record {
+        cpus = outside_acts p t _ (acts p 0 false (Store a w v) t) h.cpus;
+        low_memory = h.low_memory;
+        f_smbase = λ e. one ∙ sym next_f;
+        smram = zero_s ∙ sym next_s;
+        esmramc = h.esmramc ∙ sym next_e;
+        memory = λ e. rw (open_store p t.locks a w fit one zero_s h.low_memory small, memory) (ap (λ ws. write_of a w v ∷ ws) (h.memory (omega (arith, less))));
+        kept = λ e. absurd (omega (arith, e, less));
+      };
+}
+
+-- once all is locked, any access does
+late_f : (n : ℕ) → 17 ≤ n → f_smbase_after n ≡ 2
+late_f n more = grind (arith, nat_tests)
+
+late_s : (n : ℕ) → 17 ≤ n → smram_after n ≡ 0x18
+late_s n more = grind (arith, nat_tests)
+
+late_e : (mib n : ℕ) → 17 ≤ n → esmramc_after mib n ≡ tseg_enabled mib
+late_e mib n more = let a : nat_lt n 16 ≡ false = grind (arith, nat_tests) in rw a refl
+
+pub locked_by : (p : Platform) (n : ℕ) (s : State) → 17 ≤ n → Booting p n s → Locked p s.locks
+locked_by p n s more h = record {
+  f_smbase = h.f_smbase (λ e. absurd (omega (arith, e, more))) ∙ late_f n more;
+  smram = h.smram ∙ late_s n more;
+  esmramc = h.esmramc ∙ late_e p.tseg_mib n more;
+  low_memory = h.low_memory;
+}
+
+late : (p : Platform) (n : ℕ) (b : Access) → Sound p → 17 ≤ n → Passes p n b
+late p n b fit more = record {
+  on = λ s h free.
+      let u = access_effect p 0 false b s in
+      let does = acts p 0 false b s in
+      let l = locked_by p n s more h in
+      let m = does.locks l in
+      record {
+        cpus = outside_acts p s u does h.cpus;
+        low_memory = m.low_memory;
+        f_smbase = λ e. m.f_smbase ∙ sym (late_f (n + 1) (omega (arith, more)));
+        smram = m.smram ∙ sym (late_s (n + 1) (omega (arith, more)));
+        esmramc = m.esmramc ∙ sym (late_e p.tseg_mib (n + 1) (omega (arith, more)));
+        memory = λ e. absurd (omega (arith, e, more));
+        kept = λ e x k. (left_acted p 0 b s x (guarded_locked p s.locks x fit l (kept_guarded p x k))).byte ∙ h.kept more x k;
+      };
+}
+
+all_late : (p : Platform) (n : ℕ) (bs : List Access) → Sound p → 17 ≤ n → Each (Passes p) n bs
+all_late p n [] fit more = tt
+all_late p n (b ∷ bs) fit more = (late p n b fit more, all_late p (suc n) bs fit (omega (arith, more)))
+
+-- the accesses of the locks: the area can be locked, which is read
+asks_area : (p : Platform) → Passes p 4 (CfgWrite 0x9c 0xff)
+asks_area p = record {
+  on = λ s h free.
+      record {
+        cpus = outside_acts p s _ (acts p 0 false (CfgWrite 0x9c 0xff) s) h.cpus;
+        low_memory = h.low_memory;
+        f_smbase = λ e. absurd (e refl);
+        smram = h.smram;
+        esmramc = h.esmramc;
+        memory = λ e. h.memory (omega arith);
+        kept = λ e. absurd (omega (arith, e));
+      };
+}
+
+read_one : (v : ℕ) → boot_refusal 5 v ≡ None → v ≡ 1
+read_one v e = by_test (v == 1) refl e
+  where
+    by_test : (b : Bool) → (v == 1) ≡ b → boot_refusal 5 v ≡ None → v ≡ 1
+    by_test true f e = grind (arith, nat_tests)
+    by_test false f e = absurd (let g : boot_refusal 5 v ≡ Some (NoDefaultSmram v) = rw f refl in let h : Some (NoDefaultSmram v) ≡ None = sym g ∙ e in cc)
+
+reads_area : (p : Platform) → Passes p 5 (CfgRead 0x9c)
+reads_area p = record {
+  on = λ s h free.
+      record {
+        cpus = outside_acts p s _ (acts p 0 false (CfgRead 0x9c) s) h.cpus;
+        low_memory = h.low_memory;
+        f_smbase = λ e. read_one s.locks.f_smbase free;
+        smram = h.smram;
+        esmramc = h.esmramc;
+        memory = λ e. h.memory (omega arith);
+        kept = λ e. absurd (omega (arith, e));
+      };
+}
+
+locks_area : (p : Platform) → Passes p 14 (CfgWrite 0x9c 2)
+locks_area p = record {
+  on = λ s h free.
+      record {
+        cpus = outside_acts p s _ (acts p 0 false (CfgWrite 0x9c 2) s) h.cpus;
+        low_memory = h.low_memory;
+        f_smbase = λ e. let one = h.f_smbase (λ f. cc) in rw one refl;
+        smram = h.smram;
+        esmramc = h.esmramc;
+        memory = λ e. h.memory (omega arith);
+        kept = λ e. absurd (omega (arith, e));
+      };
+}
+
+sizes_tseg : (p : Platform) → Sound p → Passes p 15 (CfgWrite 0x9e (tseg_enabled p.tseg_mib))
+sizes_tseg p fit = record {
+  on = λ s h free.
+      let z = h.smram in
+      record {
+        cpus = outside_acts p s _ (acts p 0 false (CfgWrite 0x9e (tseg_enabled p.tseg_mib)) s) h.cpus;
+        low_memory = rw z h.low_memory;
+        f_smbase = λ e. let two = h.f_smbase (λ f. cc) in rw z two;
+        smram = rw z refl;
+        esmramc = rw z (cut_size fit.size);
+        memory = λ e. h.memory (omega arith);
+        kept = λ e. absurd (omega (arith, e));
+      };
+}
+  where
+    cut_size : (p.tseg_mib ≡ 1) ⊎ ((p.tseg_mib ≡ 2) ⊎ (p.tseg_mib ≡ 8)) → bit_and (tseg_enabled p.tseg_mib) 7 ≡ tseg_enabled p.tseg_mib
+    cut_size (inl e) = rw e refl
+    cut_size (inr (inl e)) = rw e refl
+    cut_size (inr (inr e)) = rw e refl
+
+locks_tseg : (p : Platform) → Passes p 16 (CfgWrite 0x9d 0x18)
+locks_tseg p = record {
+  on = λ s h free.
+      let z = h.smram in
+      record {
+        cpus = outside_acts p s _ (acts p 0 false (CfgWrite 0x9d 0x18) s) h.cpus;
+        low_memory = rw z h.low_memory;
+        f_smbase = λ e. let two = h.f_smbase (λ f. cc) in rw z two;
+        smram = rw z refl;
+        esmramc = rw z h.esmramc;
+        memory = λ e. h.memory (omega arith);
+        kept = λ e x k. ap (λ ws. byte_at ws x) (h.memory (omega arith));
+      };
+}
+
+module _ (p : Platform) (fit : Sound p) where
+  block_pass : Each (Passes p) 0 block_accesses
+  block_pass = (
+    plain p 0 (Out 0xcd8 4 0) (omega arith) (λ s. refl) (λ s. refl),
+    (
+      plain p 1 (Out 0xcd8 4 0) (omega arith) (λ s. refl) (λ s. refl),
+      (plain p 2 (Out 0xcdd 1 0) (omega arith) (λ s. refl) (λ s. refl), (plain p 3 (In 0xcd8 4) (omega arith) (λ s. refl) (λ s. refl), tt)),
+    ),
+  )
+
+  area_pass : Each (Passes p) 4 area_accesses
+  area_pass = (asks_area p, (reads_area p, tt))
+
+  pen_pass : Each (Passes p) 6 pen_accesses
+  pen_pass = (stored p 6 0x9f000 4 0x4e4550 fit (omega arith) (omega arith) refl refl refl refl refl (omega arith) refl, tt)
+
+  mark_pass : Each (Passes p) 7 mark_accesses
+  mark_pass = (
+    stored p 7 0x38000 4 0x53000001 fit (omega arith) (omega arith) refl refl refl refl refl (omega arith) refl,
+    (
+      stored p 8 0x38004 4 0x53000002 fit (omega arith) (omega arith) refl refl refl refl refl (omega arith) refl,
+      (
+        stored p 9 0x38008 4 0x53000003 fit (omega arith) (omega arith) refl refl refl refl refl (omega arith) refl,
+        (
+          stored p 10 0x3800c 4 0x53000004 fit (omega arith) (omega arith) refl refl refl refl refl (omega arith) refl,
+          (
+            stored p 11 0x38010 4 0x53000005 fit (omega arith) (omega arith) refl refl refl refl refl (omega arith) refl,
+            (stored p 12 0x38014 4 0x53000006 fit (omega arith) (omega arith) refl refl refl refl refl (omega arith) refl, tt),
+          ),
+        ),
+      ),
+    ),
+  )
+
+  lock_pass : Each (Passes p) 13 (lock_accesses p.tseg_mib)
+  lock_pass = (
+    stored p 13 0x30000 8 0xffffffffffffffff fit (omega arith) (omega arith) refl refl refl refl refl (omega arith) refl,
+    (locks_area p, (sizes_tseg p fit, (locks_tseg p, tt))),
+  )
+
+  all_pass : (supported : ℕ) → Each (Passes p) 0 (boot_accesses p.tseg_mib supported)
+  unfolding boot_accesses
+  all_pass supported =
+      let features = feature_accesses supported ++ last_accesses in
+      let locks = lock_accesses p.tseg_mib ++ features in
+      let marks = mark_accesses ++ locks in
+      let pen = pen_accesses ++ marks in
+      each_append (Passes p) 0 block_accesses (area_accesses ++ pen) block_pass
+      (each_append (Passes p) 4 area_accesses pen area_pass
+      (each_append (Passes p) 6 pen_accesses marks pen_pass
+      (each_append (Passes p) 7 mark_accesses locks mark_pass
+      (each_append (Passes p) 13 (lock_accesses p.tseg_mib) features lock_pass
+      (all_late p 17 features fit (omega arith))))))
+
+  pub passes : (supported n : ℕ) → n < 27 → Passes p n (boot_access p.tseg_mib supported n)
+  unfolding boot_access boot_accesses
+  passes supported n less = let e : 0 + n ≡ n = omega arith in subst (λ i. Passes p i (slice_index_or (boot_accesses p.tseg_mib supported) n Nop)) e (each_at (Passes p) 0 n (boot_accesses p.tseg_mib supported) less (all_pass supported))

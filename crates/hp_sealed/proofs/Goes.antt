@@ -1,0 +1,163 @@
+-- Where a step of the boot sequence leads: the boot goes on, is refused, or has sealed SMRAM; and what it leaves of locked bytes.
+use Rattle.std.proofs.Common.{ℕ, ◌≡◌, ◌+◌, ◌<◌, ◌%◌, ◌==◌, inl, inr, Bool, true, false, cond, ◌&&◌, Option, Some, None, refl, sym, ap, subst, ◌∙◌, arith, if◌then◌else◌}
+use Rattle.std.specs.Option.{unwrap_or}
+use Rattle.std.proofs.lemmas.Bool.{and_parts, eqb-true}
+use Rattle.std.proofs.lemmas.Bool.Decides.{nat_tests}
+use Rattle.std.proofs.lemmas.Option.{same_Some}
+use Rattle.hp_model.specs.declared.platforms.Platform.{Platform}
+use Rattle.hp_model.specs.declared.processors.Mode.{Mode}
+use Rattle.hp_model.specs.declared.processors.Mode.TheVariants.{Wait, Running, Halted, Smm}
+use Rattle.hp_model.specs.declared.processors.Cpu.{Cpu}
+use Rattle.hp_model.specs.declared.accesses.Access.{Access}
+use Rattle.hp_model.specs.declared.outcomes.BootFact.{BootFact}
+use Rattle.hp_model.specs.declared.entries.Event.{Event}
+use Rattle.hp_model.specs.declared.entries.Event.TheVariants.{Insert, Remove, Do, TakeSmi, TakeInit, Resume, Tell}
+use Rattle.hp_model.specs.Cpu.{is_in_smm, address_in, smm_address}
+use Rattle.hp_model.specs.Monarch.{with_features}
+use Rattle.hp_model.specs.Boot.{Stage, Boots, Refused, Handed, boot_access, boot_refusal, value_in, stage_by, stage_after}
+use Rattle.hp_model.specs.Step.{State, After, at, same_access, is_boots, is_enabled, is_wanted, wanted_in, answer_to, access_effect, with_agreed, after, step}
+use Rattle.hp_sealed.specs.Left.{Sound, LeavesLocked}
+use Rattle.hp_sealed.specs.Sealed.{Sized, IsOutside, IsSealed}
+use Rattle.hp_sealed.specs.Booting.{Booting, IsBooting, IsRefused, IsBooted, Goes}
+use Rattle.hp_sealed.proofs.Left.{pick_by}
+use Rattle.hp_sealed.proofs.Same.{same_access-is}
+use Rattle.hp_sealed.proofs.Outside.{acts, left_acted}
+use Rattle.hp_sealed.proofs.Boots.{Passes, passes, outside_acts, locked_by}
+use Rattle.hp_sealed.proofs.Image.{holds_sealed}
+
+-- a step is enabled and wanted, and is what `after` says
+pub record Stepped (p : Platform) (s : State) (e : Event) (t : After) : Type 0 where
+  pub enabled : is_enabled p s e ≡ true
+  pub wanted : is_wanted p s e ≡ true
+  pub is : after p s e ≡ t
+
+pub stepped : (p : Platform) (s : State) (e : Event) (t : After) → step p s e ≡ Some t → Stepped p s e t
+unfolding step
+stepped p s e t is =
+    let o = opened (is_enabled p s e && is_wanted p s e) (after p s e) is in
+    let both = and_parts (is_enabled p s e) (is_wanted p s e) o.0 in
+    record { enabled = both.0; wanted = both.1; is = o.1 }
+  where
+    opened : (b : Bool) (x : After) → cond b (Some x) None ≡ Some t → (b ≡ true) × (x ≡ t)
+    opened true x e = (refl, same_Some x t e)
+    opened false x e = absurd cc
+
+-- a boot's only event is its next access
+boots_event : (mib done supported : ℕ) (e : Event) → is_boots mib done supported e ≡ true → e ≡ Do 0 (boot_access mib supported done)
+boots_event mib done supported (Insert k) is = absurd cc
+boots_event mib done supported (Remove k) is = absurd cc
+boots_event mib done supported (Do k a) is =
+    let both = and_parts (k == 0) (same_access a (boot_access mib supported done)) is in
+    let first : k ≡ 0 = eqb-true k 0 both.0 in
+    let next : a ≡ boot_access mib supported done = same_access-is a (boot_access mib supported done) both.1 in
+    rw (first, next) refl
+boots_event mib done supported (TakeSmi k) is = absurd cc
+boots_event mib done supported (TakeInit k) is = absurd cc
+boots_event mib done supported (Resume k) is = absurd cc
+boots_event mib done supported (Tell o) is = absurd cc
+
+-- a present processor without an instruction address in SMM isn't in SMM
+pub not_in_smm : (c : Cpu) → c.present ≡ true → smm_address c ≡ None → is_in_smm c.mode ≡ false
+not_in_smm c here none = by_mode c.mode (subst (λ b. (if b then address_in c.mode else None) ≡ None) here none)
+  where
+    by_mode : (m : Mode) → address_in m ≡ None → is_in_smm m ≡ false
+    by_mode Wait e = refl
+    by_mode (Running page) e = refl
+    by_mode (Halted page) e = refl
+    by_mode (Smm a) e = absurd cc
+
+-- the state after a boot's access
+abbrev reached : Platform → State → ℕ → ℕ → Access → State
+reached p s done supported b = record (with_agreed (access_effect p 0 false b s)) { stage = stage_after (answer_to false b s) (Boots done supported) }
+
+after_boots : (p : Platform) (s : State) (done supported : ℕ) (b : Access) → s.stage ≡ Boots done supported → is_in_smm (at s 0).mode ≡ false → (after p s (Do 0 b)).state ≡ reached p s done supported b
+after_boots p s done supported b stage mode = rw (mode, stage) refl
+
+sized_features : (f : ℕ) (s : State) → Sized s.monarch → Sized (with_features f s.monarch)
+sized_features f s h = record { slot = h.slot; bound = h.bound; known = h.known }
+
+outside_agreed : (p : Platform) (u : State) (g : Stage) → IsOutside p u → IsOutside p (record (with_agreed u) { stage = g })
+outside_agreed p u g h = record { outside = h.outside; based = h.based; first = h.first; sized = sized_features (unwrap_or u.fw_cfg.negotiated 0) u h.sized }
+
+booting_agreed : (p : Platform) (n : ℕ) (u : State) (g : Stage) → Booting p n u → Booting p n (record (with_agreed u) { stage = g })
+booting_agreed p n u g h = record {
+  cpus = outside_agreed p u g h.cpus;
+  low_memory = h.low_memory;
+  f_smbase = h.f_smbase;
+  smram = h.smram;
+  esmramc = h.esmramc;
+  memory = h.memory;
+  kept = h.kept;
+}
+
+handed_over : (p : Platform) (u : State) (requested : ℕ) → Sound p → Booting p 27 u → IsSealed p (record (with_agreed u) { stage = Handed requested })
+handed_over p u requested fit h = record {
+  stage = refl;
+  locks = locked_by p 27 u (omega arith) h;
+  holds = holds_sealed p u.writes fit (h.kept (omega arith));
+  cpus = outside_agreed p u (Handed requested) h.cpus;
+}
+
+last_of : (n : ℕ) → (n == 26) ≡ true → n + 1 ≡ 27
+last_of n e = grind (arith, nat_tests)
+
+more_of : (n : ℕ) → (n == 26) ≡ false → n < 27 → n + 1 < 27
+more_of n e less = grind (arith, nat_tests)
+
+-- where an access leads, by what it is refused for
+staged : (p : Platform) (n v : ℕ) (b : Access) (s : State) → Sound p → n < 27 → Booting p n s → Passes p n b → (o : Option BootFact) → boot_refusal n (value_in (answer_to false b s)) ≡ o → IsBooted p (record (with_agreed (access_effect p 0 false b s)) { stage = stage_by o n v (value_in (answer_to false b s)) })
+staged p n v b s fit less h pass (Some fact) is =
+    inr (inl (record { fact = fact; stage = refl; cpus = outside_agreed p (access_effect p 0 false b s) (Refused fact) (outside_acts p s (access_effect p 0 false b s) (acts p 0 false b s) h.cpus) }))
+staged p n v b s fit less h pass None is =
+    let u = access_effect p 0 false b s in
+    let next : Booting p (n + 1) u = pass.on s h is in
+    let read = value_in (answer_to false b s) in
+    pick_by (λ g. IsBooted p (record (with_agreed u) { stage = g })) (n == 26) (Handed (v % 8)) (Boots (n + 1) (if n == 20 then read else v))
+    (λ e. inr (inr (handed_over p u (v % 8) fit (subst (λ i. Booting p i u) (last_of n e) next))))
+    (λ e. inl (record { done = n + 1; supported = if n == 20 then read else v; stage = refl; going = more_of n e less; holds = booting_agreed p (n + 1) u (Boots (n + 1) (if n == 20 then read else v)) next }))
+
+-- the boot's access, and the state that it leads to
+record BootStep (p : Platform) (s : State) (t : State) : Type 0 where
+  done : ℕ
+  supported : ℕ
+  going : done < 27
+  holds : Booting p done s
+  is : reached p s done supported (boot_access p.tseg_mib supported done) ≡ t
+
+boot_step : (p : Platform) (s : State) (e : Event) (t : After) → IsBooting p s → step p s e ≡ Some t → BootStep p s t.state
+boot_step p s e t h is =
+    let made = stepped p s e t is in
+    let wanted : is_boots p.tseg_mib h.done h.supported e ≡ true = subst (λ g. wanted_in p s g e ≡ true) h.stage made.wanted in
+    let b = boot_access p.tseg_mib h.supported h.done in
+    let event : e ≡ Do 0 b = boots_event p.tseg_mib h.done h.supported e wanted in
+    let mode = not_in_smm (at s 0) h.holds.cpus.first (h.holds.cpus.outside 0) in
+    record {
+      done = h.done;
+      supported = h.supported;
+      going = h.going;
+      holds = h.holds;
+      is = sym (after_boots p s h.done h.supported b h.stage mode) ∙ (ap (λ e. (after p s e).state) (sym event) ∙ ap (λ (a : After). a.state) made.is);
+    }
+
+-- no locked byte is touched
+pub boot_leaves : (p : Platform) (s : State) (e : Event) (t : After) → IsBooting p s → step p s e ≡ Some t → LeavesLocked s t.state
+boot_leaves p s e t h is =
+    let b = boot_step p s e t h is in
+    let access = boot_access p.tseg_mib b.supported b.done in
+    subst (LeavesLocked s) b.is (record { left = λ x l. left_acted p 0 access s x l; locked = λ x l. (acts p 0 false access s).bytes x l })
+
+pub boot_goes : (p : Platform) (s : State) (e : Event) (t : After) → Sound p → IsBooting p s → step p s e ≡ Some t → Goes p s t.state
+boot_goes p s e t fit h is =
+    let b = boot_step p s e t h is in
+    let access = boot_access p.tseg_mib b.supported b.done in
+    let leaves = boot_leaves p s e t h is in (
+      subst (IsBooted p) b.is (staged p b.done b.supported access s fit b.going b.holds (passes p fit b.supported b.done b.going) (boot_refusal b.done (value_in (answer_to false access s))) refl),
+      record { left = λ x k l. leaves.left x l; locked = λ x k l. leaves.locked x l },
+    )
+
+-- a refused boot has no step
+pub refused_goes : (p : Platform) (s : State) (e : Event) (t : After) → IsRefused p s → step p s e ≡ Some t → ⊥
+refused_goes p s e t h is =
+    let made = stepped p s e t is in
+    let wanted : false ≡ true = subst (λ g. wanted_in p s g e ≡ true) h.stage made.wanted in
+    cc

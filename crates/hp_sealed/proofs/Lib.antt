@@ -1,0 +1,14 @@
+pub mod Left
+pub mod Stay
+pub mod Ejects
+pub mod Outside
+pub mod Labels
+pub mod Values
+pub mod Places
+pub mod Same
+pub mod Image
+pub mod Starts
+pub mod Boots
+pub mod Goes
+pub mod Runs
+pub mod HandOver

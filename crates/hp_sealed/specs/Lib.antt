@@ -1,0 +1,4 @@
+pub mod Left
+pub mod Sealed
+pub mod Booting
+pub mod HandOver

@@ -1,0 +1,47 @@
+-- Sealed SMRAM: what holds in the state in which the boot sequence hands the machine over.
+use Rattle.std.specs.Prelude.{ℕ, ◌≡◌, Bool, true, not, ◌&&◌, ◌||◌, ◌==◌, ◌≤◌, List, length, None, if◌then◌else◌}
+use Rattle.hp_model.specs.declared.platforms.Platform.{Platform}
+use Rattle.hp_model.specs.declared.labels.Label.{Label}
+use Rattle.hp_model.specs.Platform.{tile}
+use Rattle.hp_model.specs.Memory.{Write, byte_at, value_from}
+use Rattle.hp_model.specs.Cpu.{smm_address}
+use Rattle.hp_model.specs.Labels.{part_of, mark_of}
+use Rattle.hp_model.specs.SharedBytes.{Layout, layout_of, gate, closed}
+use Rattle.hp_model.specs.Monarch.{Monarch}
+use Rattle.hp_model.specs.Handlers.{slot_at, is_tile, runs_at, address_of_label}
+use Rattle.hp_model.specs.Boot.{is_handed}
+use Rattle.hp_model.specs.Step.{State, at}
+use Rattle.hp_sealed.specs.Left.{Locked}
+
+-- the tile of a possible slot other than slot 0
+abbrev pub is_other_tile : Layout → ℕ → Bool
+is_other_tile y smbase = not (slot_at y smbase == 0) && is_tile y smbase
+
+-- where processor k may have its SMBASE: processor 0 in the tile of slot 0, each other at the default or in another tile
+abbrev pub is_based : Platform → ℕ → ℕ → Bool
+is_based p k smbase = if k == 0 then smbase == tile p 0 else ((smbase == 0x30000) || is_other_tile (layout_of p) smbase)
+
+-- the monarch's record has no more slots than there may be processors
+pub record Sized (r : Monarch) : Type 0 where
+  pub slot : r.slot ≤ 64
+  pub bound : length r.slots.bound ≤ 64
+  pub known : length r.slots.known ≤ 64
+
+-- no processor is in SMM, each is based where it may be, and processor 0 is present
+pub record IsOutside (p : Platform) (s : State) : Type 0 where
+  pub outside : (k : ℕ) → smm_address (at s k) ≡ None
+  pub based : (k : ℕ) → (at s k).present ≡ true → is_based p k (at s k).smbase ≡ true
+  pub first : (at s 0).present ≡ true
+  pub sized : Sized s.monarch
+
+-- wherever a handler runs, each of its cells holds its label's mark, and the gate is closed
+pub record Holds (p : Platform) (ws : List Write) : Type 0 where
+  pub cells : (l : Label) (k smbase : ℕ) → runs_at (layout_of p) (part_of l) k smbase ≡ true → value_from (byte_at ws) (address_of_label smbase l) 4 ≡ mark_of l
+  pub gate : value_from (byte_at ws) gate 8 ≡ closed
+
+-- handed over with SMRAM locked, the handlers in it, the gate closed, and everybody outside
+pub record IsSealed (p : Platform) (s : State) : Type 0 where
+  pub stage : is_handed s.stage ≡ true
+  pub locks : Locked p s.locks
+  pub holds : Holds p s.writes
+  pub cpus : IsOutside p s

@@ -1,0 +1,30 @@
+-- What the check opens to compute a trace.
+use Rattle.std.specs.Prelude.{⊤}
+use Rattle.hp_model.specs.Cpu.{boot_cpus, cpus_start}
+use Rattle.hp_model.specs.Block.{first_places}
+use Rattle.hp_model.specs.Memory.{bytes_of, value_from}
+use Rattle.hp_model.specs.View.{is_hole}
+use Rattle.hp_model.specs.Interrupts.{hit_each}
+use Rattle.hp_model.specs.SaveArea.{saved, saved_smbase, saved_rip}
+use Rattle.hp_model.specs.FwCfg.{big_bytes, big_value, little_value, directory, listed}
+use Rattle.hp_model.specs.Transfers.{bytes_stored, bytes_loaded, transfer}
+use Rattle.hp_model.specs.Boot.{boot_accesses, boot_access}
+use Rattle.hp_model.specs.Labels.{label_with}
+use Rattle.hp_model.specs.Image.{image, with_cells, with_tiles, with_releases}
+use Rattle.hp_model.specs.Handlers.{row_of}
+use Rattle.hp_model.specs.Step.{step, same_access, same_outcome, mark_at, row_at}
+use Rattle.hp_model.specs.Runs.{run, run_from, run_on}
+use Rattle.hp_model.specs.Voices.{says}
+use Rattle.hp_model.specs.Schedule.{act, act_all, actors_of, turns_from, booted, boot_fact, scheduled}
+use Rattle.hp_worked.specs.Asked.{first_stop, all_the_way}
+use Rattle.hp_worked.specs.Traces.{boot}
+
+-- the machine's step and its runs, and the boot, with which all traces begin
+unfoldable pub the_run : ⊤
+unfolding boot_cpus cpus_start first_places bytes_of value_from is_hole hit_each saved saved_smbase saved_rip big_bytes big_value little_value directory listed bytes_stored bytes_loaded transfer boot_accesses boot_access label_with image with_cells with_tiles with_releases row_of step same_access same_outcome mark_at row_at run run_from run_on first_stop all_the_way boot
+the_run = tt
+
+-- the schedule too
+unfoldable pub the_schedule : ⊤
+unfolding the_run says act act_all actors_of turns_from booted boot_fact scheduled
+the_schedule = tt

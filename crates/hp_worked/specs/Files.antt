@@ -1,0 +1,93 @@
+-- Platform files of the worked traces, as data.
+use Rattle.std.specs.Prelude.{true, false, List, [], ◌∷◌, replicate}
+use Rattle.hp_model.specs.declared.platforms.Platform.{Platform}
+use Rattle.hp_model.specs.declared.platforms.Delivery.TheVariants.{Prompt}
+use Rattle.hp_model.specs.declared.accesses.Access.TheVariants.{Load, Store, Swap, In, Out, CfgRead, CfgWrite, Icr}
+use Rattle.hp_model.specs.declared.entries.Actor.TheVariants as actor
+use Rattle.hp_model.specs.declared.files.VoiceKind.{VoiceKind}
+use Rattle.hp_model.specs.declared.files.VoiceKind.TheVariants.{Script, Pen}
+use Rattle.hp_model.specs.declared.files.File.{File}
+
+-- one processor, 128 MiB of RAM with 1 MiB of TSEG, all features, and no turn
+abbrev pub one_processor : Platform
+one_processor = record { apic = 0 ∷ []; boot = 0 ∷ []; low_memory = 0x8000000; tseg_mib = 1; features = 7; polls = 8; turns = 0; modern = true; default_smram = true; delivery = Prompt }
+
+-- two processors, the second one not there at boot, or there
+abbrev pub one_of_two : Platform
+one_of_two = record one_processor { apic = 0 ∷ 1 ∷ []; turns = 72 }
+
+abbrev pub two_processors : Platform
+two_processors = record one_processor { apic = 0 ∷ 1 ∷ []; boot = 0 ∷ 1 ∷ [] }
+
+-- a file with neither host events nor stalls
+abbrev pub file_of : Platform → List VoiceKind → File
+file_of p voices = record { platform = p; hosts = []; stalls = []; voices = voices }
+
+abbrev pub smallest_file : File
+smallest_file = file_of one_processor (Script [] ∷ [])
+
+-- 64 processors, of which one is there
+abbrev pub sixty_four_ids : Platform
+sixty_four_ids = record one_processor { apic = 0 ∷ 1 ∷ 2 ∷ 3 ∷ 4 ∷ 5 ∷ 6 ∷ 7 ∷ 8 ∷ 9 ∷ 10 ∷ 11 ∷ 12 ∷ 13 ∷ 14 ∷ 15 ∷ 16 ∷ 17 ∷ 18 ∷ 19 ∷ 20 ∷ 21 ∷ 22 ∷ 23 ∷ 24 ∷ 25 ∷ 26 ∷ 27 ∷ 28 ∷ 29 ∷ 30 ∷ 31 ∷ 32 ∷ 33 ∷ 34 ∷ 35 ∷ 36 ∷ 37 ∷ 38 ∷ 39 ∷ 40 ∷ 41 ∷ 42 ∷ 43 ∷ 44 ∷ 45 ∷ 46 ∷ 47 ∷ 48 ∷ 49 ∷ 50 ∷ 51 ∷ 52 ∷ 53 ∷ 54 ∷ 55 ∷ 56 ∷ 57 ∷ 58 ∷ 59 ∷ 60 ∷ 61 ∷ 62 ∷ 63 ∷ []; tseg_mib = 8; turns = 449 }
+
+abbrev pub selector_past_the_end_file : File
+selector_past_the_end_file = file_of sixty_four_ids (Script (Out 0xcd8 4 0 ∷ Out 0xcd8 4 0x40 ∷ In 0xcdc 1 ∷ Out 0xcdd 1 0x3 ∷ In 0xce0 4 ∷ Out 0xcd8 4 0x3f ∷ In 0xcdc 1 ∷ In 0xce0 4 ∷ []) ∷ replicate 63 Pen)
+
+abbrev pub several_control_bits_file : File
+several_control_bits_file = file_of (record two_processors { turns = 13 }) (Script (Out 0xcd8 4 0x1 ∷ Out 0xcdc 1 0x1e ∷ In 0xcdc 1 ∷ Out 0xcdc 1 0x10 ∷ In 0xcdc 1 ∷ Out 0xcdc 1 0x8 ∷ In 0xcdc 1 ∷ []) ∷ Script [] ∷ [])
+
+abbrev pub transfer_into_locked_memory_file : File
+transfer_into_locked_memory_file = file_of (record one_processor { turns = 7 }) (Script (Store 0x1000 8 0x80000000a002200 ∷ Store 0x1008 8 0x80030000000000 ∷ Out 0x518 4 0x100000 ∷ Load 0x1000 4 ∷ Load 0x38000 4 ∷ Load 0x2fffc 8 ∷ Load 0x2fffc 4 ∷ []) ∷ [])
+
+abbrev pub store_across_64_kib_file : File
+store_across_64_kib_file = file_of (record one_processor { turns = 3 }) (Script (Store 0x1fffe 4 0x11223344 ∷ Load 0x20000 2 ∷ []) ∷ [])
+
+-- a processor would be inserted at turn 0, and then looked for; a boot that is refused never comes to it
+abbrev pub refused_file : Platform → File
+refused_file p = record (file_of p (Script (Out 0xb2 1 0x4 ∷ Out 0xcd8 4 0x1 ∷ Out 0xcdc 1 0x2 ∷ []) ∷ Pen ∷ [])) { hosts = record { turn = 0; actor = actor.Insert 1 } ∷ [] }
+
+-- a register block that has no modern form
+abbrev pub refused_for_the_legacy_form_file : File
+refused_for_the_legacy_form_file = refused_file (record one_of_two { modern = false })
+
+-- a default area that can't be locked
+abbrev pub refused_for_an_open_default_area_file : File
+refused_for_an_open_default_area_file = refused_file (record one_of_two { default_smram = false })
+
+-- hot-unplug without hot-plug
+abbrev pub refused_for_its_features_file : File
+refused_for_its_features_file = refused_file (record one_of_two { features = 5 })
+
+-- an SMI command to two boot processors
+abbrev pub rendezvous_file : File
+rendezvous_file = file_of (record two_processors { turns = 38 }) (Script (Out 0xb2 1 0x5 ∷ []) ∷ Script [] ∷ [])
+
+-- the same where processor 1 gets no turn until processor 0 has halted, and an arrived byte is looked at twice
+abbrev pub late_processor_file : File
+late_processor_file = record (file_of (record two_processors { polls = 2; turns = 36 }) (Script (Out 0xb2 1 0x5 ∷ []) ∷ Script [] ∷ [])) { stalls = record { cpu = 1; from = 1; to = 21 } ∷ [] }
+
+-- three processors with APIC IDs 0, 7 and 3: the host inserts the third and requests the removal of the second
+abbrev pub host_events_file : File
+host_events_file = record (file_of (record two_processors { apic = 0 ∷ 7 ∷ 3 ∷ []; turns = 49 }) (Script (In 0x620 1 ∷ Out 0xcd8 4 0 ∷ Out 0xcdd 1 0 ∷ In 0xce0 4 ∷ In 0xcdc 1 ∷ Out 0xcdc 1 0x4 ∷ Out 0xcdd 1 0 ∷ In 0xcdc 1 ∷ Out 0xcdd 1 0x3 ∷ In 0xce0 4 ∷ Out 0xcdc 1 0x2 ∷ In 0xcdc 1 ∷ Out 0xcd8 4 0x1 ∷ Out 0xcdc 1 0x8 ∷ In 0xcdc 1 ∷ Out 0x620 1 0x4 ∷ In 0x620 1 ∷ []) ∷ Script [] ∷ Pen ∷ [])) { hosts = record { turn = 0; actor = actor.Insert 2 } ∷ record { turn = 0; actor = actor.Remove 1 } ∷ [] }
+
+-- a processor is inserted at turn 0, started at page 10 and called into SMM
+abbrev pub closed_gate_file : File
+closed_gate_file = record (file_of (record one_of_two { turns = 18 }) (Script (Icr 0x1000000 0x610 ∷ Out 0xb2 1 0x5 ∷ []) ∷ Pen ∷ [])) { hosts = record { turn = 0; actor = actor.Insert 1 } ∷ [] }
+
+-- one processor, and 16 MiB of RAM
+abbrev pub small_memory : Platform
+small_memory = record one_processor { low_memory = 0x1000000 }
+
+abbrev pub modern_form_file : File
+modern_form_file = file_of (record small_memory { turns = 8 }) (Script (In 0xcd8 4 ∷ Out 0xcd8 4 0 ∷ In 0xcd8 4 ∷ In 0xcdc 1 ∷ Out 0xcdd 1 0x3 ∷ In 0xce0 4 ∷ []) ∷ [])
+
+abbrev pub default_area_file : File
+default_area_file = file_of (record small_memory { turns = 12 }) (Script (Store 0x30000 4 0x11223344 ∷ CfgWrite 0x9c 0x2 ∷ CfgRead 0x9c ∷ CfgWrite 0x9c 0xff ∷ CfgRead 0x9c ∷ Swap 0x30000 0x11223344 0x5 ∷ CfgWrite 0x9c 0x2 ∷ Load 0x30000 8 ∷ CfgWrite 0x9c 0 ∷ CfgRead 0x9c ∷ Load 0xfffffe 4 ∷ []) ∷ [])
+
+-- a processor is inserted at turn 0, and gets INIT, SIPI and an SMI
+abbrev pub interrupts_file : File
+interrupts_file = record (file_of (record one_of_two { turns = 20 }) (Script (Icr 0x1000000 0x500 ∷ Icr 0x1000000 0x610 ∷ Icr 0x1000000 0x610 ∷ Icr 0x1000000 0x500 ∷ Icr 0x1000000 0x200 ∷ Icr 0x1000000 0x610 ∷ Load 0x3ff00 4 ∷ Load 0x3fefc 4 ∷ Load 0x3ff78 8 ∷ []) ∷ Pen ∷ [])) { hosts = record { turn = 0; actor = actor.Insert 1 } ∷ [] }
+
+-- both INIT and an SMI are sent before processor 1 gets a turn
+abbrev pub smi_before_init_file : File
+smi_before_init_file = record (file_of (record two_processors { turns = 8 }) (Script (Icr 0x1000000 0x500 ∷ Icr 0x1000000 0x200 ∷ []) ∷ Script [] ∷ [])) { stalls = record { cpu = 1; from = 1; to = 3 } ∷ [] }
