@@ -96,9 +96,42 @@ fn icr(k: u32, high: u32, low: u32) -> Event {
     Event::Do(k, Access::Icr { high, low })
 }
 
-/// An SMI, INIT or SIPI (by the low half of the command) that processor 0 sends to APIC ID 1.
-fn sent_to_1(low: u32) -> Event {
-    icr(0, 0x01000000, low)
+/// An event in one line: the processor, and what the functions above take.
+#[derive(Clone, Copy)]
+enum Act {
+    Load(u32, u8, u32),
+    Store(u32, u8, u32, u64),
+    Swap(u32, u32, u64, u64),
+    In(u32, u8, u16),
+    Out(u32, u8, u16, u32),
+    CfgRead(u32, u8),
+    CfgWrite(u32, u8, u8),
+    Icr(u32, u32, u32),
+    Halt(u32),
+    Nop(u32),
+    Insert(u32),
+    Remove(u32),
+    TakeSmi(u32),
+    TakeInit(u32),
+}
+
+fn event_of(act: Act) -> Event {
+    match act {
+        Act::Load(k, width, addr) => load(k, width, addr),
+        Act::Store(k, width, addr, value) => store(k, width, addr, value),
+        Act::Swap(k, addr, expected, desired) => swap(k, addr, expected, desired),
+        Act::In(k, width, port) => port_in(k, width, port),
+        Act::Out(k, width, port, value) => port_out(k, width, port, value),
+        Act::CfgRead(k, reg) => cfg_read(k, reg),
+        Act::CfgWrite(k, reg, value) => cfg_write(k, reg, value),
+        Act::Icr(k, high, low) => icr(k, high, low),
+        Act::Halt(k) => Event::Do(k, Access::Halt),
+        Act::Nop(k) => Event::Do(k, Access::Nop),
+        Act::Insert(k) => Event::Insert(k),
+        Act::Remove(k) => Event::Remove(k),
+        Act::TakeSmi(k) => Event::TakeSmi(k),
+        Act::TakeInit(k) => Event::TakeInit(k),
+    }
 }
 
 /// Makes an event's step, which is enabled.
@@ -124,9 +157,18 @@ fn quiet(rt: &impl Abort, machine: &mut Machine, e: Event) -> Result<(), Fail> {
 }
 
 /// Makes the steps in order, each with the answer that it is to have.
-fn play(rt: &impl Abort, machine: &mut Machine, steps: &[(Event, Answer)]) -> Result<(), Fail> {
-    for (step, (e, answer)) in steps.iter().enumerate() {
-        assert_eq!(rt; take(rt, machine, step, *e)?, *answer, "step {step}");
+fn play(rt: &impl Abort, machine: &mut Machine, steps: &[(Act, Answer)]) -> Result<(), Fail> {
+    for (step, (act, answer)) in steps.iter().enumerate() {
+        let got = take(rt, machine, step, event_of(*act))?;
+        assert_eq!(rt; got, *answer, "step {step}");
+    }
+    Ok(())
+}
+
+/// Makes the steps in order, which answer nothing.
+fn play_quiet(rt: &impl Abort, machine: &mut Machine, steps: &[Act]) -> Result<(), Fail> {
+    for act in steps {
+        quiet(rt, machine, event_of(*act))?;
     }
     Ok(())
 }
@@ -185,51 +227,62 @@ fn is_cpu(got: Cpu, want: Cpu) -> bool {
         && got.base == want.base
 }
 
+const EJECTED: [(Act, Answer); 11] = [
+    // the block in its legacy form, and the ports beside it
+    (Act::In(1, 4, 0xcd8), Answer::Value(3)),
+    (Act::In(1, 4, 0xcd7), Answer::Value(0)),
+    (Act::Out(0, 4, 0xce4, 0), Answer::Quiet),
+    (Act::In(0, 4, 0xce4), Answer::Value(0)),
+    (Act::In(0, 4, 0xcd8), Answer::Value(3)),
+    // its modern form, with processor 1 selected and its removal asked for
+    (Act::Out(0, 4, 0xcd8, 0), Answer::Quiet),
+    (Act::Out(0, 4, 0xcd8, 1), Answer::Quiet),
+    (Act::Remove(1), Answer::Quiet),
+    (Act::In(0, 1, 0xcdc), Answer::Value(0x05)),
+    (Act::Out(0, 1, 0xcdc, 8), Answer::Quiet),
+    (Act::In(0, 1, 0xcdc), Answer::Value(0x04)),
+];
+
 #[test]
 fn an_ejected_processor_is_absent_and_can_come_again(rt: HostRuntime) -> Result<(), Fail> {
     let mut machine = two(&rt, rt.alloc(), 2)?;
-    let steps = [
-        // the block in its legacy form, and the ports beside it
-        (port_in(1, 4, 0xcd8), Answer::Value(3)),
-        (port_in(1, 4, 0xcd7), Answer::Value(0)),
-        (port_out(0, 4, 0xce4, 0), Answer::Quiet),
-        (port_in(0, 4, 0xce4), Answer::Value(0)),
-        (port_in(0, 4, 0xcd8), Answer::Value(3)),
-        // its modern form, with processor 1 selected and its removal asked for
-        (port_out(0, 4, 0xcd8, 0), Answer::Quiet),
-        (port_out(0, 4, 0xcd8, 1), Answer::Quiet),
-        (Event::Remove(1), Answer::Quiet),
-        (port_in(0, 1, 0xcdc), Answer::Value(0x05)),
-        (port_out(0, 1, 0xcdc, 8), Answer::Quiet),
-        (port_in(0, 1, 0xcdc), Answer::Value(0x04)),
-    ];
-    play(&rt, &mut machine, &steps)?;
-    assert!(rt; !is_present(&machine, 1));
-    take(&rt, &mut machine, 11, Event::Insert(1))?;
-    assert!(rt; is_cpu(cpu_of(&rt, &machine, 1), in_mode(Mode::Wait)));
-    let status = take(&rt, &mut machine, 12, port_in(0, 1, 0xcdc))?;
+    eject_and_insert(&rt, &mut machine)
+}
+
+fn eject_and_insert(rt: &impl Abort, machine: &mut Machine) -> Result<(), Fail> {
+    play(rt, machine, &EJECTED)?;
+    assert!(rt; !is_present(machine, 1));
+    take(rt, machine, 11, Event::Insert(1))?;
+    assert!(rt; is_cpu(cpu_of(rt, machine, 1), in_mode(Mode::Wait)));
+    let status = take(rt, machine, 12, port_in(0, 1, 0xcdc))?;
     assert_eq!(rt; status, Answer::Value(0x07));
     Ok(())
 }
 
-/// 64 boot processors. The APIC ID of place k is what 37 k + 5 leaves by 255: place 0 has 05, place 5 has be.
-fn many(rt: &impl Abort, alloc: Global) -> Result<Machine, Fail> {
+fn apic_of(place: u32) -> u32 {
+    (37 * (place % 64) + 5) % 255
+}
+
+fn apics(alloc: Global) -> Result<Vec<u32>, NoMemory> {
     let mut apic = Vec::new(alloc);
     for place in 0..64u32 {
-        apic.push((37 * place + 5) % 255)?;
+        apic.push(apic_of(place))?;
     }
-    let p = platform(alloc, apic, 64, 0x8000000, 8)?;
+    Ok(apic)
+}
+
+/// 64 boot processors. The APIC ID of place k is what 37 k + 5 leaves by 255: place 0 has 05, place 5 has be.
+fn many(rt: &impl Abort, alloc: Global) -> Result<Machine, Fail> {
+    let p = platform(alloc, apics(alloc)?, 64, 0x8000000, 8)?;
     machine(rt, alloc, &p)
 }
 
-#[test]
-fn interrupts_go_by_apic_id(rt: HostRuntime) -> Result<(), Fail> {
-    let mut machine = many(&rt, rt.alloc())?;
+fn send_to_some(rt: &impl Abort, machine: &mut Machine) -> Result<(), Fail> {
     // INIT to APIC ID 05, and an SMI from place 7 to all others
-    take(&rt, &mut machine, 0, icr(7, 0x05000000, 0x00000500))?;
-    take(&rt, &mut machine, 1, icr(7, 0, 0x000c0200))?;
+    take(rt, machine, 0, icr(7, 0x05000000, 0x00000500))?;
+    take(rt, machine, 1, icr(7, 0, 0x000c0200))?;
     for place in 0..64u32 {
-        let cpu = cpu_of(&rt, &machine, place);
+        let cpu = cpu_of(rt, machine, place);
         assert_eq!(rt;
             (cpu.init, cpu.smi),
             (place == 0, place != 7),
@@ -240,33 +293,46 @@ fn interrupts_go_by_apic_id(rt: HostRuntime) -> Result<(), Fail> {
 }
 
 #[test]
+fn interrupts_go_by_apic_id(rt: HostRuntime) -> Result<(), Fail> {
+    let mut machine = many(&rt, rt.alloc())?;
+    send_to_some(&rt, &mut machine)
+}
+
+const CELLS: [(Act, Answer); 4] = [
+    (Act::Load(0, 8, 0x38000), Answer::Value(0x11223344aabb7788)),
+    (Act::Store(0, 8, 0x1fffc, 1), Answer::Quiet),
+    (Act::Load(0, 8, 0x1fffc), Answer::Value(1)),
+    (Act::Load(0, 1, 0x1fffd), Answer::Value(0)),
+];
+
+const FIRST: Cell = Cell {
+    addr: 0x38000,
+    width: 8,
+    value: 0x1122334455667788,
+};
+
+const SECOND: Cell = Cell {
+    addr: 0x38002,
+    width: 2,
+    value: 0xaabb,
+};
+
+fn reserve_and_play(rt: &impl Abort, machine: &mut Machine) -> Result<(), Fail> {
+    machine.reserve()?;
+    play(rt, machine, &CELLS)
+}
+
+#[test]
 fn cells_are_there_at_the_start_and_reserved_room_takes_a_store(
     rt: HostRuntime,
 ) -> Result<(), Fail> {
     let alloc = rt.alloc();
     let p = platform(alloc, vec![in alloc; 0]?, 1, 0x1000000, 1)?;
     assert!(rt; fits(&p).is_ok());
-    let first = Cell {
-        addr: 0x38000,
-        width: 8,
-        value: 0x1122334455667788,
-    };
-    let second = Cell {
-        addr: 0x38002,
-        width: 2,
-        value: 0xaabb,
-    };
     let cells = Cells {
-        list: CellList(vec![in alloc; first, second]?),
+        list: CellList(vec![in alloc; FIRST, SECOND]?),
     };
     assert_eq!(rt; p.low_memory, 0x1000000);
     let mut machine = Machine::new(alloc, &p, &cells)?;
-    machine.reserve()?;
-    let steps = [
-        (load(0, 8, 0x38000), Answer::Value(0x11223344aabb7788)),
-        (store(0, 8, 0x1fffc, 1), Answer::Quiet),
-        (load(0, 8, 0x1fffc), Answer::Value(1)),
-        (load(0, 1, 0x1fffd), Answer::Value(0)),
-    ];
-    play(&rt, &mut machine, &steps)
+    reserve_and_play(&rt, &mut machine)
 }

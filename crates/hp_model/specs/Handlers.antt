@@ -1,7 +1,7 @@
--- The SMI handlers' tables (own rule): what each label wants, and where its answer leads. The labels of collection, adds and ejects have no row yet, and none leads to them.
+-- The SMI handlers' tables (own rule): what each label wants, and where its answer leads. The labels of ejects have no row yet, and none leads to them.
 use Rattle.std.specs.Prelude.{ℕ, Bool, true, ◌&&◌, not, ◌==◌, nat_lt, ◌+◌, ◌-◌, ◌*◌, ◌/◌, Option, Some, None, option_and_then, if◌then◌else◌}
 use Rattle.hp_model.specs.declared.accesses.Access.{Access}
-use Rattle.hp_model.specs.declared.accesses.Access.TheVariants.{Load, Store, Swap, In, Icr}
+use Rattle.hp_model.specs.declared.accesses.Access.TheVariants.{Load, Store, Swap, In, Out, Icr}
 use Rattle.hp_model.specs.declared.accesses.Want.{Want}
 use Rattle.hp_model.specs.declared.accesses.Want.TheVariants as want
 use Rattle.hp_model.specs.declared.labels.Label.{Label}
@@ -9,7 +9,9 @@ use Rattle.hp_model.specs.declared.labels.Label.TheVariants.{F1, F2, F3, F4, F5,
 use Rattle.hp_model.specs.Labels.{Part, First, Relocated, Monarch as Monarchs, part_of, index_of, mark_of, label_with}
 use Rattle.hp_model.specs.SharedBytes.{Layout, tile_in, arrived_byte, release_byte, map_byte, parked_byte, session_byte, gate, closed, new_smbase, flag, default_smbase_field}
 use Rattle.hp_model.specs.Slots.{known_from}
-use Rattle.hp_model.specs.Monarch.{Monarch, at_label, first_slot, next_slot, look_at, looked, noted}
+use Rattle.hp_model.specs.Collection.{found, judged, reported}
+use Rattle.hp_model.specs.Add.{begun, looks, saw_flag, saw_pair, shut, saw_arrival}
+use Rattle.hp_model.specs.Monarch.{Monarch, at_label, first_slot, next_slot, look_at, looked, noted, commanded, collected, led, told, next_report}
 
 -- who stands at a label: its APIC ID, the slot of its tile, and the base that the first handler has loaded
 pub record Seat : Type 0 where
@@ -23,9 +25,15 @@ access a = Some (want.Do a)
 abbrev pub store_byte : ℕ → ℕ → Option Want
 store_byte addr value = access (Store addr 1 value)
 
--- an interrupt command: an SMI to one APIC ID
+-- interrupt commands to one APIC ID: an SMI, an INIT, and a SIPI that names the pen's page, 9f
 abbrev pub smi_to : ℕ → Option Want
 smi_to apic = access (Icr (apic * 0x1000000) 0x200)
+
+abbrev pub init_to : ℕ → Option Want
+init_to apic = access (Icr (apic * 0x1000000) 0x500)
+
+abbrev pub sipi_to : ℕ → Option Want
+sipi_to apic = access (Icr (apic * 0x1000000) 0x69f)
 
 -- what a label wants
 abbrev pub want_at : Layout → Seat → Monarch → Label → Option Want
@@ -46,26 +54,26 @@ want_at y x r S1 = store_byte (release_byte y r.slot) 0
 want_at y x r S2 = access (Icr 0 0xc0200)
 want_at y x r S3 = access (Load (arrived_byte y r.slot) 1)
 want_at y x r S4 = access (In 0xb2 1)
-want_at y x r C1 = None
-want_at y x r C2 = None
-want_at y x r C3 = None
-want_at y x r C4 = None
-want_at y x r C5 = None
-want_at y x r C6 = None
-want_at y x r NB = None
-want_at y x r N0 = None
-want_at y x r N1 = None
-want_at y x r N2 = None
-want_at y x r N3 = None
-want_at y x r N4 = None
-want_at y x r N5 = None
-want_at y x r N6 = None
-want_at y x r N7 = None
-want_at y x r N8a = None
-want_at y x r N8b = None
-want_at y x r N9 = None
-want_at y x r N10 = None
-want_at y x r N11 = None
+want_at y x r C1 = access (Out 0xcd8 4 r.collection.cpu)
+want_at y x r C2 = access (Out 0xcdd 1 0)
+want_at y x r C3 = access (In 0xce0 4)
+want_at y x r C4 = access (In 0xcdc 1)
+want_at y x r C5 = access (Out 0xcdd 1 3)
+want_at y x r C6 = access (In 0xce0 4)
+want_at y x r NB = store_byte (release_byte y r.add.slot) 0
+want_at y x r N0 = store_byte (arrived_byte y r.add.slot) 0
+want_at y x r N1 = store_byte flag 0
+want_at y x r N2 = access (Store new_smbase 4 (tile_in y r.add.slot))
+want_at y x r N3 = smi_to r.add.apic
+want_at y x r N4 = init_to r.add.apic
+want_at y x r N5 = sipi_to r.add.apic
+want_at y x r N6 = sipi_to r.add.apic
+want_at y x r N7 = access (Store gate 8 r.add.apic)
+want_at y x r N8a = access (Load flag 1)
+want_at y x r N8b = access (Load (arrived_byte y r.add.slot) 1)
+want_at y x r N9 = access (Store gate 8 closed)
+want_at y x r N10 = store_byte (arrived_byte y r.add.slot) 0
+want_at y x r N11 = access (Load (arrived_byte y r.add.slot) 1)
 want_at y x r E0 = None
 want_at y x r E1 = None
 want_at y x r E2 = None
@@ -75,7 +83,7 @@ want_at y x r E4b = None
 want_at y x r E4c = None
 want_at y x r E4d = None
 want_at y x r E4e = None
-want_at y x r T = None
+want_at y x r T = Some (want.Tell r.outcome)
 want_at y x r E5 = store_byte (session_byte y) 0
 want_at y x r E6 = store_byte (release_byte y r.slot) 1
 want_at y x r E7 = Some want.Resume
@@ -112,27 +120,27 @@ next_at y x r S0 v = goes x (first_slot S1 S2 r)
 next_at y x r S1 v = goes x (next_slot S1 S2 r)
 next_at y x r S2 v = goes x (look_at y.polls (known_from r.slots 1) r)
 next_at y x r S3 v = goes x (looked y.polls v (noted r.slot v r))
-next_at y x r S4 v = goes x (at_label E5 r)
-next_at y x r C1 v = goes x r
-next_at y x r C2 v = goes x r
-next_at y x r C3 v = goes x r
-next_at y x r C4 v = goes x r
-next_at y x r C5 v = goes x r
-next_at y x r C6 v = goes x r
-next_at y x r NB v = goes x r
-next_at y x r N0 v = goes x r
-next_at y x r N1 v = goes x r
-next_at y x r N2 v = goes x r
-next_at y x r N3 v = goes x r
-next_at y x r N4 v = goes x r
-next_at y x r N5 v = goes x r
-next_at y x r N6 v = goes x r
-next_at y x r N7 v = goes x r
-next_at y x r N8a v = goes x r
-next_at y x r N8b v = goes x r
-next_at y x r N9 v = goes x r
-next_at y x r N10 v = goes x r
-next_at y x r N11 v = goes x r
+next_at y x r S4 v = goes x (commanded v r)
+next_at y x r C1 v = goes x (at_label C2 r)
+next_at y x r C2 v = goes x (at_label C3 r)
+next_at y x r C3 v = goes x (collected y.apics (found y.count v r.collection) r)
+next_at y x r C4 v = goes x (collected y.apics (judged y.count v r.collection) r)
+next_at y x r C5 v = goes x (at_label C6 r)
+next_at y x r C6 v = goes x (collected y.apics (reported y.count v r.collection) r)
+next_at y x r NB v = goes x (led (begun r.add) r)
+next_at y x r N0 v = goes x (at_label N1 r)
+next_at y x r N1 v = goes x (at_label N2 r)
+next_at y x r N2 v = goes x (at_label N3 r)
+next_at y x r N3 v = goes x (at_label N4 r)
+next_at y x r N4 v = goes x (at_label N5 r)
+next_at y x r N5 v = goes x (at_label N6 r)
+next_at y x r N6 v = goes x (at_label N7 r)
+next_at y x r N7 v = goes x (led (looks N8a y.polls r.add) r)
+next_at y x r N8a v = goes x (led (saw_flag v r.add) r)
+next_at y x r N8b v = goes x (led (saw_pair v r.add) (noted r.add.slot v r))
+next_at y x r N9 v = goes x (led (shut r.add) r)
+next_at y x r N10 v = goes x (led (looks N11 y.polls r.add) r)
+next_at y x r N11 v = goes x (led (saw_arrival v r.add) (noted r.add.slot v r))
 next_at y x r E0 v = goes x r
 next_at y x r E1 v = goes x r
 next_at y x r E2 v = goes x r
@@ -142,7 +150,7 @@ next_at y x r E4b v = goes x r
 next_at y x r E4c v = goes x r
 next_at y x r E4d v = goes x r
 next_at y x r E4e v = goes x r
-next_at y x r T v = goes x r
+next_at y x r T v = goes x (next_report y.apics (told r.outcome r))
 next_at y x r E5 v = goes x (first_slot E6 E7 r)
 next_at y x r E6 v = goes x (next_slot E6 E7 r)
 next_at y x r E7 v = goes x r

@@ -14,6 +14,8 @@ pub mod Fitting
 pub mod SharedBytes
 pub mod Image
 pub mod Slots
+pub mod Collection
+pub mod Add
 pub mod Monarch
 pub mod Handlers
 pub mod Voices

@@ -1,3 +1,7 @@
-pub mod Start
+pub mod Adds
+pub mod Fits
 pub mod Looks
 pub mod Order
+pub mod Parts
+pub mod Reports
+pub mod Start

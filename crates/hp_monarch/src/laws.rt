@@ -2,21 +2,24 @@
 
 ghost use Rattle.std.specs.Prelude.{◌≡◌, ◌⊎◌, ℕ};
 ghost use Rattle.hp_model.specs.declared.labels.Label.{Label};
-ghost use Rattle.hp_model.specs.declared.labels.Label.TheVariants.{S0, S1, S2, S4, E5, E6};
+ghost use Rattle.hp_model.specs.declared.labels.Label.TheVariants.{S0, S1, S2, S4, NB, E5, E6};
 ghost use Rattle.hp_model.specs.Handlers.{Seat, next_at};
 ghost use Rattle.hp_model.specs.Labels.{Monarch as Monarchs, part_of};
 ghost use Rattle.hp_model.specs.Monarch.{Monarch};
 ghost use Rattle.hp_model.specs.SharedBytes.{Layout};
+ghost use Rattle.hp_monarch.specs.Session.{TakesReports};
 
 /// Whatever was answered: release bytes become 1 (E6) only once the session byte was cleared (E5), which comes only once the SMI
-/// command was read (S4). The SMI to all others (S2) goes out only once the release bytes are 0 (S1), or where no other slot is
-/// bound (S0).
+/// command was read (S4) or all reports are answered. The SMI to all others (S2) goes out only once the release bytes are 0 (S1), or
+/// where no other slot is bound (S0). An add (NB) begins only where the collection has ended or an outcome was told.
 #[tactic(auto, using(crate::proofs::Order::order))]
 pub fn a_session_keeps_its_order()
     ensures release { (y : Layout) (x : Seat) (r : Monarch) (l : Label) (v : ℕ) → part_of l ≡ Monarchs → r.label ≡ l →
         (next_at y x r l v).label ≡ E6 → (l ≡ E5) ⊎ (l ≡ E6) }
     ensures session { (y : Layout) (x : Seat) (r : Monarch) (l : Label) (v : ℕ) → part_of l ≡ Monarchs → r.label ≡ l →
-        (next_at y x r l v).label ≡ E5 → l ≡ S4 }
+        (next_at y x r l v).label ≡ E5 → (l ≡ S4) ⊎ TakesReports l }
     ensures broadcast { (y : Layout) (x : Seat) (r : Monarch) (l : Label) (v : ℕ) → part_of l ≡ Monarchs → r.label ≡ l →
         (next_at y x r l v).label ≡ S2 → (l ≡ S0) ⊎ (l ≡ S1) }
+    ensures add { (y : Layout) (x : Seat) (r : Monarch) (l : Label) (v : ℕ) → part_of l ≡ Monarchs → r.label ≡ l →
+        (next_at y x r l v).label ≡ NB → TakesReports l }
 {}

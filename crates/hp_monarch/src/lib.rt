@@ -1,6 +1,9 @@
 //! The monarch, the handler of processor 0 in SMM (own rule): a session from SMI entry to RSM.
 #![tactic(auto)]
 
+#[cfg(test)]
+mod add_tests;
+mod classes;
 mod laws;
 mod rows;
 mod sessions;

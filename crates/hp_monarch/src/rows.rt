@@ -1,11 +1,11 @@
-//! The labels that have a row.
+//! Where the monarch stands.
 
 ghost use Rattle.std.specs.Prelude.{◌≡◌};
 ghost use Rattle.hp_monarch.specs.Session.{label_of};
 
 use hp_model::Label;
 
-/// Where the monarch stands. Collection, adds and ejects have no row yet.
+/// The rows that are the monarch's own. Ejects have none yet.
 #[derive(Clone, Copy)]
 pub enum Row {
     /// The session byte becomes 1.
@@ -18,6 +18,8 @@ pub enum Row {
     S3,
     /// The SMI command is read.
     S4,
+    /// An outcome is told.
+    T,
     /// The session byte becomes 0.
     E5,
     /// The release byte of each bound slot from slot 1 on becomes 1.
@@ -36,9 +38,18 @@ impl Row {
             Row::S2 => Label::S2,
             Row::S3 => Label::S3,
             Row::S4 => Label::S4,
+            Row::T => Label::T,
             Row::E5 => Label::E5,
             Row::E6 => Label::E6,
             Row::E7 => Label::E7,
         }
     }
+}
+
+/// Where the monarch stands: at a row of its own, in the collection, or in an add.
+#[derive(Clone, Copy)]
+pub enum Place {
+    At(Row),
+    Collects,
+    Adds,
 }

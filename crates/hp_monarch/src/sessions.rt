@@ -1,18 +1,23 @@
 //! The monarch's record, what it wants, and how it goes on.
 
-ghost use Rattle.std.specs.Prelude.{◌≡◌, ◌↔◌, ◌<◌, ◌≤◌, ◌+◌, ◌^◌, Some, IfOk, length, replicate};
+ghost use Rattle.std.specs.Prelude.{◌≡◌, ◌≢◌, ◌↔◌, ◌<◌, ◌≤◌, ◌+◌, ◌^◌, ◌∷◌, ◌++◌, [], Some, IfOk, length, nat_lt, replicate, slice_set, vec_capacity, if◌then◌else◌};
 ghost use Rattle.hp_model.specs.declared.labels.Label.TheVariants as labels;
 ghost use Rattle.hp_model.specs.Boot.{value_in};
 ghost use Rattle.hp_model.specs.Handlers.{Seat, next_at, store_byte as store_of, want_at};
-ghost use Rattle.hp_model.specs.Monarch.{at_label, first_slot, look_at, looked, monarch_start, next_slot, noted, restarted, with_features};
+ghost use Rattle.hp_model.specs.Fitting.{FitsWant};
+ghost use Rattle.hp_model.specs.Monarch.{Adds, adds, class as class_at, commanded, first_slot, look_at, looked, monarch_start, next_report, next_slot, noted, restarted, told, with_features};
 ghost use Rattle.hp_model.specs.Platform.{IsFit};
 ghost use Rattle.hp_model.specs.SharedBytes.{layout_of};
 ghost use Rattle.hp_model.specs.Slots.{known_from};
-ghost use Rattle.hp_monarch.specs.Session.{Fits, label_of};
+ghost use Rattle.hp_collect.specs.Collecting.{report_of};
+ghost use Rattle.hp_monarch.specs.declared.rows.Row.TheVariants as rows;
+ghost use Rattle.hp_monarch.specs.Session.{Fits, ReadsByte, label_of};
 
-use crate::rows::Row;
-use hp_model::{Access, Answer, Label, NoMemory, Platform, Want, tseg};
-use hp_reloc::{Slots, value_of};
+use crate::classes::{Class, judge};
+use crate::rows::{Place, Row};
+use hp_collect::{Collect, Reported, Stage};
+use hp_model::{Access, Answer, Label, NoMemory, Outcome, Platform, Refusal, Want, tseg};
+use hp_reloc::{Reloc, Slots, value_of};
 use std::alloc::Global;
 use std::marker::Model;
 
@@ -22,10 +27,14 @@ const RELEASE: u32 = 0x1000;
 const SESSION: u32 = 0x4000;
 /// The port of the SMI command (ICH9).
 const APM_CNT: u16 = 0xb2;
+/// The SMI command that announces processors (own rule, after EDK II).
+const COLLECT: u64 = 4;
 /// The low half of an interrupt command that is an SMI to all but the sender.
 const SMI_TO_OTHERS: u32 = 0xc0200;
 /// What stands for a byte that wasn't read in this session. A byte that is read as 2 counts as not read.
 const UNREAD: u8 = 2;
+/// As many slots as there may be.
+const MOST_SLOTS: usize = 64;
 
 /// Whether a session goes on.
 #[derive(Clone, Copy, Debug, PartialEq)]
@@ -42,34 +51,53 @@ pub struct Monarch {
     tseg: u32,
     /// How many processors are possible.
     count: u32,
-    /// How often an arrived byte is looked at, at most.
+    /// How often a byte is looked at, at most.
     looks: u32,
-    row: Row,
+    place: Place,
     /// The slot whose byte is next.
     slot: u32,
-    /// Looks left at one arrived byte.
+    /// Looks left at one arrived byte, before the SMI command is read.
     polls: u32,
     slots: Slots,
     /// Of each bound slot, what was last read of its arrived byte in this session, or `UNREAD`.
     last: Vec<u8>,
     /// The negotiated SMI features.
     features: u64,
+    collect: Collect,
+    /// How many of its reports were taken up.
+    taken: usize,
+    add: Reloc,
+    /// What is told next, or was told last.
+    outcome: Outcome,
 }
 
 impl Model for Monarch {
     ghost use Rattle.std.specs.Prelude.{vec_capacity};
+    ghost use Rattle.hp_collect.specs.Collecting.{collection_in};
+    ghost use Rattle.hp_reloc.specs.Relocating.{add_in};
     ghost use Rattle.hp_monarch.specs.Session.{Session};
 
     ghost Value = { Session };
 
-    ghost use Rattle.hp_monarch.specs.Session.{IsSound, label_of};
+    ghost use Rattle.hp_monarch.specs.Session.{IsSound, label_at};
 
     ghost view = { λ m. record {
-      layout = record { tseg = m.tseg; count = m.count; polls = m.looks };
-      monarch = record { label = label_of m.row; slot = m.slot; polls = m.polls; slots = m.slots.slots; last = m.last.items; features = m.features };
+      layout = record { tseg = m.tseg; count = m.count; apics = m.slots.possible; polls = m.looks };
+      monarch = record {
+        label = label_at m.place m.collect.collected m.add.led;
+        slot = m.slot;
+        polls = m.polls;
+        slots = m.slots.slots;
+        last = m.last.items;
+        features = m.features;
+        collection = collection_in m.collect.collected;
+        taken = m.taken;
+        add = add_in m.add.led m.add.add;
+        outcome = m.outcome;
+      };
     } };
 
-    ghost invariant = { λ m. IsSound m.tseg m.count m.slot m.slots.slots m.slots.possible m.last.items (vec_capacity m.last) };
+    ghost invariant = { λ m. IsSound m.tseg m.count m.looks m.slot m.place m.slots m.last.items (vec_capacity m.last) m.collect m.add };
 }
 
 /// A store of one byte.
@@ -91,20 +119,24 @@ impl Monarch {
         ensures layout { IfOk result (λ m. m.layout ≡ layout_of p.now) }
         ensures monarch { IfOk result (λ m. m.monarch ≡ monarch_start p.now) }
     {
-        let count = p.apic.0.len();
+        let count = p.apic.0.len() as u32;
         let slots = Slots::new(alloc, p)?;
         let mut last = vec![in alloc; UNREAD; slots.count() as usize]?;
-        last.reserve(count)?;
+        last.reserve(MOST_SLOTS)?;
         Ok(Monarch {
             tseg: tseg(p),
-            count: count as u32,
+            count,
             looks: p.polls,
-            row: Row::S0,
+            place: Place::At(Row::S0),
             slot: 0,
             polls: 0,
             slots,
             last,
             features: 0,
+            collect: Collect::new(alloc, count)?,
+            taken: 0,
+            add: Reloc::new(p, 0, 0, 0),
+            outcome: Outcome::Refused(Refusal::Disabled { cpu: 0, status: 0 }),
         })
     }
 
@@ -119,7 +151,7 @@ impl Monarch {
     pub fn restart(&mut self)
         ensures { self.new ≡ record self.old { monarch = restarted self.old.monarch } }
     {
-        self.row = Row::S0;
+        self.place = Place::At(Row::S0);
         self.slot = 0;
         self.polls = 0;
         forget(self.last.as_mut_slice());
@@ -152,14 +184,29 @@ impl Monarch {
     pub fn label(&self) -> Label
         ensures { result ≡ self.now.monarch.label }
     {
-        self.row.label()
+        match self.place {
+            Place::At(row) => row.label(),
+            Place::Collects => self.collect.label(),
+            Place::Adds => self.add.label(),
+        }
     }
 
-    /// What the monarch wants where it stands.
+    /// What the monarch wants where it stands: an access, to tell an outcome, or RSM.
     pub fn want(&self) -> Want
         ensures { (x : Seat) → want_at self.now.layout x self.now.monarch self.now.monarch.label ≡ Some result }
     {
-        match self.row {
+        match self.place {
+            Place::At(row) => self.want_in(row),
+            Place::Collects => Want::Do(self.collect.want()),
+            Place::Adds => Want::Do(self.add.want()),
+        }
+    }
+
+    /// What it wants at a row of its own.
+    fn want_in(&self, row: Row) -> Want
+        ensures { (x : Seat) → want_at self.now.layout x self.now.monarch (label_of row) ≡ Some result }
+    {
+        match row {
             Row::S0 => store_byte(self.tseg + SESSION, 1),
             Row::S1 => store_byte(self.tseg + RELEASE + self.slot, 0),
             Row::S2 => Want::Do(Access::Icr {
@@ -174,6 +221,7 @@ impl Monarch {
                 port: APM_CNT,
                 width: 1,
             }),
+            Row::T => Want::Tell(self.outcome),
             Row::E5 => store_byte(self.tseg + SESSION, 0),
             Row::E6 => store_byte(self.tseg + RELEASE + self.slot, 1),
             Row::E7 => Want::Resume,
@@ -185,10 +233,10 @@ impl Monarch {
         ensures { self.new ≡ record self.old { monarch = first_slot (label_of each) (label_of past) self.old.monarch } }
     {
         if self.slots.count() > 1 {
-            self.row = each;
+            self.place = Place::At(each);
             self.slot = 1;
         } else {
-            self.row = past;
+            self.place = Place::At(past);
         }
     }
 
@@ -197,10 +245,10 @@ impl Monarch {
         ensures { self.new ≡ record self.old { monarch = next_slot (label_of each) (label_of past) self.old.monarch } }
     {
         if self.slot + 1 < self.slots.count() {
-            self.row = each;
+            self.place = Place::At(each);
             self.slot += 1;
         } else {
-            self.row = past;
+            self.place = Place::At(past);
         }
     }
 
@@ -210,11 +258,11 @@ impl Monarch {
     {
         match self.slots.known_from(slot) {
             Some(slot) => {
-                self.row = Row::S3;
+                self.place = Place::At(Row::S3);
                 self.slot = slot;
                 self.polls = self.looks;
             }
-            None => self.row = Row::S4,
+            None => self.place = Place::At(Row::S4),
         }
     }
 
@@ -230,6 +278,85 @@ impl Monarch {
         }
     }
 
+    /// The SMI command was read: 4 begins a collection, any other ends the session.
+    fn obey(&mut self, command: u64)
+        ensures { self.new ≡ record self.old { monarch = commanded command self.old.monarch } }
+    {
+        if command == COLLECT {
+            self.collect.restart();
+            self.taken = 0;
+            self.place = Place::Collects;
+        } else {
+            self.place = Place::At(Row::E5);
+        }
+    }
+
+    /// An add begins: its APIC ID is bound and held. The byte of a new slot wasn't read.
+    #[tactic(auto, using(crate::proofs::Adds::add_facts))]
+    fn begin(&mut self, report: Reported)
+        requires { class_at self.old.layout.apics self.old.monarch.slots (report_of report) ≡ Adds }
+        ensures { self.new ≡ record self.old { monarch = adds (report_of report) self.old.monarch } }
+    {
+        let slot = self.slots.bind(report.apic);
+        add_unread(&mut self.last, self.slots.count());
+        self.add.restart(report.cpu, report.apic, slot);
+        self.place = Place::Adds;
+    }
+
+    /// The next report that isn't passed over is answered, by an outcome or an add. Without one the session ends.
+    #[tactic(auto, using(crate::proofs::Reports::report_facts))]
+    fn take_next(&mut self)
+        ensures { self.new ≡ record self.old { monarch = next_report self.old.layout.apics self.old.monarch } }
+    {
+        let Some(report) = self.collect.report().get(self.taken) else {
+            self.place = Place::At(Row::E5);
+            return;
+        };
+        let report = *report;
+        self.taken += 1;
+        match judge(&self.slots, report) {
+            Class::Tells(outcome) => {
+                self.outcome = outcome;
+                self.place = Place::At(Row::T);
+            }
+            Class::Adds => self.begin(report),
+            Class::PassesOver => self.take_next(),
+        }
+    }
+
+    /// An outcome was told: an APIC ID that was added is known from here on.
+    fn complete(&mut self)
+        ensures { self.new ≡ record self.old { monarch = told self.old.monarch.outcome self.old.monarch } }
+    {
+        if let Outcome::Added { apic, .. } = self.outcome {
+            self.slots.complete(apic);
+        }
+    }
+
+    /// The answer at a row of the monarch's own.
+    fn feed_in(&mut self, row: Row, answer: Answer) -> Phase
+        requires here { self.old.monarch.label ≡ label_of row }
+        requires fits { (x : Seat) → FitsWant (want_at self.old.layout x self.old.monarch (label_of row)) answer }
+        ensures monarch { (x : Seat) → self.new ≡ record self.old { monarch = (next_at self.old.layout x self.old.monarch (label_of row) (value_in answer)).monarch } }
+        ensures left { (result ≡ Phase.Left) ↔ (row ≡ rows.E7) }
+    {
+        match row {
+            Row::S0 => self.go_to_first(Row::S1, Row::S2),
+            Row::S1 => self.go_to_next(Row::S1, Row::S2),
+            Row::S2 => self.look_from(1),
+            Row::S3 => self.look(value_of(answer) as u8),
+            Row::S4 => self.obey(value_of(answer)),
+            Row::T => {
+                self.complete();
+                self.take_next();
+            }
+            Row::E5 => self.go_to_first(Row::E6, Row::E7),
+            Row::E6 => self.go_to_next(Row::E6, Row::E7),
+            Row::E7 => return Phase::Left,
+        }
+        Phase::More
+    }
+
     /// The answer to what is wanted, and where it leads. RSM is answered by `Quiet`, and leads nowhere: the next session begins
     /// with `restart`.
     pub fn feed(&mut self, answer: Answer) -> Phase
@@ -237,17 +364,50 @@ impl Monarch {
         ensures monarch { (x : Seat) → self.new ≡ record self.old { monarch = (next_at self.old.layout x self.old.monarch self.old.monarch.label (value_in answer)).monarch } }
         ensures left { (result ≡ Phase.Left) ↔ (self.old.monarch.label ≡ labels.E7) }
     {
-        match self.row {
-            Row::S0 => self.go_to_first(Row::S1, Row::S2),
-            Row::S1 => self.go_to_next(Row::S1, Row::S2),
-            Row::S2 => self.look_from(1),
-            Row::S3 => self.look(value_of(answer) as u8),
-            Row::S4 => self.row = Row::E5,
-            Row::E5 => self.go_to_first(Row::E6, Row::E7),
-            Row::E6 => self.go_to_next(Row::E6, Row::E7),
-            Row::E7 => return Phase::Left,
+        match self.place {
+            Place::At(row) => return self.feed_in(row, answer),
+            Place::Collects => {
+                if let Stage::Ended = self.collect.feed(answer) {
+                    self.place = Place::At(Row::E5);
+                    self.take_next();
+                }
+            }
+            Place::Adds => {
+                let label = self.add.label();
+                note(self.last.as_mut_slice(), label, self.add.slot(), answer);
+                self.add.feed(answer);
+                if let Some(outcome) = self.add.outcome() {
+                    self.outcome = outcome;
+                    self.place = Place::At(Row::T);
+                }
+            }
         }
         Phase::More
+    }
+}
+
+/// An add reads the arrived byte of its slot at N8b and at N11.
+fn note(last: &mut [u8], label: Label, slot: u32, answer: Answer)
+    requires slot { slot < length last.old }
+    requires byte { ReadsByte label → value_in answer < 256 }
+    ensures read { ReadsByte label → last.new ≡ slice_set last.old slot (value_in answer) }
+    ensures other { label ≢ labels.N8b → label ≢ labels.N11 → last.new ≡ last.old }
+    ensures bytes { length last.new ≡ length last.old }
+{
+    if let Label::N8b | Label::N11 = label {
+        last[slot as usize] = value_of(answer) as u8;
+    }
+}
+
+/// A slot that is bound anew has its byte, which wasn't read.
+fn add_unread(last: &mut Vec<u8>, bound: u32)
+    requires few { bound ≤ 64 }
+    requires room { 64 ≤ vec_capacity last.old }
+    ensures bytes { last.new.items ≡ (if nat_lt (length last.old.items) bound then last.old.items ++ 2 ∷ [] else last.old.items) }
+    ensures room { 64 ≤ vec_capacity last.new }
+{
+    if last.len() < bound as usize {
+        last.push(UNREAD).unwrap();
     }
 }
 

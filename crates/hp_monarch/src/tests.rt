@@ -1,8 +1,7 @@
 //! Sessions that were worked by hand.
 
 ghost use Rattle.std.specs.Prelude.{IsTrue, Some};
-ghost use Rattle.hp_model.specs.Fitting.{FitsAccess};
-ghost use Rattle.hp_reloc.specs.Fits.{FitsWant};
+ghost use Rattle.hp_model.specs.Fitting.{FitsAccess, FitsWant};
 
 use crate::{Monarch, Phase};
 use hp_model::{Access, Answer, Delivery, Ids, NoMemory, Platform, Want, fits};
@@ -10,7 +9,7 @@ use std::alloc::Global;
 use std::process::Abort;
 use std::test::Fail;
 
-fn platform(alloc: Global, boot: &[u32], polls: u32) -> Result<Platform, NoMemory> {
+pub(crate) fn platform(alloc: Global, boot: &[u32], polls: u32) -> Result<Platform, NoMemory> {
     Ok(Platform {
         apic: Ids(vec![in alloc; 0, 4, 8]?),
         boot: Ids(Vec::from_slice(alloc, boot)?),
@@ -25,7 +24,12 @@ fn platform(alloc: Global, boot: &[u32], polls: u32) -> Result<Platform, NoMemor
     })
 }
 
-fn start(rt: &impl Abort, alloc: Global, boot: &[u32], polls: u32) -> Result<Monarch, NoMemory> {
+pub(crate) fn start(
+    rt: &impl Abort,
+    alloc: Global,
+    boot: &[u32],
+    polls: u32,
+) -> Result<Monarch, NoMemory> {
     let p = platform(alloc, boot, polls)?;
     assert!(rt; fits(&p).is_ok());
     Monarch::new(alloc, &p)
@@ -36,9 +40,11 @@ fn fits_access(access: Access, answer: Answer) -> bool
     ensures { IsTrue result → FitsAccess access answer }
 {
     match (access, answer) {
-        (Access::Load { width: 1, .. }, Answer::Value(value)) => value < 0x100,
-        (Access::In { width: 1, .. }, Answer::Value(value)) => value < 0x100,
-        (Access::Store { .. } | Access::Icr { .. }, Answer::Quiet) => true,
+        (Access::Load { width, .. }, Answer::Value(value)) => width == 1 && value < 0x100,
+        (Access::In { width, .. }, Answer::Value(value)) => {
+            (width == 1 && value < 0x100) || (width == 4 && value < 0x1_0000_0000)
+        }
+        (Access::Store { .. } | Access::Out { .. } | Access::Icr { .. }, Answer::Quiet) => true,
         _ => false,
     }
 }
@@ -62,7 +68,7 @@ fn access_of(want: Want) -> Option<Access> {
 }
 
 /// Feeds the answer to what the monarch is to want.
-fn feed(
+pub(crate) fn feed(
     rt: &impl Abort,
     m: &mut Monarch,
     access: Option<Access>,
@@ -75,7 +81,7 @@ fn feed(
     m.feed(answer)
 }
 
-fn store(addr: u32, value: u64) -> (Option<Access>, Answer) {
+pub(crate) fn store(addr: u32, value: u64) -> (Option<Access>, Answer) {
     (
         Some(Access::Store {
             addr,
@@ -86,11 +92,11 @@ fn store(addr: u32, value: u64) -> (Option<Access>, Answer) {
     )
 }
 
-fn load(addr: u32, value: u64) -> (Option<Access>, Answer) {
+pub(crate) fn load(addr: u32, value: u64) -> (Option<Access>, Answer) {
     (Some(Access::Load { addr, width: 1 }), Answer::Value(value))
 }
 
-fn broadcast() -> (Option<Access>, Answer) {
+pub(crate) fn broadcast() -> (Option<Access>, Answer) {
     (
         Some(Access::Icr {
             high: 0,
@@ -100,7 +106,7 @@ fn broadcast() -> (Option<Access>, Answer) {
     )
 }
 
-fn command(value: u64) -> (Option<Access>, Answer) {
+pub(crate) fn command(value: u64) -> (Option<Access>, Answer) {
     (
         Some(Access::In {
             port: 0xb2,
@@ -111,7 +117,7 @@ fn command(value: u64) -> (Option<Access>, Answer) {
 }
 
 /// Feeds these rows, of which the last alone leaves.
-fn play(rt: &impl Abort, m: &mut Monarch, rows: &[(Option<Access>, Answer)]) {
+pub(crate) fn play(rt: &impl Abort, m: &mut Monarch, rows: &[(Option<Access>, Answer)]) {
     for (row, (access, answer)) in rows.iter().enumerate() {
         let phase = feed(rt, m, *access, *answer, row);
         let wanted = if row + 1 == rows.len() {
@@ -174,7 +180,7 @@ fn a_lone_processor_waits_for_none(rt: HostRuntime) -> Result<(), Fail> {
     let rows = [
         store(0x7f04000, 1),
         broadcast(),
-        command(4),
+        command(5),
         store(0x7f04000, 0),
         (None, Answer::Quiet),
     ];

@@ -16,7 +16,7 @@ use Rattle.hp_model.specs.declared.entries.Event.TheVariants as event
 use Rattle.hp_model.specs.declared.labels.Label.{Label}
 use Rattle.hp_model.specs.Boot.{Stage, Boots, Refused, Handed, is_booting, is_handed, boot_access, boot_next}
 use Rattle.hp_model.specs.Cpu.{is_in_smm}
-use Rattle.hp_model.specs.Fitting.{FitsAccess}
+use Rattle.hp_model.specs.Fitting.{FitsAccess, FitsWant}
 use Rattle.hp_model.specs.declared.processors.Cpu.{Cpu}
 use Rattle.hp_model.specs.Handlers.{Seat, wanted_at}
 use Rattle.hp_model.specs.SharedBytes.{Layout}
@@ -24,7 +24,6 @@ use Rattle.hp_model.specs.Monarch.{Monarch}
 use Rattle.hp_model.specs.Step.{State, at, can_do, same_access, is_handlers, is_enabled, is_wanted, wanted_in, is_that_access, is_that_outcome, is_rsm, wanted, write_port, access_effect, effect_of, answer_of, is_on_block, is_fw_cfg_data, is_fw_cfg_selector, is_dma_high, is_dma_low, row_at, with_session, row_led, handlers_led}
 use Rattle.hp_model.proofs.Same.{same_access-equal}
 use Rattle.hp_machine.specs.Machine.{FitsEvent}
-use Rattle.hp_reloc.specs.Fits.{FitsWant}
 use Rattle.hp_platform.specs.Board.{Board, IsReady, Shows, row_event}
 
 -- the monarch's record is the firmware's alone

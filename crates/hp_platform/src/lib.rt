@@ -1,6 +1,8 @@
 //! The world: the machine, its firmware and its agents, one turn an actor, with the list of all steps that were made.
 #![tactic(auto)]
 
+#[cfg(test)]
+mod add_tests;
 mod boards;
 mod dues;
 mod laws;

@@ -15,7 +15,12 @@ use std::test::Fail;
 
 /// So many possible processors, of which the first `boot` are there at boot. TSEG begins at 7f00000 or, of 8 MiB, at
 /// 7800000.
-fn platform(alloc: Global, count: u32, boot: u32, tseg_mib: u32) -> Result<Platform, NoMemory> {
+pub(crate) fn platform(
+    alloc: Global,
+    count: u32,
+    boot: u32,
+    tseg_mib: u32,
+) -> Result<Platform, NoMemory> {
     let mut ids = Vec::new(alloc);
     for place in 0..count {
         ids.push(place)?;
@@ -39,7 +44,7 @@ fn platform(alloc: Global, count: u32, boot: u32, tseg_mib: u32) -> Result<Platf
 }
 
 /// The world of a platform with these agents.
-fn world<A: Agent>(
+pub(crate) fn world<A: Agent>(
     rt: &impl Abort,
     alloc: Global,
     p: &Platform,
@@ -83,7 +88,7 @@ impl Agent for Echo {
 
 /// What an actor's turn made, as a test compares it.
 #[derive(Clone, Copy, Debug, PartialEq)]
-enum Seen {
+pub(crate) enum Seen {
     /// An access with its answer; in SMM with the instruction address.
     Does(u32, Option<u32>, Access, Answer),
     TakesSmi(u32),
@@ -95,7 +100,7 @@ enum Seen {
     Nothing,
 }
 
-fn seen_entry(entry: &Entry) -> Seen {
+pub(crate) fn seen_entry(entry: &Entry) -> Seen {
     match entry.event {
         Event::Do(k, access) => Seen::Does(k, entry.at, access, entry.answer),
         Event::TakeSmi(k) => Seen::TakesSmi(k),
@@ -149,7 +154,7 @@ const TO_OTHERS: Access = Access::Icr {
     low: 0xc0200,
 };
 
-fn turn<A: Agent>(world: &mut World<A>, a: Actor) -> Result<Seen, NoMemory> {
+pub(crate) fn turn<A: Agent>(world: &mut World<A>, a: Actor) -> Result<Seen, NoMemory> {
     match world.turn(a)? {
         Turn::Made(entry) => Ok(seen_entry(&entry)),
         Turn::Idle => Ok(Seen::Nothing),
@@ -169,7 +174,7 @@ fn boot_steps<A: Agent>(rt: &impl Abort, world: &mut World<A>, count: u32) -> Re
     Ok(())
 }
 
-fn boot<A: Agent>(rt: &impl Abort, world: &mut World<A>) -> Result<(), Fail> {
+pub(crate) fn boot<A: Agent>(rt: &impl Abort, world: &mut World<A>) -> Result<(), Fail> {
     boot_steps(rt, world, 27)?;
     assert!(rt; world.handed());
     assert_eq!(rt; world.boot_fact(), None);
@@ -177,7 +182,10 @@ fn boot<A: Agent>(rt: &impl Abort, world: &mut World<A>) -> Result<(), Fail> {
 }
 
 /// Processor 0 says these steps.
-fn led<A: Agent>(alloc: Global, steps: Vec<Access>) -> Result<Vec<Option<Voice<A>>>, NoMemory> {
+pub(crate) fn led<A: Agent>(
+    alloc: Global,
+    steps: Vec<Access>,
+) -> Result<Vec<Option<Voice<A>>>, NoMemory> {
     let mut voices = Vec::new(alloc);
     voices.push(Some(Voice::Script(Script::new(Steps(steps)))))?;
     Ok(voices)
@@ -195,7 +203,7 @@ fn commanded(rt: &impl Abort, alloc: Global, p: &Platform) -> Result<World<PenAg
 }
 
 /// A platform of two processors, the first there at boot.
-fn two(alloc: Global) -> Result<Platform, NoMemory> {
+pub(crate) fn two(alloc: Global) -> Result<Platform, NoMemory> {
     platform(alloc, 2, 1, 1)
 }
 
@@ -312,7 +320,7 @@ fn compare(rt: &impl Abort, entries: &[Entry], want: &[Seen]) {
 }
 
 /// So many turns of each of the first processors, round and round.
-fn rounds<A: Agent>(world: &mut World<A>, count: u32, rounds: u32) -> Result<(), Fail> {
+pub(crate) fn rounds<A: Agent>(world: &mut World<A>, count: u32, rounds: u32) -> Result<(), Fail> {
     for _round in 0..rounds {
         for k in 0..count {
             let _made = cpu(world, k)?;
@@ -339,7 +347,7 @@ fn two_processors_meet_in_smm(rt: HostRuntime) -> Result<(), Fail> {
 }
 
 /// How often something was seen.
-fn times(entries: &[Entry], seen: Seen) -> u32 {
+pub(crate) fn times(entries: &[Entry], seen: Seen) -> u32 {
     let mut count = 0u32;
     for entry in entries {
         if seen_entry(entry) == seen {

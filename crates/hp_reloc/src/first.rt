@@ -12,20 +12,20 @@ ghost use Rattle.hp_reloc.specs.Fits.{FitsFirst};
 use hp_model::{Access, Answer, Label, Want};
 
 /// The APIC ID that may pass, or `CLOSED`: 8 bytes.
-const GATE: u32 = 0x30000;
+pub const GATE: u32 = 0x30000;
 
-const CLOSED: u64 = 0xffffffffffffffff;
+pub const CLOSED: u64 = 0xffffffffffffffff;
 /// The SMBASE for whoever passes: 4 bytes.
-const NEW_SMBASE: u32 = 0x30008;
+pub const NEW_SMBASE: u32 = 0x30008;
 /// 1 once whoever passed has stored its new SMBASE: 1 byte.
-const FLAG: u32 = 0x3000c;
+pub const FLAG: u32 = 0x3000c;
 /// Where SMI entry at the default SMBASE saves SMBASE: 4 bytes.
 const SMBASE_FIELD: u32 = 0x3ff00;
 /// The low half of an interrupt command that is an SMI to one APIC ID.
-const SMI: u32 = 0x200;
+pub const SMI: u32 = 0x200;
 
 /// The high half of an interrupt command to this APIC ID, which is in bits 31 to 24.
-fn destination(apic: u32) -> u32
+pub fn destination(apic: u32) -> u32
     requires { apic ≤ 254 }
     ensures { result ≡ apic * 0x1000000 }
 {

@@ -1,6 +1,6 @@
 //! Which APIC ID has which slot (own rule).
 
-ghost use Rattle.std.specs.Prelude.{◌≡◌, ◌≢◌, ◌<◌, ◌≤◌, ◌+◌, ◌∷◌, ◌++◌, [], true, false, Some, None, IfOk, IfSome, length, drop, map, nat_lt, slice_index_or, slice_set, vec_len, vec_capacity, if◌then◌else◌};
+ghost use Rattle.std.specs.Prelude.{◌≡◌, ◌≢◌, ◌<◌, ◌≤◌, ◌+◌, ◌∷◌, ◌++◌, [], true, false, Some, None, IfOk, IfSome, length, drop, map, nat_lt, slice_get, slice_index_or, slice_set, vec_len, vec_capacity, if◌then◌else◌};
 ghost use Rattle.std.specs.List.{list_all};
 ghost use Rattle.hp_model.specs.Block.{is_in};
 ghost use Rattle.hp_model.specs.Platform.{IsFit};
@@ -126,6 +126,13 @@ impl Slots {
         place_among(self.possible.as_slice(), apic).is_some()
     }
 
+    /// The APIC ID of the possible processor in this place; none in a place past the last.
+    pub fn id_of(&self, cpu: u32) -> Option<u32>
+        ensures { result ≡ slice_get self.now.possible cpu }
+    {
+        self.possible.get(cpu as usize).copied()
+    }
+
     /// The APIC ID whose add isn't complete.
     pub fn held(&self) -> Option<u32>
         ensures { result ≡ self.now.slots.held }
@@ -169,10 +176,9 @@ impl Slots {
         slot
     }
 
-    /// An add is complete: its APIC ID is known and no longer held.
+    /// The add of this APIC ID is complete: no APIC ID is held any longer, and this one is known, if it has a slot.
     #[tactic(auto, using(crate::proofs::Places::set_facts))]
     pub fn complete(&mut self, apic: u32)
-        requires { self.old.slots.held ≡ Some apic }
         ensures { self.new ≡ record self.old { slots = completed apic self.old.slots } }
     {
         self.held = None;

@@ -34,15 +34,6 @@ fn bind(rt: &impl Abort, slots: &mut Slots, apic: u32) -> u32 {
     slots.bind(apic)
 }
 
-fn complete(rt: &impl Abort, slots: &mut Slots, apic: u32) {
-    let is_held = match slots.held() {
-        Some(held) => held == apic,
-        None => false,
-    };
-    assert!(rt; is_held);
-    slots.complete(apic);
-}
-
 fn forget(rt: &impl Abort, slots: &mut Slots, apic: u32) {
     assert!(rt; slots.known(apic));
     let is_first = match slots.bound(apic) {
@@ -67,6 +58,9 @@ fn boot_processors_have_the_first_slots_and_are_known(rt: HostRuntime) -> Result
         assert_eq!(rt; slots.known(apic), known, "{apic}");
         assert_eq!(rt; slots.is_possible(apic), possible, "{apic}");
     }
+    for (cpu, apic) in [(0, Some(0)), (1, Some(4)), (3, Some(9)), (4, None)] {
+        assert_eq!(rt; slots.id_of(cpu), apic, "{cpu}");
+    }
     assert_eq!(rt; slots.held(), None);
     assert_eq!(rt; slots.count(), 2);
     Ok(())
@@ -78,7 +72,7 @@ fn an_added_apic_id_keeps_its_slot_through_an_eject(rt: HostRuntime) -> Result<(
     assert_eq!(rt; bind(&rt, &mut slots, 9), 2);
     assert_eq!(rt; slots.held(), Some(9));
     assert!(rt; !slots.known(9));
-    complete(&rt, &mut slots, 9);
+    slots.complete(9);
     assert_eq!(rt; slots.held(), None);
     assert!(rt; slots.known(9));
     forget(&rt, &mut slots, 8);
@@ -86,9 +80,22 @@ fn an_added_apic_id_keeps_its_slot_through_an_eject(rt: HostRuntime) -> Result<(
     assert!(rt; !slots.known(8));
     // all possible APIC IDs have a slot, and 8 gets its own again
     assert_eq!(rt; bind(&rt, &mut slots, 4), 3);
-    complete(&rt, &mut slots, 4);
+    slots.complete(4);
     assert_eq!(rt; bind(&rt, &mut slots, 8), 1);
     assert_eq!(rt; slots.count(), 4);
+    Ok(())
+}
+
+// whichever APIC ID is held, none is after that; one without a slot doesn't become known
+#[test]
+fn an_add_is_complete_though_its_apic_id_has_no_slot(rt: HostRuntime) -> Result<(), Fail> {
+    let mut slots = start(&rt, rt.alloc())?;
+    let _ = bind(&rt, &mut slots, 4);
+    slots.complete(9);
+    assert_eq!(rt; slots.held(), None);
+    assert!(rt; !slots.known(9));
+    assert!(rt; !slots.known(4));
+    assert_eq!(rt; slots.count(), 3);
     Ok(())
 }
 
@@ -96,7 +103,7 @@ fn an_added_apic_id_keeps_its_slot_through_an_eject(rt: HostRuntime) -> Result<(
 fn the_next_known_slot_passes_those_that_are_not(rt: HostRuntime) -> Result<(), Fail> {
     let mut slots = start(&rt, rt.alloc())?;
     let _ = bind(&rt, &mut slots, 4);
-    complete(&rt, &mut slots, 4);
+    slots.complete(4);
     forget(&rt, &mut slots, 8);
     for (from, next) in [
         (0, Some(0)),

@@ -1,11 +1,17 @@
 -- A fact of each row that is reached, one field a label, so that a table of facts has no line for the others.
-use Rattle.std.proofs.Common.{◌≡◌, true}
+use Rattle.std.proofs.Common.{ℕ, Bool}
 use Rattle.hp_model.specs.declared.labels.Label.{Label}
 use Rattle.hp_model.specs.declared.labels.Label.TheVariants.{F1, F2, F3, F4, F5, F6, R1, R2, R3, R4, R5, R6, S0, S1, S2, S3, S4, C1, C2, C3, C4, C5, C6, NB, N0, N1, N2, N3, N4, N5, N6, N7, N8a, N8b, N9, N10, N11, E0, E1, E2, E3, E4a, E4b, E4c, E4d, E4e, T, E5, E6, E7}
-use Rattle.hp_safety.proofs.Reached.{is_reached}
+use Rattle.hp_model.specs.Labels.{part_of}
+use Rattle.hp_safety.proofs.Needs.{need_of, Needs}
 
 pub record EachRow (P : Label → Type 0) : Type 0 where
   pub f1 : P F1
+  pub f2 : P F2
+  pub f3 : P F3
+  pub f4 : P F4
+  pub f5 : P F5
+  pub f6 : P F6
   pub r1 : P R1
   pub r2 : P R2
   pub r3 : P R3
@@ -17,58 +23,79 @@ pub record EachRow (P : Label → Type 0) : Type 0 where
   pub s2 : P S2
   pub s3 : P S3
   pub s4 : P S4
+  pub c1 : P C1
+  pub c2 : P C2
+  pub c3 : P C3
+  pub c4 : P C4
+  pub c5 : P C5
+  pub c6 : P C6
+  pub nb : P NB
+  pub n0 : P N0
+  pub n1 : P N1
+  pub n2 : P N2
+  pub n3 : P N3
+  pub n4 : P N4
+  pub n5 : P N5
+  pub n6 : P N6
+  pub n7 : P N7
+  pub n8a : P N8a
+  pub n8b : P N8b
+  pub n9 : P N9
+  pub n10 : P N10
+  pub n11 : P N11
+  pub t : P T
   pub e5 : P E5
   pub e6 : P E6
   pub e7 : P E7
 
-pub row_of_each : (P : Label → Type 0) → EachRow P → (l : Label) → is_reached l ≡ true → P l
-row_of_each P h F1 is = h.f1
-row_of_each P h F2 is = absurd cc
-row_of_each P h F3 is = absurd cc
-row_of_each P h F4 is = absurd cc
-row_of_each P h F5 is = absurd cc
-row_of_each P h F6 is = absurd cc
-row_of_each P h R1 is = h.r1
-row_of_each P h R2 is = h.r2
-row_of_each P h R3 is = h.r3
-row_of_each P h R4 is = h.r4
-row_of_each P h R5 is = h.r5
-row_of_each P h R6 is = h.r6
-row_of_each P h S0 is = h.s0
-row_of_each P h S1 is = h.s1
-row_of_each P h S2 is = h.s2
-row_of_each P h S3 is = h.s3
-row_of_each P h S4 is = h.s4
-row_of_each P h C1 is = absurd cc
-row_of_each P h C2 is = absurd cc
-row_of_each P h C3 is = absurd cc
-row_of_each P h C4 is = absurd cc
-row_of_each P h C5 is = absurd cc
-row_of_each P h C6 is = absurd cc
-row_of_each P h NB is = absurd cc
-row_of_each P h N0 is = absurd cc
-row_of_each P h N1 is = absurd cc
-row_of_each P h N2 is = absurd cc
-row_of_each P h N3 is = absurd cc
-row_of_each P h N4 is = absurd cc
-row_of_each P h N5 is = absurd cc
-row_of_each P h N6 is = absurd cc
-row_of_each P h N7 is = absurd cc
-row_of_each P h N8a is = absurd cc
-row_of_each P h N8b is = absurd cc
-row_of_each P h N9 is = absurd cc
-row_of_each P h N10 is = absurd cc
-row_of_each P h N11 is = absurd cc
-row_of_each P h E0 is = absurd cc
-row_of_each P h E1 is = absurd cc
-row_of_each P h E2 is = absurd cc
-row_of_each P h E3 is = absurd cc
-row_of_each P h E4a is = absurd cc
-row_of_each P h E4b is = absurd cc
-row_of_each P h E4c is = absurd cc
-row_of_each P h E4d is = absurd cc
-row_of_each P h E4e is = absurd cc
-row_of_each P h T is = absurd cc
-row_of_each P h E5 is = h.e5
-row_of_each P h E6 is = h.e6
-row_of_each P h E7 is = h.e7
+pub row_of_each : (P : Label → Type 0) → EachRow P → (count : ℕ) (ready tiled : Bool) (slot : ℕ) (l : Label) → Needs count ready tiled slot (part_of l) (need_of l) → P l
+row_of_each P h count ready tiled slot F1 is = h.f1
+row_of_each P h count ready tiled slot F2 is = h.f2
+row_of_each P h count ready tiled slot F3 is = h.f3
+row_of_each P h count ready tiled slot F4 is = h.f4
+row_of_each P h count ready tiled slot F5 is = h.f5
+row_of_each P h count ready tiled slot F6 is = h.f6
+row_of_each P h count ready tiled slot R1 is = h.r1
+row_of_each P h count ready tiled slot R2 is = h.r2
+row_of_each P h count ready tiled slot R3 is = h.r3
+row_of_each P h count ready tiled slot R4 is = h.r4
+row_of_each P h count ready tiled slot R5 is = h.r5
+row_of_each P h count ready tiled slot R6 is = h.r6
+row_of_each P h count ready tiled slot S0 is = h.s0
+row_of_each P h count ready tiled slot S1 is = h.s1
+row_of_each P h count ready tiled slot S2 is = h.s2
+row_of_each P h count ready tiled slot S3 is = h.s3
+row_of_each P h count ready tiled slot S4 is = h.s4
+row_of_each P h count ready tiled slot C1 is = h.c1
+row_of_each P h count ready tiled slot C2 is = h.c2
+row_of_each P h count ready tiled slot C3 is = h.c3
+row_of_each P h count ready tiled slot C4 is = h.c4
+row_of_each P h count ready tiled slot C5 is = h.c5
+row_of_each P h count ready tiled slot C6 is = h.c6
+row_of_each P h count ready tiled slot NB is = h.nb
+row_of_each P h count ready tiled slot N0 is = h.n0
+row_of_each P h count ready tiled slot N1 is = h.n1
+row_of_each P h count ready tiled slot N2 is = h.n2
+row_of_each P h count ready tiled slot N3 is = h.n3
+row_of_each P h count ready tiled slot N4 is = h.n4
+row_of_each P h count ready tiled slot N5 is = h.n5
+row_of_each P h count ready tiled slot N6 is = h.n6
+row_of_each P h count ready tiled slot N7 is = h.n7
+row_of_each P h count ready tiled slot N8a is = h.n8a
+row_of_each P h count ready tiled slot N8b is = h.n8b
+row_of_each P h count ready tiled slot N9 is = h.n9
+row_of_each P h count ready tiled slot N10 is = h.n10
+row_of_each P h count ready tiled slot N11 is = h.n11
+row_of_each P h count ready tiled slot E0 is = absurd is
+row_of_each P h count ready tiled slot E1 is = absurd is
+row_of_each P h count ready tiled slot E2 is = absurd is
+row_of_each P h count ready tiled slot E3 is = absurd is
+row_of_each P h count ready tiled slot E4a is = absurd is
+row_of_each P h count ready tiled slot E4b is = absurd is
+row_of_each P h count ready tiled slot E4c is = absurd is
+row_of_each P h count ready tiled slot E4d is = absurd is
+row_of_each P h count ready tiled slot E4e is = absurd is
+row_of_each P h count ready tiled slot T is = h.t
+row_of_each P h count ready tiled slot E5 is = h.e5
+row_of_each P h count ready tiled slot E6 is = h.e6
+row_of_each P h count ready tiled slot E7 is = h.e7

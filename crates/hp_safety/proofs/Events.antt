@@ -18,17 +18,16 @@ use Rattle.hp_model.specs.Boot.{Stage, Boots, Refused, Handed, is_handed, stage_
 use Rattle.hp_model.specs.SaveArea.{smbase_field, saved_smbase, saved_rip}
 use Rattle.hp_model.specs.SharedBytes.{layout_of}
 use Rattle.hp_model.specs.Handlers.{wanted_at}
-use Rattle.hp_model.specs.Step.{State, After, at, set_cpu, access_effect, answer_to, is_enabled, row_at, seat, is_that_access, is_that_outcome, is_rsm, is_handlers, wanted_in, insert, request_removal, leave_smm, row_led, handlers_led, firmware_led, effect_of, answer_of, step}
+use Rattle.hp_model.specs.Step.{State, After, at, set_cpu, access_effect, answer_to, is_enabled, row_at, seat, is_that_access, is_rsm, is_handlers, wanted_in, insert, request_removal, leave_smm, row_led, handlers_led, firmware_led, effect_of, answer_of, step}
 use Rattle.hp_sealed.specs.Left.{Sound}
 use Rattle.hp_sealed.specs.Sealed.{is_based}
 use Rattle.hp_sealed.proofs.Stay.{Stays}
 use Rattle.hp_sealed.proofs.Starts.{set_all, first_set}
 use Rattle.hp_sealed.proofs.Places.{Base, base_based}
 use Rattle.hp_safety.proofs.Invariant.{Saves, Invariant, Seated}
-use Rattle.hp_safety.proofs.Rows.{row_tells}
 use Rattle.hp_sealed.proofs.Goes.{stepped}
 use Rattle.hp_safety.proofs.Keeps.{unmoved, gathered, smm_present, seated, seated_stays, seated_absent, seated_outside, reach_base, AtRow, row_stands}
-use Rattle.hp_safety.proofs.Accesses.{keeps_outside, keeps_access}
+use Rattle.hp_safety.proofs.Accesses.{keeps_outside, keeps_access, keeps_told}
 use Rattle.hp_safety.proofs.Entering.{keeps_smi}
 
 -- one processor changes, and memory doesn't
@@ -36,13 +35,13 @@ keeps_cpu : (p : Platform) (m : List Write) (s : State) (k : ℕ) (d : Cpu) → 
 keeps_cpu p m s k d h sits first =
     gathered p m (set_cpu k d s) h.handed (record { marks = h.locked.marks; registers = h.locked.registers; kept = h.locked.kept })
     (set_all (Seated p s.monarch s.writes) s.cpus k d (seated_absent p s.monarch s.writes k) sits (λ j other. seated p m s j h))
-    (first_set s.cpus k d h.slots.first first) h.shut h.sized
+    (first_set s.cpus k d h.slots.first first) h.gated h.recorded
 
 -- INIT
 stays_init : (c : Cpu) → may_take_init c ≡ true → Stays c (take_init c)
 stays_init c e =
     let parts = and_parts c.init (is_outside c.mode) (and_parts (not c.smi) (c.init && is_outside c.mode) (and_parts c.present (not c.smi && (c.init && is_outside c.mode)) e).1).1 in
-    record { present = refl; smbase = refl; address = rw (none_outside c.mode parts.1) refl }
+    record { present = refl; smbase = refl; base = refl; address = rw (none_outside c.mode parts.1) refl }
   where
     none_outside : (m : Mode) → is_outside m ≡ true → address_in m ≡ None
     none_outside Wait e = absurd cc
@@ -74,20 +73,22 @@ keeps_removal : (p : Platform) (m : List Write) (s : State) (k : ℕ) → Invari
 keeps_removal p m s k h = unmoved p m s (request_removal k s) h.handed refl refl refl refl h
 
 -- RSM
-read_back : (l : Locks) (ws : List Write) (c : Cpu) → is_hole l true (c.smbase + smbase_field) 4 ≡ false → value_from (byte_at ws) (c.smbase + smbase_field) 4 ≡ c.smbase → saved_smbase l ws c ≡ c.smbase
+read_back : (l : Locks) (ws : List Write) (c : Cpu) → is_hole l true (c.smbase + smbase_field) 4 ≡ false → saved_smbase l ws c ≡ value_from (byte_at ws) (c.smbase + smbase_field) 4
 unfolding saved_smbase
-read_back l ws c e f = rw (e, f) refl
+read_back l ws c e = rw e refl
 
 keeps_rsm : (p : Platform) (m : List Write) (s : State) (k : ℕ) (l : Label) → Sound p → Invariant p m s → AtRow p s k l → Invariant p m (leave_smm k s)
 keeps_rsm p m s k l sound h here =
     let c = at s k in
     let present = smm_present c here.address here.is in
     let base : Base p c.smbase = base_based p k c.smbase sound (h.slots.based k present) in
-    let field : value_from (byte_at s.writes) (c.smbase + smbase_field) 4 ≡ c.smbase = subst (Saves s.writes c.smbase) here.is (h.slots.saved k) in
-    let read : saved_smbase s.locks s.writes c ≡ c.smbase = read_back s.locks s.writes c (reach_base p s.locks 4 c.smbase smbase_field h.locked.registers base (omega arith)) field in
-    let same : saved_smbase s.locks s.writes c - saved_smbase s.locks s.writes c % 0x10000 ≡ c.smbase = rw read (aligned c.smbase base.unit base.whole) in
+    let v = value_from (byte_at s.writes) (c.smbase + smbase_field) 4 in
+    let next : is_based p k v ≡ true = subst (Saves p s.writes k c.smbase) here.is (h.slots.saved k) in
+    let to_base : Base p v = base_based p k v sound next in
+    let read : saved_smbase s.locks s.writes c ≡ v = read_back s.locks s.writes c (reach_base p s.locks 4 c.smbase smbase_field h.locked.registers base (omega arith)) in
+    let same : saved_smbase s.locks s.writes c - saved_smbase s.locks s.writes c % 0x10000 ≡ v = rw read (aligned v to_base.unit to_base.whole) in
     let to : Cpu = resumed (saved_smbase s.locks s.writes c) (saved_rip s.locks s.writes c) c in
-    keeps_cpu p m s k to h (seated_outside p s.monarch s.writes k to (none_if c.present None) (λ e. rw same (h.slots.based k e))) (λ e. present)
+    keeps_cpu p m s k to h (seated_outside p s.monarch s.writes k to (none_if c.present None) (λ e. rw same next)) (λ e. present)
   where
     aligned : (b u : ℕ) → b ≡ 0x10000 * u → b - b % 0x10000 ≡ b
     aligned b u e = omega (arith, e)
@@ -112,11 +113,7 @@ keeps_event p m s (Resume k) sound h may wanted = by_row (row_at p s k) refl wan
     by_row : (o : Option Label) → row_at p s k ≡ o → is_rsm (wanted_at (layout_of p) s.monarch (seat p s k) o) ≡ true → Invariant p m (leave_smm k s)
     by_row None is f = absurd cc
     by_row (Some l) is f = keeps_rsm p m s k l sound h (row_stands p m s k l sound h is)
-keeps_event p m s (Tell o) sound h may wanted = by_row (row_at p s 0) refl wanted
-  where
-    by_row : (x : Option Label) → row_at p s 0 ≡ x → is_that_outcome (wanted_at (layout_of p) s.monarch (seat p s 0) x) o ≡ true → Invariant p m (handlers_led p s (Tell o) s)
-    by_row None is f = absurd cc
-    by_row (Some l) is f = absurd (row_tells (layout_of p) (seat p s 0) s.monarch o l (row_stands p m s 0 l sound h is).cell.reached f)
+keeps_event p m s (Tell o) sound h may wanted = keeps_told p m s o (row_at p s 0) sound h refl wanted
 
 -- a step after the hand-over
 keeps_led_by : (p : Platform) (m : List Write) (s : State) (e : Event) (g : Stage) → Sound p → Invariant p m s → is_handed g ≡ true → is_enabled p s e ≡ true → wanted_in p s g e ≡ true → Invariant p m (firmware_led p s g e (effect_of p s e))

@@ -7,7 +7,8 @@ use Rattle.hp_model.specs.declared.entries.Event.TheVariants.{Insert, Remove, Do
 use Rattle.hp_model.specs.declared.labels.Label.{Label}
 use Rattle.hp_model.specs.declared.processors.Mode.{Mode}
 use Rattle.hp_model.specs.declared.processors.Mode.TheVariants.{Wait, Running, Halted, Smm}
-use Rattle.hp_model.specs.Platform.{IsFit}
+use Rattle.hp_model.specs.Platform.{IsFit, count_of}
+use Rattle.hp_model.specs.Memory.{Write}
 use Rattle.hp_model.specs.Cpu.{is_in_smm, smm_address}
 use Rattle.hp_model.specs.Labels.{part_of}
 use Rattle.hp_model.specs.SharedBytes.{layout_of}
@@ -17,11 +18,10 @@ use Rattle.hp_model.specs.Step.{State, at, seat, wanted, start}
 use Rattle.hp_model.specs.Runs.{run, run_from, address_of}
 use Rattle.hp_model.specs.Safety.{IsLockedBefore, is_astray, wants_none}
 use Rattle.hp_sealed.specs.Left.{Sound, is_kept}
-use Rattle.hp_sealed.specs.Sealed.{IsOutside}
+use Rattle.hp_sealed.specs.Sealed.{is_other_tile, IsOutside}
 use Rattle.hp_sealed.proofs.Places.{guarded_locked, kept_guarded, kept_cell}
 use Rattle.hp_sealed.proofs.Starts.{sound, starts}
-use Rattle.hp_safety.proofs.Reached.{is_reached}
-use Rattle.hp_safety.proofs.Invariant.{Stands}
+use Rattle.hp_safety.proofs.Invariant.{is_ready, Met, Stands}
 use Rattle.hp_safety.proofs.EachRow.{row_of_each}
 use Rattle.hp_safety.proofs.Keeps.{row_here}
 use Rattle.hp_sealed.proofs.Runs.{made, run_rest, first_step}
@@ -36,8 +36,8 @@ stands_handed p s k a (inl h) is = absurd (nobody p s k a h.holds.cpus is)
 stands_handed p s k a (inr (inl h)) is = absurd (nobody p s k a h.cpus is)
 stands_handed p s k a (inr (inr h)) is = h
 
-stands_there : (p : Platform) (s : State) (k a : ℕ) → IsHanded p s → smm_address (at s k) ≡ Some a → Stands (layout_of p) s.monarch k (at s k).smbase (Some a)
-stands_there p s k a h is = subst (Stands (layout_of p) s.monarch k (at s k).smbase) is (h.stand.each k)
+stands_there : (p : Platform) (s : State) (k a : ℕ) → IsHanded p s → smm_address (at s k) ≡ Some a → Stands p s.monarch s.writes k (at s k).smbase (at s k).base (Some a)
+stands_there p s k a h is = subst (Stands p s.monarch s.writes k (at s k).smbase (at s k).base) is (h.stand.each k)
 
 -- the four bytes there are kept
 pub record AtKept (p : Platform) (s : State) (a : ℕ) : Type 0 where
@@ -69,10 +69,9 @@ at_entry p t s es before rest e a fit good is whole here place =
     let who = actor_stands s e.event a ((made p s e one.0 one.1).place ∙ place) in
     kept_here p s who.0 a fit (runs_go p (start p) s before fit good here).0 who.1
 
--- nobody is astray: each reached row wants something
-row_wants : (p : Platform) (q : Seat) (r : Monarch) (l : Label) → is_reached l ≡ true → wants_none (want_at (layout_of p) q r l) ≡ false
-row_wants p q r = row_of_each (λ l. wants_none (want_at (layout_of p) q r l) ≡ false)
-    (record { f1 = refl; r1 = refl; r2 = refl; r3 = refl; r4 = refl; r5 = refl; r6 = refl; s0 = refl; s1 = refl; s2 = refl; s3 = refl; s4 = refl; e5 = refl; e6 = refl; e7 = refl })
+-- nobody is astray: each row that is reached wants something
+row_wants : (p : Platform) (q : Seat) (r : Monarch) (ws : List Write) (base : ℕ) (l : Label) → Met p r ws base l → wants_none (want_at (layout_of p) q r l) ≡ false
+row_wants p q r ws base l met = row_of_each (λ l. wants_none (want_at (layout_of p) q r l) ≡ false) (record { f1 = refl; f2 = refl; f3 = refl; f4 = refl; f5 = refl; f6 = refl; r1 = refl; r2 = refl; r3 = refl; r4 = refl; r5 = refl; r6 = refl; s0 = refl; s1 = refl; s2 = refl; s3 = refl; s4 = refl; c1 = refl; c2 = refl; c3 = refl; c4 = refl; c5 = refl; c6 = refl; nb = refl; n0 = refl; n1 = refl; n2 = refl; n3 = refl; n4 = refl; n5 = refl; n6 = refl; n7 = refl; n8a = refl; n8b = refl; n9 = refl; n10 = refl; n11 = refl; t = refl; e5 = refl; e6 = refl; e7 = refl }) (count_of p) (is_ready p ws) (is_other_tile (layout_of p) base) r.add.slot l met
 
 not_astray : (p : Platform) (s : State) (k : ℕ) → Sound p → IsGood p s → is_astray p s k ≡ false
 not_astray p s k fit good = by_place (at s k).present (at s k).mode refl refl
@@ -81,7 +80,7 @@ not_astray p s k fit good = by_place (at s k).present (at s k).mode refl refl
     with_row a is =
         let h = stands_handed p s k a good is in
         let c = stands_there p s k a h is in
-        rw (row_here p s.writes s k a c.0 fit h is c.1) (row_wants p (seat p s k) s.monarch c.0 c.1.reached)
+        rw (row_here p s.writes s k a c.0 fit h is c.1) (row_wants p (seat p s k) s.monarch s.writes (at s k).base c.0 c.1.met)
 
     by_place : (b : Bool) (m : Mode) → (at s k).present ≡ b → (at s k).mode ≡ m → ((b && is_in_smm m) && wants_none (wanted p s k)) ≡ false
     by_place false m here there = refl

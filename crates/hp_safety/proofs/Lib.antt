@@ -1,9 +1,14 @@
-pub mod Reached
+pub mod Needs
+pub mod EachRow
+pub mod Pigeons
+pub mod Placing
 pub mod Invariant
 pub mod Saves
-pub mod EachRow
-pub mod Rows
+pub mod Writes
 pub mod Keeps
+pub mod Rows
+pub mod Leading
+pub mod RowLeads
 pub mod Accesses
 pub mod Entering
 pub mod Events

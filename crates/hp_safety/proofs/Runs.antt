@@ -42,15 +42,15 @@ rebase p m s fit h = record {
   };
   stand = h.stand;
   slots = h.slots;
-  shut = h.shut;
-  sized = h.sized;
+  gated = h.gated;
+  recorded = h.recorded;
 }
 
 -- what the boot has sealed has all parts
 sealed_handed : (p : Platform) (s : State) → IsSealed p s → IsHanded p s
 sealed_handed p s h =
     gathered p s.writes s h.stage (record { marks = h.holds.cells; registers = h.locks; kept = λ x e. left_same x s.writes })
-    (λ k. seated_outside p s.monarch s.writes k (at s k) (h.cpus.outside k) (h.cpus.based k)) h.cpus.first (record { gate = h.holds.gate }) h.cpus.sized
+    (λ k. seated_outside p s.monarch s.writes k (at s k) (h.cpus.outside k) (h.cpus.based k)) h.cpus.first (inl h.holds.gate) h.cpus.recorded
 
 handed_goes : (p : Platform) (s : State) (e : Event) (t : After) → Sound p → IsHanded p s → step p s e ≡ Some t → Goes p s t.state
 handed_goes p s e t fit h is =

@@ -13,10 +13,10 @@ use Rattle.hp_model.specs.Cpu.{absent, smm_address}
 use Rattle.hp_model.specs.Boot.{tseg_enabled, block_accesses, area_accesses, pen_accesses, mark_accesses, lock_accesses, feature_accesses, last_accesses, boot_accesses, boot_access, boot_refusal, value_in}
 use Rattle.hp_model.specs.Step.{State, at, answer_to, access_effect}
 use Rattle.hp_sealed.specs.Left.{Sound, Locked}
-use Rattle.hp_sealed.specs.Sealed.{is_based, Sized, IsOutside}
+use Rattle.hp_sealed.specs.Sealed.{is_based, Recorded, IsOutside}
 use Rattle.hp_sealed.specs.Booting.{f_smbase_after, smram_after, esmramc_after, memory_after, Booting}
 use Rattle.hp_sealed.proofs.Outside.{Calm, Acts, acts, left_acted}
-use Rattle.hp_sealed.proofs.Places.{guarded_locked, kept_guarded}
+use Rattle.hp_sealed.proofs.Places.{set_up_locked}
 
 -- outside stays outside
 none_calm : (c d : Cpu) → Calm c d → smm_address c ≡ None → smm_address d ≡ None
@@ -33,7 +33,7 @@ outside_acts p s u does h = record {
   outside = λ k. none_calm (at s k) (at u k) (does.cpus k) (h.outside k);
   based = λ k e. based_calm p k (at s k) (at u k) (does.cpus k) (h.based k) e;
   first = does.first.present ∙ h.first;
-  sized = subst Sized (sym does.monarch) h.sized;
+  recorded = subst (Recorded p) (sym does.monarch) h.recorded;
 }
 
 -- what the access after n others does to what holds before it
@@ -145,7 +145,7 @@ late p n b fit more = record {
         smram = m.smram ∙ sym (late_s (n + 1) (omega (arith, more)));
         esmramc = m.esmramc ∙ sym (late_e p.tseg_mib (n + 1) (omega (arith, more)));
         memory = λ e. absurd (omega (arith, e, more));
-        kept = λ e x k. (left_acted p 0 b s x (guarded_locked p s.locks x fit l (kept_guarded p x k))).byte ∙ h.kept more x k;
+        kept = λ e x k. (left_acted p 0 b s x (set_up_locked p s.locks x fit l k)).byte ∙ h.kept more x k;
       };
 }
 

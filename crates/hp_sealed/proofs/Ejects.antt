@@ -3,7 +3,7 @@ use Rattle.std.proofs.Common.{ℕ, zero, suc, ◌≡◌, ◌≢◌, ◌%◌, ◌
 use Rattle.std.specs.Prelude.{slice_index_or}
 use Rattle.std.proofs.lemmas.Option.{same_Some}
 use Rattle.hp_model.specs.Block.{Block, Slot, no_slot, slot_at, is_selected, cut, controlled, write_control, write_command, with_data, write_data, modern_write, block_write, ejected_by}
-use Rattle.hp_sealed.proofs.Left.{pick}
+use Rattle.hp_sealed.proofs.Left.{pick, pick_by}
 
 abbrev Same : Slot → Slot → Type 0
 Same s t = t.enabled ≡ s.enabled
@@ -46,6 +46,18 @@ same_write b offset width value e =
     (pick (Enables b) (offset == 8) (write_data b v) b (same_set b.slots b.selector (with_data (slot_at b b.selector) b.command v) (same_data (slot_at b b.selector) b.command v)) refl)))))
     (pick (Enables b) (b.can_switch && ((offset == 0) && (v == 0))) (record b { modern = true }) b refl refl)
 
+-- and, whatever is selected, where the control register isn't written
+same_other : (b : Block) (offset width value : ℕ) → (offset == 4) ≡ false → Enables b (block_write b offset width value)
+same_other b offset width value e =
+    let v = cut width value in
+    pick (Enables b) b.modern (modern_write b offset v) _
+    (pick (Enables b) (offset == 0) (record b { selector = v }) _ refl
+    (pick (Enables b) (not (is_selected b)) b _ refl
+    (pick_by (Enables b) (offset == 4) (write_control b (v % 256)) _ (λ f. absurd cc)
+    (λ f. pick (Enables b) (offset == 5) (write_command b (v % 256)) _ refl
+    (pick (Enables b) (offset == 8) (write_data b v) b (same_set b.slots b.selector (with_data (slot_at b b.selector) b.command v) (same_data (slot_at b b.selector) b.command v)) refl)))))
+    (pick (Enables b) (b.can_switch && ((offset == 0) && (v == 0))) (record b { modern = true }) b refl refl)
+
 not_both : (e f : Bool) (k i : ℕ) → f ≡ e → cond (e && not f) (Some k) None ≡ Some i → ⊥
 not_both true true k i h g = cc
 not_both true false k i h g = cc
@@ -60,3 +72,13 @@ ejects_others b offset width value i g e =
     let here = place_if ((slot_at b b.selector).enabled && not (slot_at (block_write b offset width value) b.selector).enabled) b.selector i g in
     not_both (slot_at b b.selector).enabled (slot_at (block_write b offset width value) b.selector).enabled b.selector i
     (same_write b offset width value (sym here ∙ e)) g
+
+-- only a write of the control register ejects
+pub ejects_none : (b : Block) (offset width value : ℕ) → (offset == 4) ≡ false → ejected_by b (block_write b offset width value) ≡ None
+ejects_none b offset width value e =
+    none_of (slot_at b b.selector).enabled (slot_at (block_write b offset width value) b.selector).enabled b.selector (same_other b offset width value e)
+  where
+    none_of : (e f : Bool) (k : ℕ) → f ≡ e → cond (e && not f) (Some k) None ≡ None
+    none_of true true k h = refl
+    none_of true false k h = absurd cc
+    none_of false f k h = refl

@@ -1,6 +1,5 @@
 -- Where a step of the boot sequence leads: the boot goes on, is refused, or has sealed SMRAM; and what it leaves of locked bytes.
 use Rattle.std.proofs.Common.{ℕ, ◌≡◌, ◌+◌, ◌<◌, ◌%◌, ◌==◌, inl, inr, Bool, true, false, cond, ◌&&◌, Option, Some, None, refl, sym, ap, subst, ◌∙◌, arith, if◌then◌else◌}
-use Rattle.std.specs.Option.{unwrap_or}
 use Rattle.std.proofs.lemmas.Bool.{and_parts, eqb-true}
 use Rattle.std.proofs.lemmas.Bool.Decides.{nat_tests}
 use Rattle.std.proofs.lemmas.Option.{same_Some}
@@ -13,11 +12,10 @@ use Rattle.hp_model.specs.declared.outcomes.BootFact.{BootFact}
 use Rattle.hp_model.specs.declared.entries.Event.{Event}
 use Rattle.hp_model.specs.declared.entries.Event.TheVariants.{Insert, Remove, Do, TakeSmi, TakeInit, Resume, Tell}
 use Rattle.hp_model.specs.Cpu.{is_in_smm, address_in, smm_address}
-use Rattle.hp_model.specs.Monarch.{with_features}
 use Rattle.hp_model.specs.Boot.{Stage, Boots, Refused, Handed, boot_access, boot_refusal, value_in, stage_by, stage_after}
 use Rattle.hp_model.specs.Step.{State, After, at, same_access, is_boots, is_enabled, is_wanted, wanted_in, answer_to, access_effect, with_agreed, after, step}
 use Rattle.hp_sealed.specs.Left.{Sound, LeavesLocked}
-use Rattle.hp_sealed.specs.Sealed.{Sized, IsOutside, IsSealed}
+use Rattle.hp_sealed.specs.Sealed.{IsOutside, IsSealed}
 use Rattle.hp_sealed.specs.Booting.{Booting, IsBooting, IsRefused, IsBooted, Goes}
 use Rattle.hp_sealed.proofs.Left.{pick_by}
 use Rattle.hp_sealed.proofs.Same.{same_access-is}
@@ -73,11 +71,8 @@ reached p s done supported b = record (with_agreed (access_effect p 0 false b s)
 after_boots : (p : Platform) (s : State) (done supported : ℕ) (b : Access) → s.stage ≡ Boots done supported → is_in_smm (at s 0).mode ≡ false → (after p s (Do 0 b)).state ≡ reached p s done supported b
 after_boots p s done supported b stage mode = rw (mode, stage) refl
 
-sized_features : (f : ℕ) (s : State) → Sized s.monarch → Sized (with_features f s.monarch)
-sized_features f s h = record { slot = h.slot; bound = h.bound; known = h.known }
-
 outside_agreed : (p : Platform) (u : State) (g : Stage) → IsOutside p u → IsOutside p (record (with_agreed u) { stage = g })
-outside_agreed p u g h = record { outside = h.outside; based = h.based; first = h.first; sized = sized_features (unwrap_or u.fw_cfg.negotiated 0) u h.sized }
+outside_agreed p u g h = record { outside = h.outside; based = h.based; first = h.first; recorded = h.recorded }
 
 booting_agreed : (p : Platform) (n : ℕ) (u : State) (g : Stage) → Booting p n u → Booting p n (record (with_agreed u) { stage = g })
 booting_agreed p n u g h = record {

@@ -12,13 +12,13 @@ use Rattle.hp_model.specs.Labels.{Part, First, Relocated, Monarch, part_of, inde
 use Rattle.hp_model.specs.SharedBytes.{layout_of, release_byte, gate, closed}
 use Rattle.hp_model.specs.Image.{relocated_labels, monarch_labels, with_cells, with_tiles, with_releases, image}
 use Rattle.hp_model.specs.Handlers.{runs_at, address_of_label}
-use Rattle.hp_sealed.specs.Left.{Sound, is_kept}
+use Rattle.hp_sealed.specs.Left.{Sound}
 use Rattle.hp_sealed.specs.Sealed.{is_other_tile, Holds}
-use Rattle.hp_sealed.specs.Booting.{memory_after}
+use Rattle.hp_sealed.specs.Booting.{memory_after, is_set_up}
 use Rattle.hp_sealed.proofs.Left.{left_more, length-bytes_of}
 use Rattle.hp_sealed.proofs.Labels.{same_label, index_small, mark_small, among_relocated, among_monarch}
 use Rattle.hp_sealed.proofs.Values.{value_same, value_written, value_apart}
-use Rattle.hp_sealed.proofs.Places.{slot_of, kept_cell, kept_gate}
+use Rattle.hp_sealed.proofs.Places.{slot_of, kept_cell, kept_set_up, gate_set_up}
 
 abbrev is_part : Part → Part → Bool
 is_part First First = true
@@ -220,9 +220,9 @@ cells_sealed p l Monarch k b sound side runs =
     let base : b ≡ tile p 0 = eqb-true b (tile p 0) (and_parts (k == 0) (b == tile p 0) runs).1 in
     subst (λ y. value_from (byte_at (memory_after p 17)) (address_of_label y l) 4 ≡ mark_of l) (sym base) (tile_value p 0 l sound ∙ image_monarch p l sound side)
 
--- and so does each with the same kept bytes
-pub holds_sealed : (p : Platform) (ws : List Write) → Sound p → ((x : ℕ) → is_kept p x ≡ true → byte_at ws x ≡ byte_at (memory_after p 17) x) → Holds p ws
+-- and so does each with the same bytes where the boot has set them up
+pub holds_sealed : (p : Platform) (ws : List Write) → Sound p → ((x : ℕ) → is_set_up p x ≡ true → byte_at ws x ≡ byte_at (memory_after p 17) x) → Holds p ws
 holds_sealed p ws sound same = record {
-  cells = λ l k b runs. value_same 4 (address_of_label b l) (memory_after p 17) ws (λ i small. same (address_of_label b l + i) (kept_cell p l (part_of l) k b i sound refl runs small)) ∙ cells_sealed p l (part_of l) k b sound refl runs;
-  gate = value_same 8 gate (memory_after p 17) ws (λ i small. same (0x30000 + i) (kept_gate p i small)) ∙ closed_gate p;
+  cells = λ l k b runs. value_same 4 (address_of_label b l) (memory_after p 17) ws (λ i small. same (address_of_label b l + i) (kept_set_up p (address_of_label b l + i) (kept_cell p l (part_of l) k b i sound refl runs small))) ∙ cells_sealed p l (part_of l) k b sound refl runs;
+  gate = value_same 8 gate (memory_after p 17) ws (λ i small. same (0x30000 + i) (gate_set_up p i small)) ∙ closed_gate p;
 }

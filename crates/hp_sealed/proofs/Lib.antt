@@ -7,6 +7,7 @@ pub mod Values
 pub mod Places
 pub mod Same
 pub mod Image
+pub mod BootSlots
 pub mod Starts
 pub mod Boots
 pub mod Goes

@@ -15,7 +15,7 @@ use Rattle.hp_model.specs.Step.{State, at, apic_of, without_ejected, write_block
 use Rattle.hp_sealed.specs.Left.{IsLeft, Locked}
 use Rattle.hp_sealed.proofs.Left.{pick, pick_by, left_same, left_outside, left_swap, left_transfer}
 use Rattle.hp_sealed.proofs.Stay.{Stays, stays_same, stays_sent, stays_halt, stays_raised, stays_set, at_set}
-use Rattle.hp_sealed.proofs.Ejects.{ejects_others}
+use Rattle.hp_sealed.proofs.Ejects.{ejects_others, ejects_none}
 
 -- stays, or is gone
 abbrev pub Calm : Cpu → Cpu → Type 0
@@ -65,6 +65,11 @@ acts_block p offset width value s =
       monarch = refl;
       stage = refl;
     }
+
+-- a write of another register of the block than control ejects nobody
+pub stays_block : (offset width value : ℕ) (s : State) → (offset == 4) ≡ false → (j : ℕ) → Stays (at s j) (at (write_block offset width value s) j)
+stays_block offset width value s e j =
+    subst (λ o. Stays (at s j) (cpu_at (without_ejected o s.cpus) j)) (sym (ejects_none s.block offset width value e)) (stays_same (at s j))
 
 acts_ich9 : (p : Platform) (k port width value : ℕ) (s : State) → Acts p s (write_ich9 p k port width value s)
 acts_ich9 p k port width value s =

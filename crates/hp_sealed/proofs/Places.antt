@@ -10,8 +10,9 @@ use Rattle.hp_model.specs.Boot.{tseg_enabled}
 use Rattle.hp_model.specs.Labels.{Part, First, Relocated, Monarch, part_of, index_of}
 use Rattle.hp_model.specs.SharedBytes.{layout_of}
 use Rattle.hp_model.specs.Handlers.{slot_at, is_tile, runs_at, address_of_label}
-use Rattle.hp_sealed.specs.Left.{Sound, Locked, is_guarded, guarded_by, is_kept}
+use Rattle.hp_sealed.specs.Left.{Sound, Locked, is_gate, is_guarded, guarded_by, is_kept}
 use Rattle.hp_sealed.specs.Sealed.{is_other_tile, is_based}
+use Rattle.hp_sealed.specs.Booting.{is_set_up}
 use Rattle.hp_sealed.proofs.Labels.{index_small, index_first}
 
 from_size : (p : Platform) → Sound p → p.low_memory - tseg_size (tseg_enabled p.tseg_mib) * 0x100000 ≡ tseg p
@@ -22,15 +23,45 @@ from_size p sound = by_size sound.size
     by_size (inr (inl e)) = rw e refl
     by_size (inr (inr e)) = rw e refl
 
+-- once all is locked, so is the default area
+pub default_locked : (p : Platform) (l : Locks) (x : ℕ) → Locked p l → (nat_le 0x30000 x && nat_lt x 0x50000) ≡ true → is_locked l x ≡ true
+default_locked p l x h g = rw (h.f_smbase, g) refl
+
+-- and each guarded byte
 locks_plain : (base top x : ℕ) → guarded_by base top x ≡ true → ((nat_le 0x30000 x && nat_lt x 0x50000) || (nat_le base x && nat_lt x top)) ≡ true
 locks_plain base top x g = grind (arith, nat_tests)
 
--- once all is locked, each guarded byte is
 pub guarded_locked : (p : Platform) (l : Locks) (x : ℕ) → Sound p → Locked p l → is_guarded p x ≡ true → is_locked l x ≡ true
 guarded_locked p l x sound h g = rw (h.f_smbase, h.smram, h.esmramc, h.low_memory, from_size p sound) (locks_plain (tseg p) p.low_memory x g)
 
 pub kept_guarded : (p : Platform) (x : ℕ) → is_kept p x ≡ true → is_guarded p x ≡ true
 kept_guarded p x e = (and_parts (is_guarded p x) (nat_lt (x % 0x10000) 0xfefc) e).0
+
+either : (a b : Bool) → (a || b) ≡ true → (a ≡ true) ⊎ (b ≡ true)
+either true b e = inl refl
+either false b e = inr e
+
+pub set_up_locked : (p : Platform) (l : Locks) (x : ℕ) → Sound p → Locked p l → is_set_up p x ≡ true → is_locked l x ≡ true
+set_up_locked p l x sound h g = elim (either (is_gate x) (is_kept p x) g) [
+  | inl e ↦ default_locked p l x h (in_area x e)
+  | inr e ↦ guarded_locked p l x sound h (kept_guarded p x e)
+]
+  where
+    in_area : (x : ℕ) → is_gate x ≡ true → (nat_le 0x30000 x && nat_lt x 0x50000) ≡ true
+    in_area x e = grind (arith, nat_tests)
+
+pub kept_set_up : (p : Platform) (x : ℕ) → is_kept p x ≡ true → is_set_up p x ≡ true
+kept_set_up p x e = more (is_gate x) (is_kept p x) e
+  where
+    more : (a b : Bool) → b ≡ true → (a || b) ≡ true
+    more true b f = refl
+    more false b f = f
+
+pub gate_set_up : (p : Platform) (i : ℕ) → i < 8 → is_set_up p (0x30000 + i) ≡ true
+gate_set_up p i small = let g : is_gate (0x30000 + i) ≡ true = in_gate i small in rw g refl
+  where
+    in_gate : (i : ℕ) → i < 8 → is_gate (0x30000 + i) ≡ true
+    in_gate i small = grind (arith, nat_tests)
 
 -- an SMBASE that a processor may have
 pub record Base (p : Platform) (b : ℕ) : Type 0 where
@@ -70,10 +101,6 @@ slot_of p b e =
 pub base_other : (p : Platform) (b : ℕ) → Sound p → is_other_tile (layout_of p) b ≡ true → Base p b
 base_other p b sound e = let s = slot_of p b e in base_tile p s.slot b sound s.less s.is
 
-either : (a b : Bool) → (a || b) ≡ true → (a ≡ true) ⊎ (b ≡ true)
-either true b e = inl refl
-either false b e = inr e
-
 pub base_based : (p : Platform) (k b : ℕ) → Sound p → is_based p k b ≡ true → Base p b
 base_based p k b sound e = elim (split (k == 0) (b == tile p 0) ((b == 0x30000) || is_other_tile (layout_of p) b) e) [
   | inl f ↦ base_tile p 0 b sound (let s = sound.some in omega (arith, s)) (eqb-true b (tile p 0) f)
@@ -103,12 +130,6 @@ kept_tile p b off sound h low small = kept_plain (tseg p) p.low_memory b h.unit 
 kept_first : (base top off : ℕ) → off < 24 → (guarded_by base top (0x38000 + off) && nat_lt ((0x38000 + off) % 0x10000) 0xfefc) ≡ true
 kept_first base top off small = grind (arith, nat_tests)
 
-pub kept_gate : (p : Platform) (i : ℕ) → i < 8 → is_kept p (0x30000 + i) ≡ true
-kept_gate p i small = gate_plain (tseg p) p.low_memory i small
-  where
-    gate_plain : (base top i : ℕ) → i < 8 → (guarded_by base top (0x30000 + i) && nat_lt ((0x30000 + i) % 0x10000) 0xfefc) ≡ true
-    gate_plain base top i small = grind (arith, nat_tests)
-
 cell_tile : (p : Platform) (l : Label) (b i : ℕ) → Sound p → Base p b → tseg p + 0x20000 ≤ b → i < 4 → is_kept p (address_of_label b l + i) ≡ true
 cell_tile p l b i sound h low small =
     let o = index_small l in
@@ -131,16 +152,10 @@ kept_cell p l Monarch k b i sound side e small =
     let is = eqb-true b (tile p 0) (and_parts (k == 0) (b == tile p 0) e).1 in
     cell_tile p l b i sound (base_runs p Monarch k b sound e) (omega (arith, is)) small
 
--- the field of SMBASE in a save area is guarded
-pub guarded_field : (p : Platform) (b i : ℕ) → Sound p → Base p b → i < 4 → is_guarded p (b + 0xff00 + i) ≡ true
-guarded_field p b i sound h small = elim h.area [
-  | inl e ↦ field_default (tseg p) p.low_memory b i e small
-  | inr low ↦ field_tile (tseg p) p.low_memory b i low h.room small
-]
+-- the field of SMBASE in a tile's save area is guarded
+pub guarded_field : (p : Platform) (b i : ℕ) → Base p b → tseg p + 0x20000 ≤ b → i < 4 → is_guarded p (b + 0xff00 + i) ≡ true
+guarded_field p b i h low small = field_tile (tseg p) p.low_memory b i low h.room small
   where
-    field_default : (base top b i : ℕ) → b ≡ 0x30000 → i < 4 → guarded_by base top (b + 0xff00 + i) ≡ true
-    field_default base top b i e small = grind (arith, nat_tests)
-
     field_tile : (base top b i : ℕ) → base + 0x20000 ≤ b → b + 0x10000 ≤ top → i < 4 → guarded_by base top (b + 0xff00 + i) ≡ true
     field_tile base top b i low room small = grind (arith, nat_tests)
 

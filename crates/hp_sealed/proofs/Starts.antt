@@ -4,7 +4,6 @@ use Rattle.std.specs.Prelude.{slice_index_or}
 use Rattle.std.specs.List.{list_all}
 use Rattle.std.proofs.lemmas.Bool.{and_parts, eqb-true, ltb-true, cases_eq}
 use Rattle.std.proofs.lemmas.Bool.Decides.{nat_tests}
-use Rattle.std.proofs.lemmas.List.{length-map, length-replicate}
 use Rattle.hp_model.specs.declared.platforms.Platform.{Platform}
 use Rattle.hp_model.specs.declared.processors.Cpu.{Cpu}
 use Rattle.hp_model.specs.Platform.{IsFit, counts_fit, ids_fit, boot_fits, memory_fits, tseg_fits, tiles_fit, ascends_from, ascends_from_zero, all_distinct, tseg, tile, count_of}
@@ -15,6 +14,7 @@ use Rattle.hp_model.specs.Step.{start}
 use Rattle.hp_sealed.specs.Left.{Sound}
 use Rattle.hp_sealed.specs.Sealed.{is_based}
 use Rattle.hp_sealed.specs.Booting.{IsBooting}
+use Rattle.hp_sealed.proofs.BootSlots.{placed_start}
 
 passed : (b : Bool) (n : ℕ) (rest : Option ℕ) → cond (not b) (Some n) rest ≡ None → (b ≡ true) × (rest ≡ None)
 passed true n rest e = (refl, e)
@@ -100,6 +100,7 @@ sound p e =
       most = low.2;
       boots = let n = length_ascends 0 (count_of p) list.rest list.ascends list.low some in let i : length p.boot ≡ suc (length list.rest) = ap length list.is in omega (arith, n, i, few);
       ids = λ k. ids_small p.apic k (and_parts (list_all (λ x. nat_le x 254) p.apic) (all_distinct p.apic) f.ids).0;
+      distinct = (and_parts (list_all (λ x. nat_le x 254) p.apic) (all_distinct p.apic) f.ids).1;
     }
   where
     memory_low : (m : ℕ) → ((m % 0x100000 == 0) && (nat_le 0x1000000 m && nat_le m 0x80000000)) ≡ true → (m % 0x100000 ≡ 0) × (0x1000000 ≤ m) × (m ≤ 0x80000000)
@@ -220,9 +221,6 @@ starts p e =
     let list = boot_list p (fits p e).boot in
     let all : (j : ℕ) → Booted p j (cpu_at (boot_cpus p 0 p.boot (replicate (count_of p) absent)) j) = subst (λ bs. (j : ℕ) → Booted p j (cpu_at (boot_cpus p 0 bs (replicate (count_of p) absent)) j)) (sym list.is) (all_booted p list) in
     let first : (cpu_at (boot_cpus p 0 p.boot (replicate (count_of p) absent)) 0).present ≡ true = subst (λ bs. (cpu_at (boot_cpus p 0 bs (replicate (count_of p) absent)) 0).present ≡ true) (sym list.is) (first_booted p list fit) in
-    let boots = fit.boots in
-    let ids = length-map p.boot (λ k. slice_index_or p.apic k 255) in
-    let known = length-replicate (length p.boot) true in
     record {
       done = 0;
       supported = 0;
@@ -233,7 +231,7 @@ starts p e =
           outside = λ k. (all k).outside;
           based = λ k. (all k).based;
           first = first;
-          sized = record { slot = omega arith; bound = omega (arith, ids, boots); known = omega (arith, known, boots) };
+          recorded = (omega arith, placed_start p fit.distinct list.rest list.is list.ascends list.low fit.some);
         };
         low_memory = refl;
         f_smbase = λ e. refl;

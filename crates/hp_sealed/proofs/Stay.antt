@@ -1,4 +1,4 @@
--- What stays of a processor when others act: presence, SMBASE, and where it stands in SMM.
+-- What stays of a processor when others act: presence, SMBASE, the base that it has loaded, and where it stands in SMM.
 use Rattle.std.proofs.Common.{ℕ, zero, suc, ◌≡◌, Bool, true, false, List, [], ◌∷◌, slice_set, Option, Some, None, refl}
 use Rattle.hp_model.specs.declared.processors.Mode.{Mode}
 use Rattle.hp_model.specs.declared.processors.Mode.TheVariants.{Wait, Running, Halted, Smm}
@@ -13,10 +13,11 @@ use Rattle.hp_sealed.proofs.Left.{pick}
 pub record Stays (c d : Cpu) : Type 0 where
   pub present : d.present ≡ c.present
   pub smbase : d.smbase ≡ c.smbase
+  pub base : d.base ≡ c.base
   pub address : smm_address d ≡ smm_address c
 
 pub stays_same : (c : Cpu) → Stays c c
-stays_same c = record { present = refl; smbase = refl; address = refl }
+stays_same c = record { present = refl; smbase = refl; base = refl; address = refl }
 
 address_started : (page : ℕ) (m : Mode) → address_in (started page m) ≡ address_in m
 address_started page Wait = refl
@@ -31,15 +32,15 @@ address_halted (Halted q) = refl
 address_halted (Smm a) = refl
 
 stays_hit_present : (k : Kind) (c : Cpu) → Stays c (hit_present k c)
-stays_hit_present Smi c = record { present = refl; smbase = refl; address = refl }
-stays_hit_present Init c = pick (Stays c) (is_waiting c.mode) c (record c { init = true }) (stays_same c) (record { present = refl; smbase = refl; address = refl })
-stays_hit_present (Start page) c = record { present = refl; smbase = refl; address = rw (address_started page c.mode) refl }
+stays_hit_present Smi c = record { present = refl; smbase = refl; base = refl; address = refl }
+stays_hit_present Init c = pick (Stays c) (is_waiting c.mode) c (record c { init = true }) (stays_same c) (record { present = refl; smbase = refl; base = refl; address = refl })
+stays_hit_present (Start page) c = record { present = refl; smbase = refl; base = refl; address = rw (address_started page c.mode) refl }
 
 pub stays_hit : (k : Kind) (c : Cpu) → Stays c (hit k c)
 stays_hit k c = pick (Stays c) c.present (hit_present k c) c (stays_hit_present k c) (stays_same c)
 
 pub stays_halt : (c : Cpu) → Stays c (halt c)
-stays_halt c = record { present = refl; smbase = refl; address = rw (address_halted c.mode) refl }
+stays_halt c = record { present = refl; smbase = refl; base = refl; address = rw (address_halted c.mode) refl }
 
 abbrev pub AllStay : List Cpu → List Cpu → Type 0
 AllStay cs ds = (k : ℕ) → Stays (cpu_at cs k) (cpu_at ds k)

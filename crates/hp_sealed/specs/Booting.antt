@@ -1,12 +1,12 @@
 -- What holds while the boot sequence goes on, after each number of accesses.
-use Rattle.std.specs.Prelude.{ℕ, ◌≡◌, ◌≢◌, Bool, true, false, nat_lt, ◌<◌, ◌≤◌, ◌⊎◌, List, ◌∷◌, if◌then◌else◌}
+use Rattle.std.specs.Prelude.{ℕ, ◌≡◌, ◌≢◌, Bool, true, false, ◌||◌, nat_lt, ◌<◌, ◌≤◌, ◌⊎◌, List, ◌∷◌, if◌then◌else◌}
 use Rattle.hp_model.specs.declared.platforms.Platform.{Platform}
 use Rattle.hp_model.specs.declared.outcomes.BootFact.{BootFact}
 use Rattle.hp_model.specs.Memory.{Write, byte_at, write_of}
 use Rattle.hp_model.specs.Image.{image}
 use Rattle.hp_model.specs.Boot.{Boots, Refused, tseg_enabled}
 use Rattle.hp_model.specs.Step.{State}
-use Rattle.hp_sealed.specs.Left.{is_kept, IsSafe}
+use Rattle.hp_sealed.specs.Left.{is_gate, is_kept, IsSafe}
 use Rattle.hp_sealed.specs.Sealed.{IsOutside, IsSealed}
 
 -- registers 9c, 9d and 9e after n accesses; after 5 register 9c isn't known until it is read
@@ -31,6 +31,10 @@ memory_after p n =
     (more_if (nat_lt 9 n) 0x38008 4 0x53000003 (more_if (nat_lt 8 n) 0x38004 4 0x53000002 (more_if (nat_lt 7 n) 0x38000 4 0x53000001
     (more_if (nat_lt 6 n) 0x9f000 4 0x4e4550 (image p))))))))
 
+-- the bytes that the boot has set up for the handlers once it has locked them: those that are kept from then on, and the gate
+abbrev pub is_set_up : Platform → ℕ → Bool
+is_set_up p x = is_gate x || is_kept p x
+
 -- after n accesses of the boot
 pub record Booting (p : Platform) (n : ℕ) (s : State) : Type 0 where
   pub cpus : IsOutside p s
@@ -39,7 +43,7 @@ pub record Booting (p : Platform) (n : ℕ) (s : State) : Type 0 where
   pub smram : s.locks.smram ≡ smram_after n
   pub esmramc : s.locks.esmramc ≡ esmramc_after p.tseg_mib n
   pub memory : n ≤ 17 → s.writes ≡ memory_after p n
-  pub kept : 17 ≤ n → (x : ℕ) → is_kept p x ≡ true → byte_at s.writes x ≡ byte_at (memory_after p 17) x
+  pub kept : 17 ≤ n → (x : ℕ) → is_set_up p x ≡ true → byte_at s.writes x ≡ byte_at (memory_after p 17) x
 
 -- the boot goes on: fewer than its 27 accesses are made
 pub record IsBooting (p : Platform) (s : State) : Type 0 where

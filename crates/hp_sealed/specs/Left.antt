@@ -1,7 +1,7 @@
 -- Which bytes of memory a run leaves alone once SMRAM is locked, and what the platform and the locks are for that.
 use Rattle.std.specs.Prelude.{ℕ, ◌≡◌, ◌⊎◌, Bool, true, ◌&&◌, ◌||◌, nat_lt, nat_le, ◌+◌, ◌*◌, ◌%◌, ◌≤◌, List, length}
 use Rattle.hp_model.specs.declared.platforms.Platform.{Platform}
-use Rattle.hp_model.specs.Platform.{tseg, count_of}
+use Rattle.hp_model.specs.Platform.{tseg, count_of, all_distinct}
 use Rattle.hp_model.specs.Memory.{Write, byte_at}
 use Rattle.hp_model.specs.View.{Locks, is_locked}
 use Rattle.hp_model.specs.Boot.{tseg_enabled}
@@ -33,6 +33,7 @@ pub record Sound (p : Platform) : Type 0 where
   pub most : p.low_memory ≤ 0x80000000
   pub boots : length p.boot ≤ 64
   pub ids : (k : ℕ) → apic_of p k ≤ 255
+  pub distinct : all_distinct p.apic ≡ true
 
 -- the gate's 8 bytes
 abbrev pub is_gate : ℕ → Bool
@@ -42,15 +43,11 @@ is_gate x = nat_le 0x30000 x && nat_lt x 0x30008
 abbrev pub is_first_cell : ℕ → Bool
 is_first_cell x = nat_le 0x38000 x && nat_lt x 0x38018
 
--- the 4 bytes where SMBASE is saved at the default SMBASE
-abbrev pub is_saved_field : ℕ → Bool
-is_saved_field x = nat_le 0x3ff00 x && nat_lt x 0x3ff04
-
 -- these, and the tiles: all of a TSEG from `base` to `top` past its 128 KiB of shared bytes
 abbrev pub guarded_by : ℕ → ℕ → ℕ → Bool
-guarded_by base top x = is_gate x || (is_first_cell x || (is_saved_field x || (nat_le (base + 0x20000) x && nat_lt x top)))
+guarded_by base top x = is_first_cell x || (nat_le (base + 0x20000) x && nat_lt x top)
 
--- the bytes that no handler may store to while the gate is closed
+-- the bytes that no handler may store to
 abbrev pub is_guarded : Platform → ℕ → Bool
 is_guarded p x = guarded_by (tseg p) p.low_memory x
 

@@ -1,16 +1,19 @@
 -- Sealed SMRAM: what holds in the state in which the boot sequence hands the machine over.
-use Rattle.std.specs.Prelude.{ℕ, ◌≡◌, Bool, true, not, ◌&&◌, ◌||◌, ◌==◌, ◌≤◌, List, length, None, if◌then◌else◌}
+use Rattle.std.specs.Prelude.{ℕ, ◌≡◌, Bool, true, not, ◌&&◌, ◌||◌, ◌==◌, ◌≤◌, List, length, None, slice_get, if◌then◌else◌}
+use Rattle.std.specs.List.{list_all}
 use Rattle.hp_model.specs.declared.platforms.Platform.{Platform}
 use Rattle.hp_model.specs.declared.labels.Label.{Label}
-use Rattle.hp_model.specs.Platform.{tile}
+use Rattle.hp_model.specs.Platform.{tile, all_distinct}
 use Rattle.hp_model.specs.Memory.{Write, byte_at, value_from}
 use Rattle.hp_model.specs.Cpu.{smm_address}
+use Rattle.hp_model.specs.Block.{is_in}
 use Rattle.hp_model.specs.Labels.{part_of, mark_of}
 use Rattle.hp_model.specs.SharedBytes.{Layout, layout_of, gate, closed}
-use Rattle.hp_model.specs.Monarch.{Monarch}
+use Rattle.hp_model.specs.Slots.{Slots}
+use Rattle.hp_model.specs.Monarch.{Monarch, is_that}
 use Rattle.hp_model.specs.Handlers.{slot_at, is_tile, runs_at, address_of_label}
 use Rattle.hp_model.specs.Boot.{is_handed}
-use Rattle.hp_model.specs.Step.{State, at}
+use Rattle.hp_model.specs.Step.{State, at, apic_of}
 use Rattle.hp_sealed.specs.Left.{Locked}
 
 -- the tile of a possible slot other than slot 0
@@ -21,18 +24,23 @@ is_other_tile y smbase = not (slot_at y smbase == 0) && is_tile y smbase
 abbrev pub is_based : Platform → ℕ → ℕ → Bool
 is_based p k smbase = if k == 0 then smbase == tile p 0 else ((smbase == 0x30000) || is_other_tile (layout_of p) smbase)
 
--- the monarch's record has no more slots than there may be processors
-pub record Sized (r : Monarch) : Type 0 where
-  pub slot : r.slot ≤ 64
-  pub bound : length r.slots.bound ≤ 64
-  pub known : length r.slots.known ≤ 64
+-- distinct possible APIC IDs have a slot, that of processor 0 the first, and each of them is known or not
+pub record Placed (p : Platform) (s : Slots) : Type 0 where
+  pub first : is_that (slice_get s.bound 0) (apic_of p 0) ≡ true
+  pub distinct : all_distinct s.bound ≡ true
+  pub possible : list_all (λ a. is_in a p.apic) s.bound ≡ true
+  pub known : length s.known ≡ length s.bound
+
+-- the monarch's record has such slots, and looks at one of the first
+abbrev pub Recorded : Platform → Monarch → Type 0
+Recorded p r = (r.slot ≤ 64) × Placed p r.slots
 
 -- no processor is in SMM, each is based where it may be, and processor 0 is present
 pub record IsOutside (p : Platform) (s : State) : Type 0 where
   pub outside : (k : ℕ) → smm_address (at s k) ≡ None
   pub based : (k : ℕ) → (at s k).present ≡ true → is_based p k (at s k).smbase ≡ true
   pub first : (at s 0).present ≡ true
-  pub sized : Sized s.monarch
+  pub recorded : Recorded p s.monarch
 
 -- wherever a handler runs, each of its cells holds its label's mark, and the gate is closed
 pub record Holds (p : Platform) (ws : List Write) : Type 0 where

@@ -10,7 +10,7 @@ ghost use Rattle.hp_model.specs.Monarch.{monarch_start, restarted, with_features
 ghost use Rattle.hp_model.specs.Platform.{IsFit};
 ghost use Rattle.hp_model.specs.SharedBytes.{layout_of, tile_in};
 ghost use Rattle.hp_image.specs.Handlers.{part_named};
-ghost use Rattle.hp_reloc.specs.Fits.{FitsWant};
+ghost use Rattle.hp_model.specs.Fitting.{FitsWant};
 ghost use Rattle.hp_smm.specs.Rows.{next_for, row_for, seat_for, want_for};
 
 use crate::relocated::{relocated_next, relocated_want};

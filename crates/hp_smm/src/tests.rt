@@ -2,8 +2,7 @@
 
 ghost use Rattle.std.specs.Prelude.{◌≡◌, ◌≢◌, ◌≤◌, IsTrue, Some};
 ghost use Rattle.hp_model.specs.declared.accesses.Want.TheVariants as wants;
-ghost use Rattle.hp_model.specs.Fitting.{FitsAccess};
-ghost use Rattle.hp_reloc.specs.Fits.{FitsWant};
+ghost use Rattle.hp_model.specs.Fitting.{FitsAccess, FitsWant};
 
 use crate::{Handlers, Stand};
 use hp_model::{Access, Answer, Delivery, Ids, NoMemory, Platform, Want, fits};

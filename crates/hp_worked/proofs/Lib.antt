@@ -1,3 +1,7 @@
+pub mod AddWays
+pub mod AddsChanged
+pub mod AddsRun
+pub mod AddsScheduled
 pub mod Changed
 pub mod Opened
 pub mod Runs

@@ -1,5 +1,6 @@
 -- What is asked of a trace: whether it is a run, where it stops being one, and what holds on its way.
 use Rattle.std.specs.Prelude.{ℕ, ◌+◌, Bool, true, false, not, ◌&&◌, ◌==◌, List, [], ◌∷◌, take, drop, Option, Some, None, option_map}
+use Rattle.std.specs.List.{list_any}
 use Rattle.std.specs.Option.{is_some}
 use Rattle.hp_model.specs.declared.platforms.Platform.{Platform}
 use Rattle.hp_model.specs.declared.entries.Entry.{Entry}
@@ -54,6 +55,10 @@ all_the_way p judge (e ∷ es) s = judge s e.at && judged (all_the_way p judge e
 -- the processor is astray in none of the states
 abbrev pub is_never_astray : File → ℕ → List Entry → Bool
 is_never_astray f k es = all_the_way f.platform (λ s address. not (is_astray f.platform s k)) es (start f.platform)
+
+-- and none of these is
+abbrev pub is_nobody_astray : File → List ℕ → List Entry → Bool
+is_nobody_astray f ks es = all_the_way f.platform (λ s address. not (list_any (is_astray f.platform s) ks)) es (start f.platform)
 
 -- whether the processor is in SMM after the entries, and whether it is astray
 abbrev pub in_smm_after : File → ℕ → List Entry → Option Bool

@@ -1,9 +1,11 @@
 -- Words for entries of a trace, and for a trace with one entry changed.
 use Rattle.std.specs.Prelude.{ℕ, ◌+◌, List, ◌∷◌, ◌++◌, take, drop, Some, None}
 use Rattle.hp_model.specs.declared.accesses.Access.{Access}
+use Rattle.hp_model.specs.declared.accesses.Access.TheVariants.{Swap}
 use Rattle.hp_model.specs.declared.accesses.Answer.TheVariants.{Quiet, Value}
-use Rattle.hp_model.specs.declared.entries.Event.TheVariants.{Insert, Remove, Do, TakeSmi, TakeInit, Resume}
+use Rattle.hp_model.specs.declared.entries.Event.TheVariants.{Insert, Remove, Do, TakeSmi, TakeInit, Resume, Tell}
 use Rattle.hp_model.specs.declared.entries.Entry.{Entry}
+use Rattle.hp_model.specs.declared.outcomes.Outcome.{Outcome}
 
 -- an access outside SMM without an answer, and one with a value
 abbrev pub does : ℕ → Access → Entry
@@ -18,6 +20,14 @@ does_at k address a = record { event = Do k a; at = Some address; answer = Quiet
 
 abbrev pub reads_at : ℕ → ℕ → Access → ℕ → Entry
 reads_at k address a value = record { event = Do k a; at = Some address; answer = Value value }
+
+-- processor k, whose APIC ID is k, tries the gate in the first handler, and finds it closed
+abbrev pub waits : ℕ → Entry
+waits k = reads_at k 0x38000 (Swap 0x30000 k 0xffffffffffffffff) 0xffffffffffffffff
+
+-- the monarch tells an outcome, at an instruction address
+abbrev pub tells : ℕ → Outcome → Entry
+tells address o = record { event = Tell o; at = Some address; answer = Quiet }
 
 -- SMI entry, and RSM at an instruction address
 abbrev pub takes_smi : ℕ → Entry

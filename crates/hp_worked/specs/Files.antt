@@ -1,11 +1,14 @@
 -- Platform files of the worked traces, as data.
-use Rattle.std.specs.Prelude.{true, false, List, [], ◌∷◌, replicate}
+use Rattle.std.specs.Prelude.{ℕ, true, false, List, [], ◌∷◌, replicate}
 use Rattle.hp_model.specs.declared.platforms.Platform.{Platform}
 use Rattle.hp_model.specs.declared.platforms.Delivery.TheVariants.{Prompt}
+use Rattle.hp_model.specs.declared.accesses.Access.{Access}
 use Rattle.hp_model.specs.declared.accesses.Access.TheVariants.{Load, Store, Swap, In, Out, CfgRead, CfgWrite, Icr}
 use Rattle.hp_model.specs.declared.entries.Actor.TheVariants as actor
 use Rattle.hp_model.specs.declared.files.VoiceKind.{VoiceKind}
 use Rattle.hp_model.specs.declared.files.VoiceKind.TheVariants.{Script, Pen}
+use Rattle.hp_model.specs.declared.files.HostEvent.{HostEvent}
+use Rattle.hp_model.specs.declared.files.Stall.{Stall}
 use Rattle.hp_model.specs.declared.files.File.{File}
 
 -- one processor, 128 MiB of RAM with 1 MiB of TSEG, all features, and no turn
@@ -73,6 +76,85 @@ host_events_file = record (file_of (record two_processors { apic = 0 ∷ 7 ∷ 3
 -- a processor is inserted at turn 0, started at page 10 and called into SMM
 abbrev pub closed_gate_file : File
 closed_gate_file = record (file_of (record one_of_two { turns = 18 }) (Script (Icr 0x1000000 0x610 ∷ Out 0xb2 1 0x5 ∷ []) ∷ Pen ∷ [])) { hosts = record { turn = 0; actor = actor.Insert 1 } ∷ [] }
+
+-- a host insert in a turn, and the turns in which a processor gets none
+abbrev pub inserts_in : ℕ → ℕ → HostEvent
+inserts_in turn k = record { turn = turn; actor = actor.Insert k }
+
+abbrev pub stalls_in : ℕ → ℕ → ℕ → Stall
+stalls_in k from to = record { cpu = k; from = from; to = to }
+
+-- a file with host events and stalls, where all but processor 0 are pens
+abbrev pub add_file : Platform → List HostEvent → List Stall → List Access → ℕ → File
+add_file p hosts stalls steps pens =
+    record { platform = p; hosts = hosts; stalls = stalls; voices = Script steps ∷ replicate pens Pen }
+
+-- three and five processors, of which one is there at boot
+abbrev pub one_of_three : Platform
+one_of_three = record one_processor { apic = 0 ∷ 1 ∷ 2 ∷ [] }
+
+abbrev pub one_of_five : Platform
+one_of_five = record one_processor { apic = 0 ∷ 1 ∷ 2 ∷ 3 ∷ 4 ∷ [] }
+
+-- a processor is inserted at turn 0, and the SMI command is written; its event is cleared after the add
+abbrev pub an_add_file : File
+an_add_file = add_file one_of_two (inserts_in 0 1 ∷ []) [] (Out 0xb2 1 0x4 ∷ Out 0xcd8 4 0x1 ∷ Out 0xcdc 1 0x2 ∷ []) 1
+
+-- the same, and the byte of the pen is stored before that
+abbrev pub add_with_a_stored_pen_byte_file : File
+add_with_a_stored_pen_byte_file =
+    add_file (record one_of_two { turns = 74 }) (inserts_in 0 1 ∷ []) []
+    (Store 0x9f010 1 0x1 ∷ Out 0xb2 1 0x4 ∷ Out 0xcd8 4 0x1 ∷ Out 0xcdc 1 0x2 ∷ []) 1
+
+-- two processors are inserted at turn 0, and started at page 10
+abbrev pub two_adds_file : File
+two_adds_file =
+    add_file (record one_of_three { turns = 300 }) (inserts_in 0 1 ∷ inserts_in 0 2 ∷ []) []
+    (Icr 0x1000000 0x610 ∷ Icr 0x2000000 0x610 ∷ Out 0xb2 1 0x4 ∷ []) 2
+
+-- two are inserted at turn 0; the second has no event, is started, and gets no turn until the first stores its SMBASE
+abbrev pub two_new_processors_file : File
+two_new_processors_file =
+    add_file (record one_of_three { turns = 210 }) (inserts_in 0 1 ∷ inserts_in 0 2 ∷ []) (stalls_in 2 11 85 ∷ [])
+    (Out 0xcd8 4 0x2 ∷ Out 0xcdc 1 0x2 ∷ Icr 0x2000000 0x610 ∷ Out 0xb2 1 0x4 ∷ []) 2
+
+-- four are inserted at turn 0; the second to fourth are started, and each gets its turns from an attempt of the first on
+abbrev pub gate_held_file : File
+gate_held_file =
+    add_file (record one_of_five { turns = 850 }) (inserts_in 0 1 ∷ inserts_in 0 2 ∷ inserts_in 0 3 ∷ inserts_in 0 4 ∷ [])
+    (stalls_in 2 37 191 ∷ stalls_in 3 38 307 ∷ stalls_in 4 39 423 ∷ [])
+    (Out 0xcd8 4 0x3 ∷ Out 0xcdc 1 0x2 ∷ Out 0xcd8 4 0x4 ∷ Out 0xcdc 1 0x2
+    ∷ Icr 0x2000000 0x610 ∷ Icr 0x3000000 0x610 ∷ Icr 0x4000000 0x610 ∷ Out 0xb2 1 0x4 ∷ Out 0xb2 1 0x4 ∷ []) 4
+
+-- the eject of an inserted processor is handed to the firmware
+abbrev pub insert_and_eject_file : File
+insert_and_eject_file =
+    add_file (record one_of_two { turns = 60 }) (inserts_in 0 1 ∷ []) []
+    (Out 0xcd8 4 0x1 ∷ Out 0xcdc 1 0x10 ∷ Out 0xb2 1 0x4 ∷ []) 1
+
+-- an inserted processor is ejected before the SMI command is written
+abbrev pub disabled_processor_file : File
+disabled_processor_file =
+    add_file (record one_of_two { turns = 60 }) (inserts_in 0 1 ∷ []) []
+    (Out 0xcd8 4 0x1 ∷ Out 0xcdc 1 0x8 ∷ Out 0xb2 1 0x4 ∷ []) 1
+
+-- the event of an inserted processor is cleared; it is started and gets an SMI
+abbrev pub cleared_event_file : File
+cleared_event_file =
+    add_file (record one_of_two { turns = 60 }) (inserts_in 0 1 ∷ []) []
+    (Out 0xcd8 4 0x1 ∷ Out 0xcdc 1 0x2 ∷ Icr 0x1000000 0x610 ∷ Icr 0x1000000 0x200 ∷ Out 0xb2 1 0x4 ∷ []) 1
+
+-- a processor is inserted at turn 0, ejected after its add, and inserted anew at turn 70
+abbrev pub already_known_file : File
+already_known_file =
+    add_file (record one_of_two { turns = 130 }) (inserts_in 0 1 ∷ inserts_in 70 1 ∷ []) []
+    (Out 0xb2 1 0x4 ∷ Out 0xcd8 4 0x1 ∷ Out 0xcdc 1 0x2 ∷ Out 0xcdc 1 0x8 ∷ Out 0xb2 1 0x4 ∷ []) 1
+
+-- an inserted processor gets no turn, and looks are taken twice
+abbrev pub not_at_gate_file : File
+not_at_gate_file =
+    add_file (record one_of_two { polls = 2; turns = 120 }) (inserts_in 0 1 ∷ []) (stalls_in 1 0 999 ∷ [])
+    (Out 0xb2 1 0x4 ∷ Out 0xcd8 4 0x1 ∷ Out 0xcdc 1 0x2 ∷ []) 1
 
 -- one processor, and 16 MiB of RAM
 abbrev pub small_memory : Platform

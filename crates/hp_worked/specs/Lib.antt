@@ -1,8 +1,13 @@
+pub mod Adds
 pub mod Alone
 pub mod Asked
 pub mod ClosedGate
 pub mod Entries
 pub mod Files
+pub mod GateHeld
 pub mod LateProcessor
+pub mod RefusedAdds
 pub mod Rendezvous
 pub mod Traces
+pub mod TwoAdds
+pub mod TwoNewProcessors

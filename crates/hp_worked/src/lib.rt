@@ -1,8 +1,13 @@
 //! The machine's definitions, computed on whole traces that were worked out by hand.
 #![tactic(auto)]
 
+mod adds;
 mod laws;
 
+pub use adds::{
+    changed_adds_are_none, changed_adds_stop_at_the_change, files_make_worked_adds,
+    instructions_of_worked_adds_are_locked, nobody_is_astray_in_worked_adds, worked_adds_are_runs,
+};
 pub use laws::{
     changed_traces_are_none, changed_traces_stop_at_the_change, files_make_traces_alone,
     files_make_worked_traces, nobody_is_astray_in_worked_traces, without_boot_one_is_astray,

@@ -25,6 +25,17 @@ fn agreed(rt: &impl Abort, machine: &mut Machine, features: u64) -> Result<Optio
     Ok(agreed)
 }
 
+fn agree_three(
+    rt: &impl Abort,
+    machine: &mut Machine,
+    asked: u64,
+) -> Result<[Option<u64>; 3], Fail> {
+    let first = agreed(rt, machine, asked)?;
+    let second = agreed(rt, machine, 5)?;
+    let third = agreed(rt, machine, 0)?;
+    Ok([first, second, third])
+}
+
 /// What is agreed on after each of three requests: this one, then 5, then 0.
 fn agreed_in_turn(
     rt: &impl Abort,
@@ -33,11 +44,7 @@ fn agreed_in_turn(
     asked: u64,
 ) -> Result<[Option<u64>; 3], Fail> {
     let mut machine = supporting(rt, alloc, supported)?;
-    let mut answers = [None; 3];
-    for (place, features) in [asked, 5, 0].into_iter().enumerate() {
-        answers[place] = agreed(rt, &mut machine, features)?;
-    }
-    Ok(answers)
+    agree_three(rt, &mut machine, asked)
 }
 
 #[test]
@@ -70,29 +77,36 @@ fn features_that_the_device_lacks_are_refused(rt: HostRuntime) -> Result<(), Fai
 }
 
 /// What is agreed on after 3 was requested and then a transfer made; with the control field that this leaves.
-fn agreed_by(rt: &impl Abort, alloc: Global, ask: Ask) -> Result<(u64, Option<u64>), Fail> {
-    let mut machine = supporting(rt, alloc, 7)?;
-    request(rt, &mut machine, 3)?;
-    assert_eq!(rt; machine.negotiated(), None);
-    let left = transfer(rt, &mut machine, 0, ask)?;
+fn agree_by(rt: &impl Abort, machine: &mut Machine, ask: Ask) -> Result<(u64, Option<u64>), Fail> {
+    request(rt, machine, 3)?;
+    assert!(rt; machine.negotiated().is_none());
+    let left = transfer(rt, machine, 0, ask)?;
     Ok((left, machine.negotiated()))
 }
+
+fn agreed_by(rt: &impl Abort, alloc: Global, ask: Ask) -> Result<(u64, Option<u64>), Fail> {
+    let mut machine = supporting(rt, alloc, 7)?;
+    agree_by(rt, &mut machine, ask)
+}
+
+// control, length; the control field that is left, and what is agreed on
+const BY_TRANSFER: [(u32, u32, (u64, Option<u64>)); 8] = [
+    (0x00200008, 0, (DONE, Some(3))),
+    (0x0020000a, 1, (DONE, Some(3))),
+    (0x0020000a, 257, (ERROR, Some(3))),
+    (0x0020000c, 1, (DONE, Some(3))),
+    (0x00200018, 0, (ERROR, Some(3))),
+    // none of these selects it
+    (0x00200004, 1, (DONE, None)),
+    (0x00210008, 0, (DONE, None)),
+    (0x80200008, 0, (DONE, None)),
+];
 
 #[test]
 fn a_transfer_that_selects_features_ok_settles_even_if_it_fails(
     rt: HostRuntime,
 ) -> Result<(), Fail> {
-    for (control, len, want) in [
-        (0x00200008, 0, (DONE, Some(3))),
-        (0x0020000a, 1, (DONE, Some(3))),
-        (0x0020000a, 257, (ERROR, Some(3))),
-        (0x0020000c, 1, (DONE, Some(3))),
-        (0x00200018, 0, (ERROR, Some(3))),
-        // none of these selects it
-        (0x00200004, 1, (DONE, None)),
-        (0x00210008, 0, (DONE, None)),
-        (0x80200008, 0, (DONE, None)),
-    ] {
+    for (control, len, want) in BY_TRANSFER {
         let ask = Ask {
             control,
             len,
@@ -104,21 +118,28 @@ fn a_transfer_that_selects_features_ok_settles_even_if_it_fails(
     Ok(())
 }
 
-#[test]
-fn no_other_selection_settles(rt: HostRuntime) -> Result<(), Fail> {
-    let mut machine = supporting(&rt, rt.alloc(), 7)?;
-    request(&rt, &mut machine, 3)?;
-    for (width, key, want) in [
-        (1, 0x20, None),
-        (4, 0x20, None),
-        (2, 0x21, None),
-        (2, 0x22, None),
-        (2, 0x8020, None),
-        (2, 0x2000, None),
-        (2, 0x20, Some(3)),
-    ] {
-        quiet(&rt, &mut machine, port_out(0, width, 0x510, key))?;
+// width, key, and what is agreed on
+const SELECTIONS: [(u8, u32, Option<u64>); 7] = [
+    (1, 0x20, None),
+    (4, 0x20, None),
+    (2, 0x21, None),
+    (2, 0x22, None),
+    (2, 0x8020, None),
+    (2, 0x2000, None),
+    (2, 0x20, Some(3)),
+];
+
+fn check_selections(rt: &impl Abort, machine: &mut Machine) -> Result<(), Fail> {
+    request(rt, machine, 3)?;
+    for (width, key, want) in SELECTIONS {
+        quiet(rt, machine, port_out(0, width, 0x510, key))?;
         assert_eq!(rt; machine.negotiated(), want, "{key:x} of {width} bytes");
     }
     Ok(())
+}
+
+#[test]
+fn no_other_selection_settles(rt: HostRuntime) -> Result<(), Fail> {
+    let mut machine = supporting(&rt, rt.alloc(), 7)?;
+    check_selections(&rt, &mut machine)
 }

@@ -76,14 +76,19 @@ pub fn requested(rt: &impl Abort, machine: &mut Machine) -> Result<u64, Fail> {
     Ok(features)
 }
 
+/// Processor 1 goes into SMM, and the 8 bytes of etc/smi/requested-features become 21, 22 .. 28.
+fn prepare(rt: &impl Abort, machine: &mut Machine) -> Result<(), Fail> {
+    quiet(rt, machine, icr(0, 0x01000000, 0x200))?;
+    quiet(rt, machine, Event::TakeSmi(1))?;
+    request(rt, machine, ITEM)
+}
+
 /// Two processors, 1 in SMM, with 16 MiB of RAM and TSEG from 00f00000 on. The 8 bytes of etc/smi/requested-features
 /// are 21, 22 .. 28.
 pub fn prepared(rt: &impl Abort, alloc: Global) -> Result<Machine, Fail> {
     let p = platform(alloc, vec![in alloc; 0, 1]?, 2, 0x1000000, 1)?;
     let mut machine = machine(rt, alloc, &p)?;
-    quiet(rt, &mut machine, icr(0, 0x01000000, 0x200))?;
-    quiet(rt, &mut machine, Event::TakeSmi(1))?;
-    request(rt, &mut machine, ITEM)?;
+    prepare(rt, &mut machine)?;
     Ok(machine)
 }
 

@@ -1,32 +1,35 @@
 //! Which port answers at which width, with values worked out by hand.
 
 use super::guest::{request, select, start};
-use super::{load, port_in, port_out, quiet, store, two, value};
+use super::{Act, load, play_quiet, port_in, port_out, quiet, store, two, value};
 use crate::Machine;
 use hp_model::Event;
 use std::alloc::Global;
 use std::process::Abort;
 use std::test::Fail;
 
+const FILL: [Act; 8] = [
+    Act::Insert(1),
+    Act::Out(0, 4, 0xcd8, 0),
+    Act::Out(0, 4, 0xcd8, 1),
+    Act::Out(0, 1, 0xb2, 0x11),
+    Act::Out(0, 1, 0xb3, 0x22),
+    Act::Out(0, 4, 0x630, 0x44434241),
+    Act::Store(0, 8, 0, 0x0200000002000000),
+    Act::Store(0, 8, 8, 0x0020000000000000),
+];
+
+fn fill(rt: &impl Abort, machine: &mut Machine) -> Result<(), Fail> {
+    request(rt, machine, 0x2827262524232221)?;
+    select(rt, machine, 0x21)?;
+    play_quiet(rt, machine, &FILL)
+}
+
 /// A machine whose registers all hold something: processor 1 has come and is selected, etc/smi/requested-features has the
 /// bytes 21, 22 .. 28 and is selected, and a descriptor at 0 asks for 2 bytes of the item at 2000.
 fn filled(rt: &impl Abort, alloc: Global) -> Result<Machine, Fail> {
     let mut machine = two(rt, alloc, 1)?;
-    request(rt, &mut machine, 0x2827262524232221)?;
-    select(rt, &mut machine, 0x21)?;
-    let steps = [
-        Event::Insert(1),
-        port_out(0, 4, 0xcd8, 0),
-        port_out(0, 4, 0xcd8, 1),
-        port_out(0, 1, 0xb2, 0x11),
-        port_out(0, 1, 0xb3, 0x22),
-        port_out(0, 4, 0x630, 0x44434241),
-        store(0, 8, 0, 0x0200000002000000),
-        store(0, 8, 8, 0x0020000000000000),
-    ];
-    for step in steps {
-        quiet(rt, &mut machine, step)?;
-    }
+    fill(rt, &mut machine)?;
     Ok(machine)
 }
 
@@ -38,32 +41,53 @@ const PORTS: [u16; 44] = [
     0xce3, 0xce4, 0, 0xffff,
 ];
 
+/// What a port reads on a machine as `filled` leaves it. The register block answers at each width: status 3 is enabled and
+/// come, and command data the selector.
+fn read_of(port: u16, width: u8) -> u64 {
+    match (port, width) {
+        (0xb2, 1) => 0x11,
+        (0xb3, 1) => 0x22,
+        (0x620, 1) => 4,
+        (0x630, 4) => 0x44434241,
+        (0x511, 1) => 0x21,
+        (0xcdc, _) => 3,
+        (0xce0, _) => 1,
+        _ => 0,
+    }
+}
+
+/// What fw_cfg's data reads after that. Only itself goes on.
+fn data_after(port: u16, width: u8) -> u64 {
+    match (port, width) {
+        (0x511, 1) => 0x22,
+        _ => 0x21,
+    }
+}
+
+/// What a port reads, and then fw_cfg's data.
+fn read_two(
+    rt: &impl Abort,
+    machine: &mut Machine,
+    port: u16,
+    width: u8,
+) -> Result<(u64, u64), Fail> {
+    let got = value(rt, machine, port_in(0, width, port))?;
+    let next = value(rt, machine, port_in(0, 1, 0x511))?;
+    Ok((got, next))
+}
+
+fn reads_of(rt: &impl Abort, alloc: Global, port: u16, width: u8) -> Result<(u64, u64), Fail> {
+    let mut machine = filled(rt, alloc)?;
+    read_two(rt, &mut machine, port, width)
+}
+
 #[test]
 fn a_port_reads_0_but_for_its_registers_own_width(rt: HostRuntime) -> Result<(), Fail> {
     for port in PORTS {
         for width in [1, 2, 4] {
-            let mut machine = filled(&rt, rt.alloc())?;
-            // the register block answers at each width: status 3 is enabled and come, and command data the selector
-            let want = match (port, width) {
-                (0xb2, 1) => 0x11,
-                (0xb3, 1) => 0x22,
-                (0x620, 1) => 4,
-                (0x630, 4) => 0x44434241,
-                (0x511, 1) => 0x21,
-                (0xcdc, _) => 3,
-                (0xce0, _) => 1,
-                _ => 0,
-            };
-            let got = value(&rt, &mut machine, port_in(0, width, port))?;
+            let got = reads_of(&rt, rt.alloc(), port, width)?;
+            let want = (read_of(port, width), data_after(port, width));
             assert_eq!(rt; got, want, "{width} bytes at {port:x}");
-            // only fw_cfg's data goes on
-            let next = value(&rt, &mut machine, port_in(0, 1, 0x511))?;
-            let want = if (port, width) == (0x511, 1) {
-                0x22
-            } else {
-                0x21
-            };
-            assert_eq!(rt; next, want, "after {width} bytes at {port:x}");
         }
     }
     Ok(())
@@ -194,40 +218,57 @@ fn ones(width: u8) -> u32 {
     }
 }
 
+fn write_and_see(rt: &impl Abort, machine: &mut Machine, e: Event) -> Result<Registers, Fail> {
+    quiet(rt, machine, e)?;
+    seen(rt, machine)
+}
+
+/// What is seen on a machine as `filled` leaves it, after a write.
+fn seen_after(rt: &impl Abort, alloc: Global, e: Event) -> Result<Registers, Fail> {
+    let mut machine = filled(rt, alloc)?;
+    write_and_see(rt, &mut machine, e)
+}
+
 #[test]
 fn a_write_changes_nothing_but_at_its_registers_own_width(rt: HostRuntime) -> Result<(), Fail> {
     for port in PORTS {
         for width in [1, 2, 4] {
-            for (written, want) in [
-                (0, after_0(port, width)),
-                (ones(width), after_ones(port, width)),
-            ] {
-                let mut machine = filled(&rt, rt.alloc())?;
-                quiet(&rt, &mut machine, port_out(0, width, port, written))?;
-                assert_eq!(rt;
-                    seen(&rt, &mut machine)?,
-                    want,
-                    "{written:x}, {width} bytes at {port:x}"
-                );
-            }
+            let got = seen_after(&rt, rt.alloc(), port_out(0, width, port, 0))?;
+            assert_eq!(rt; got, after_0(port, width), "0, {width} bytes at {port:x}");
+            let got = seen_after(&rt, rt.alloc(), port_out(0, width, port, ones(width)))?;
+            assert_eq!(rt;
+                got,
+                after_ones(port, width),
+                "ones, {width} bytes at {port:x}"
+            );
         }
     }
+    Ok(())
+}
+
+/// Writes ones, and reads 0.
+fn check_unnamed(rt: &impl Abort, machine: &mut Machine, port: u16, width: u8) -> Result<(), Fail> {
+    quiet(rt, machine, port_out(0, width, port, ones(width)))?;
+    let got = value(rt, machine, port_in(0, width, port))?;
+    assert_eq!(rt; got, 0, "{width} bytes at {port:x}");
+    Ok(())
+}
+
+fn check_all_unnamed(rt: &impl Abort, machine: &mut Machine) -> Result<(), Fail> {
+    for port in 0..=u16::MAX {
+        if PORTS.contains(&port) {
+            continue;
+        }
+        for width in [1, 2, 4] {
+            check_unnamed(rt, machine, port, width)?;
+        }
+    }
+    assert_eq!(rt; seen(rt, machine)?, FILLED);
     Ok(())
 }
 
 #[test]
 fn ports_that_no_rule_names_read_0(rt: HostRuntime) -> Result<(), Fail> {
     let mut machine = filled(&rt, rt.alloc())?;
-    for port in 0..=u16::MAX {
-        if PORTS.contains(&port) {
-            continue;
-        }
-        for width in [1, 2, 4] {
-            quiet(&rt, &mut machine, port_out(0, width, port, ones(width)))?;
-            let got = value(&rt, &mut machine, port_in(0, width, port))?;
-            assert_eq!(rt; got, 0, "{width} bytes at {port:x}");
-        }
-    }
-    assert_eq!(rt; seen(&rt, &mut machine)?, FILLED);
-    Ok(())
+    check_all_unnamed(&rt, &mut machine)
 }

@@ -6,7 +6,7 @@ use Rattle.hp_model.specs.Boot.{is_handed}
 use Rattle.hp_model.specs.SharedBytes.{layout_of}
 use Rattle.hp_model.specs.Step.{State, after, row_at, seat}
 use Rattle.hp_machine.specs.Machine.{Machine}
-use Rattle.hp_reloc.specs.Fits.{FitsWant}
+use Rattle.hp_model.specs.Fitting.{FitsWant}
 use Rattle.hp_smm.specs.Rows.{want_for}
 use Rattle.hp_platform.specs.Board.{Board, IsReady, IsStand, Shows, row_event}
 use Rattle.hp_platform.proofs.Leading.{IsAt, ready_row, some_row}

@@ -1,0 +1,49 @@
+-- What contracts see of a collection: how many processors are possible, and where the last answer led.
+use Rattle.std.specs.Prelude.{◌≡◌, ℕ, List, map}
+use Rattle.hp_model.specs.declared.accesses.Answer.{Answer}
+use Rattle.hp_model.specs.declared.labels.Label.{Label}
+use Rattle.hp_model.specs.Collection.{Collection, Collected, CollectsAt, CollectedAll, Report}
+use Rattle.hp_model.specs.Fitting.{FitsWant}
+use Rattle.hp_model.specs.Handlers.{Seat, want_at}
+use Rattle.hp_model.specs.Monarch.{Monarch}
+use Rattle.hp_model.specs.SharedBytes.{Layout}
+use Rattle.hp_collect.specs.Standing.{label_of}
+use Rattle.hp_collect.specs.declared.rows.Row.{Row}
+use Rattle.hp_collect.specs.declared.collects.Reported.{Reported}
+use Rattle.hp_collect.specs.declared.collects.Stage.{Stage}
+use Rattle.hp_collect.specs.declared.collects.Stage.TheVariants.{More, Ended}
+
+pub record Collecting : Type 0 where
+  pub count : ℕ
+  pub collected : Collected
+
+-- what it has collected so far
+abbrev pub collection_in : Collected → Collection
+collection_in (CollectsAt l c) = c
+collection_in (CollectedAll c) = c
+
+abbrev pub stage_of : Collected → Stage
+stage_of (CollectsAt l c) = More
+stage_of (CollectedAll c) = Ended
+
+-- it stands at a label
+abbrev pub IsGoing : Collected → Type 0
+IsGoing (CollectsAt l c) = Unit {0}
+IsGoing (CollectedAll c) = ⊥
+
+-- one of a collection's labels
+pub record IsOfCollection (l : Label) : Type 0 where
+  pub row : Row
+  pub is : l ≡ label_of row
+
+-- the answer fits what it wants: of the monarch's record nothing but the collection matters
+abbrev pub Fits : Collected → Answer → Type 0
+Fits (CollectsAt l c) answer = (y : Layout) (x : Seat) (r : Monarch) → r.collection ≡ c → FitsWant (want_at y x r l) answer
+Fits (CollectedAll c) answer = ⊥
+
+-- what the rules see of a report, and of several in their order
+abbrev pub report_of : Reported → Report
+report_of t = record { cpu = t.cpu; status = t.status; apic = t.apic }
+
+abbrev pub reports_of : List Reported → List Report
+reports_of ts = map report_of ts

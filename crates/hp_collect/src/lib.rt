@@ -1,0 +1,9 @@
+//! Collection: the monarch asks the register block for one processor after another that has an event (own rule).
+#![tactic(auto)]
+
+mod collects;
+mod rows;
+#[cfg(test)]
+mod tests;
+
+pub use collects::{Collect, Reported, Stage};

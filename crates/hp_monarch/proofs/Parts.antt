@@ -1,0 +1,68 @@
+-- How the monarch goes on by its parts: the collection, and an add.
+use Rattle.std.proofs.Common.{◌≡◌, ◌≢◌, ℕ, List, Option, Some, None, refl, sym, ap, subst, ◌∙◌}
+use Rattle.std.proofs.lemmas.Option.{same_Some}
+use Rattle.hp_model.specs.declared.labels.Label.{Label}
+use Rattle.hp_model.specs.declared.labels.Label.TheVariants.{T, E5, E7}
+use Rattle.hp_model.specs.declared.outcomes.Outcome.{Outcome}
+use Rattle.hp_model.specs.Add.{Add, Led, AddsAt, Ends}
+use Rattle.hp_model.specs.Collection.{Collection, Collected, CollectsAt, CollectedAll}
+use Rattle.hp_model.specs.Handlers.{Next, Seat, goes, next_at}
+use Rattle.hp_model.specs.Monarch.{Monarch, at_label, collected, led, next_report}
+use Rattle.hp_model.specs.SharedBytes.{Layout}
+use Rattle.hp_collect.specs.declared.collects.Stage.TheVariants.{Ended}
+use Rattle.hp_collect.specs.Collecting.{IsOfCollection, collection_in, stage_of, IsGoing as IsCollecting}
+use Rattle.hp_collect.specs.Standing.{label_of as collection_label}
+use Rattle.hp_collect.specs.declared.rows.Row.{Row as CollectionRow}
+use Rattle.hp_collect.specs.declared.rows.Row.TheVariants as collection
+use Rattle.hp_reloc.specs.Relocating.{add_in, outcome_of}
+use Rattle.hp_monarch.specs.Session.{collecting_at}
+use Rattle.hp_monarch.proofs.Reports.{report_from}
+
+-- a collection that goes on stands at its label, with what it has collected
+pub going_at : (d : Collected) → IsCollecting d → d ≡ CollectsAt (collecting_at d) (collection_in d)
+going_at (CollectsAt l c) going = refl
+going_at (CollectedAll c) going = absurd going
+
+ended_at : (d : Collected) → stage_of d ≡ Ended → d ≡ CollectedAll (collection_in d)
+ended_at (CollectsAt l c) e = absurd cc
+ended_at (CollectedAll c) e = refl
+
+-- none of its labels is the monarch's last
+not_left : (w : CollectionRow) → collection_label w ≢ E7
+not_left collection.C1 e = cc
+not_left collection.C2 e = cc
+not_left collection.C3 e = cc
+not_left collection.C4 e = cc
+not_left collection.C5 e = cc
+not_left collection.C6 e = cc
+
+pub collects_on : (l : Label) → IsOfCollection l → l ≢ E7
+collects_on l of e = not_left of.row (sym of.is ∙ e)
+
+-- its end leads to the next report
+pub collection_ends : (y : Layout) (x : Seat) (r : Monarch) (v : ℕ) (d : Collected) → next_at y x r r.label v ≡ goes x (collected y.apics d r) → stage_of d ≡ Ended
+    → next_report y.apics (record r { label = E5; collection = collection_in d }) ≡ (next_at y x r r.label v).monarch
+collection_ends y x r v d e ended =
+    report_from E5 y.apics (record r { collection = collection_in d })
+    ∙ ap (λ (c : Collected). collected y.apics c r) (sym (ended_at d ended))
+    ∙ ap (λ (n : Next). n.monarch) (sym e)
+
+-- an add that has ended tells its outcome
+ends_at : (d : Led) (o : Outcome) → Some o ≡ outcome_of d → d ≡ Ends o
+ends_at (AddsAt l a) o e = absurd cc
+ends_at (Ends p) o e = ap Ends (sym (same_Some o p e))
+
+pub add_ends : (y : Layout) (x : Seat) (r : Monarch) (v : ℕ) (l : Label) (d : Led) (o : Outcome) (last : List ℕ) (a : Add) → (next_at y x r l v).monarch ≡ record (led d r) { last = (next_at y x r l v).monarch.last } → (next_at y x r l v).monarch.last ≡ last → Some o ≡ outcome_of d → a ≡ r.add
+    → record r { label = T; last = last; add = a; outcome = o } ≡ (next_at y x r l v).monarch
+add_ends y x r v l d o last a e bytes is same =
+    ap (λ (b : Add). record r { label = T; last = last; add = b; outcome = o }) same
+    ∙ ap (λ (bs : List ℕ). record r { label = T; last = bs; outcome = o }) (sym bytes)
+    ∙ ap (λ (f : Led). record (led f r) { last = (next_at y x r l v).monarch.last }) (sym (ends_at d o is))
+    ∙ sym e
+
+-- the add's record, as the monarch has it
+pub same_add : (l : Label) (d : Led) (a : Add) → d ≡ AddsAt l a → add_in d a ≡ a
+same_add l d a e = ap (λ (f : Led). add_in f a) e
+
+pub ended_add : (d : Led) (o : Outcome) (a b : Add) → Some o ≡ outcome_of d → b ≡ add_in d a → add_in d b ≡ a
+ended_add d o a b is e = ap (λ (f : Led). add_in f b) (ends_at d o is) ∙ e ∙ ap (λ (f : Led). add_in f a) (ends_at d o is)
