@@ -1,2 +1,3 @@
+pub mod ApicIds
 pub mod Same
 pub mod Scheduled

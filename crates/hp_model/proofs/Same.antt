@@ -83,7 +83,9 @@ outcome_kinded kind ns =
     else if kind == 8 then outcome.Refused (refusal.NoUnplug (at ns 0) (at ns 1))
     else if kind == 9 then outcome.Refused (refusal.NotKnown (at ns 0) (at ns 1))
     else if kind == 10 then outcome.Refused (refusal.NotArrived (at ns 0) (at ns 1))
-    else outcome.Refused (refusal.NotParked (at ns 0) (at ns 1))
+    else if kind == 11 then outcome.Refused (refusal.NotParked (at ns 0) (at ns 1))
+    else if kind == 12 then outcome.Refused (refusal.Foreign (at ns 0) (at ns 1))
+    else outcome.Refused (refusal.StillPending (at ns 0) (at ns 1))
 
 abbrev outcome_with : List ℕ → Outcome
 outcome_with [] = outcome_kinded 0 []
@@ -102,6 +104,8 @@ outcome_with-is (outcome.Refused (refusal.NoUnplug cpu features)) = refl
 outcome_with-is (outcome.Refused (refusal.NotKnown cpu apic)) = refl
 outcome_with-is (outcome.Refused (refusal.NotArrived cpu apic)) = refl
 outcome_with-is (outcome.Refused (refusal.NotParked cpu apic)) = refl
+outcome_with-is (outcome.Refused (refusal.Foreign cpu apic)) = refl
+outcome_with-is (outcome.Refused (refusal.StillPending cpu status)) = refl
 
 pub same_outcome-equal : (a b : Outcome) → same_outcome a b ≡ true → a ≡ b
 unfolding same_outcome

@@ -71,13 +71,13 @@ IsRun-turns f (suc n) turn w =
 -- the machine makes each entry of the boot, one after another
 pub booted_runs : (f : File) → IsSome (run f.platform (booted f).entries)
 unfolding run booted
-booted_runs f = subst (λ (r : Option State). IsSome r) (sym (IsRun-all f.platform (replicate boot_turns (actor.Cpu 0)) (scene_start f)).runs) refl
+booted_runs f = subst (λ (r : Option State). IsSome r) (sym (IsRun-all f.platform (replicate (boot_turns f.platform) (actor.Cpu 0)) (scene_start f)).runs) refl
 
 -- and each of the schedule, one after another
 pub scheduled_runs : (f : File) → IsSome (run f.platform (scheduled f))
 unfolding run scheduled booted
 scheduled_runs f =
-    let boot = IsRun-all f.platform (replicate boot_turns (actor.Cpu 0)) (scene_start f) in
+    let boot = IsRun-all f.platform (replicate (boot_turns f.platform) (actor.Cpu 0)) (scene_start f) in
     let all = IsRun-both f.platform (scene_start f) (booted f) (turns_from f f.platform.turns 0 (booted f).scene) boot (IsRun-turns f f.platform.turns 0 (booted f).scene) in
     subst (λ (r : Option State). IsSome r) (sym all.runs) refl
 

@@ -1,5 +1,5 @@
 -- Processors: presence, modes and latches (Intel SDM vol. 3, System Management Mode and APIC).
-use Rattle.std.specs.Prelude.{ℕ, Bool, true, false, ◌&&◌, not, ◌+◌, ◌-◌, ◌/◌, ◌%◌, List, [], ◌∷◌, Option, Some, None, slice_index_or, slice_set, replicate, if◌then◌else◌}
+use Rattle.std.specs.Prelude.{ℕ, Bool, true, false, ◌&&◌, ◌||◌, not, ◌+◌, ◌-◌, ◌/◌, ◌%◌, List, [], ◌∷◌, Option, Some, None, slice_index_or, slice_set, replicate, if◌then◌else◌}
 use Rattle.hp_model.specs.declared.platforms.Platform.{Platform}
 use Rattle.hp_model.specs.declared.processors.Mode.{Mode}
 use Rattle.hp_model.specs.declared.processors.Mode.TheVariants.{Wait, Running, Halted, Smm}
@@ -71,9 +71,13 @@ address_in (Smm address) = Some address
 abbrev pub smm_address : Cpu → Option ℕ
 smm_address c = if c.present then address_in c.mode else None
 
--- it may make any access: present, running outside SMM, and neither SMI nor INIT is latched
-abbrev pub is_free : Cpu → Bool
-is_free c = c.present && (is_running c.mode && (not c.smi && not c.init))
+-- nothing is latched that goes before its next access: neither SMI nor INIT, but a latched SMI may come late (own rule)
+abbrev pub is_unlatched : Bool → Cpu → Bool
+is_unlatched late c = (late && c.smi) || (not c.smi && not c.init)
+
+-- it may make any access: present, running outside SMM, and nothing goes before
+abbrev pub is_free : Bool → Cpu → Bool
+is_free late c = c.present && (is_running c.mode && is_unlatched late c)
 
 -- a running processor halts at its page
 abbrev pub halted : Mode → Mode

@@ -1,17 +1,19 @@
--- The SMI handlers' tables (own rule): what each label wants, and where its answer leads. The labels of ejects have no row yet, and none leads to them.
+-- The SMI handlers' tables (own rule): what each label wants, and where its answer leads.
 use Rattle.std.specs.Prelude.{ℕ, Bool, true, ◌&&◌, not, ◌==◌, nat_lt, ◌+◌, ◌-◌, ◌*◌, ◌/◌, Option, Some, None, option_and_then, if◌then◌else◌}
 use Rattle.hp_model.specs.declared.accesses.Access.{Access}
 use Rattle.hp_model.specs.declared.accesses.Access.TheVariants.{Load, Store, Swap, In, Out, Icr}
 use Rattle.hp_model.specs.declared.accesses.Want.{Want}
 use Rattle.hp_model.specs.declared.accesses.Want.TheVariants as want
 use Rattle.hp_model.specs.declared.labels.Label.{Label}
-use Rattle.hp_model.specs.declared.labels.Label.TheVariants.{F1, F2, F3, F4, F5, F6, R1, R2, R3, R4, R5, R6, S0, S1, S2, S3, S4, C1, C2, C3, C4, C5, C6, NB, N0, N1, N2, N3, N4, N5, N6, N7, N8a, N8b, N9, N10, N11, E0, E1, E2, E3, E4a, E4b, E4c, E4d, E4e, T, E5, E6, E7}
-use Rattle.hp_model.specs.Labels.{Part, First, Relocated, Monarch as Monarchs, part_of, index_of, mark_of, label_with}
+use Rattle.hp_model.specs.declared.labels.Label.TheVariants.{F1, F2, F3, F4, F5, F6, R1, R2, R3, R4, R5, R6, S0, S1, S2, S3, S4, C1, C2, C3, C4, C5, C6, NB, N0, N1, N2, N3, N4, N5, N6, N7, N8a, N8b, N9, N10, N11, E0, E1, E2, E3, E4a, E4b, E4c, E4d, E4e, E4f, E4g, E4h, T, E5, E6, E7}
+use Rattle.hp_model.specs.Platform.{high_half}
+use Rattle.hp_model.specs.Labels.{Part, First, Relocated, Monarch as Monarchs, part_of, index_of, same_label, label_with}
 use Rattle.hp_model.specs.SharedBytes.{Layout, tile_in, arrived_byte, release_byte, map_byte, parked_byte, session_byte, gate, closed, new_smbase, flag, default_smbase_field}
 use Rattle.hp_model.specs.Slots.{known_from}
 use Rattle.hp_model.specs.Collection.{found, judged, reported}
 use Rattle.hp_model.specs.Add.{begun, looks, saw_flag, saw_pair, shut, saw_arrival}
-use Rattle.hp_model.specs.Monarch.{Monarch, at_label, first_slot, next_slot, look_at, looked, noted, commanded, collected, led, told, next_report}
+use Rattle.hp_model.specs.Eject.{awaits, saw_parked, unparked, handed_to_block, saw_status, given_up, gone}
+use Rattle.hp_model.specs.Monarch.{Monarch, at_label, first_slot, next_slot, look_at, looked, noted, commanded, collected, led, eject_led, told, next_report}
 
 -- who stands at a label: its APIC ID, the slot of its tile, and the base that the first handler has loaded
 pub record Seat : Type 0 where
@@ -26,14 +28,14 @@ abbrev pub store_byte : ℕ → ℕ → Option Want
 store_byte addr value = access (Store addr 1 value)
 
 -- interrupt commands to one APIC ID: an SMI, an INIT, and a SIPI that names the pen's page, 9f
-abbrev pub smi_to : ℕ → Option Want
-smi_to apic = access (Icr (apic * 0x1000000) 0x200)
+abbrev pub smi_to : Layout → ℕ → Option Want
+smi_to y apic = access (Icr (high_half y.x2apic apic) 0x200)
 
-abbrev pub init_to : ℕ → Option Want
-init_to apic = access (Icr (apic * 0x1000000) 0x500)
+abbrev pub init_to : Layout → ℕ → Option Want
+init_to y apic = access (Icr (high_half y.x2apic apic) 0x500)
 
-abbrev pub sipi_to : ℕ → Option Want
-sipi_to apic = access (Icr (apic * 0x1000000) 0x69f)
+abbrev pub sipi_to : Layout → ℕ → Option Want
+sipi_to y apic = access (Icr (high_half y.x2apic apic) 0x69f)
 
 -- what a label wants
 abbrev pub want_at : Layout → Seat → Monarch → Label → Option Want
@@ -41,7 +43,7 @@ want_at y x r F1 = access (Swap gate x.apic closed)
 want_at y x r F2 = access (Load new_smbase 4)
 want_at y x r F3 = access (Store default_smbase_field 4 x.base)
 want_at y x r F4 = store_byte flag 1
-want_at y x r F5 = smi_to x.apic
+want_at y x r F5 = smi_to y x.apic
 want_at y x r F6 = Some want.Resume
 want_at y x r R1 = store_byte (arrived_byte y x.slot) 1
 want_at y x r R2 = access (Load (map_byte y x.slot) 1)
@@ -64,25 +66,28 @@ want_at y x r NB = store_byte (release_byte y r.add.slot) 0
 want_at y x r N0 = store_byte (arrived_byte y r.add.slot) 0
 want_at y x r N1 = store_byte flag 0
 want_at y x r N2 = access (Store new_smbase 4 (tile_in y r.add.slot))
-want_at y x r N3 = smi_to r.add.apic
-want_at y x r N4 = init_to r.add.apic
-want_at y x r N5 = sipi_to r.add.apic
-want_at y x r N6 = sipi_to r.add.apic
+want_at y x r N3 = smi_to y r.add.apic
+want_at y x r N4 = init_to y r.add.apic
+want_at y x r N5 = sipi_to y r.add.apic
+want_at y x r N6 = sipi_to y r.add.apic
 want_at y x r N7 = access (Store gate 8 r.add.apic)
 want_at y x r N8a = access (Load flag 1)
 want_at y x r N8b = access (Load (arrived_byte y r.add.slot) 1)
 want_at y x r N9 = access (Store gate 8 closed)
 want_at y x r N10 = store_byte (arrived_byte y r.add.slot) 0
 want_at y x r N11 = access (Load (arrived_byte y r.add.slot) 1)
-want_at y x r E0 = None
-want_at y x r E1 = None
-want_at y x r E2 = None
-want_at y x r E3 = None
-want_at y x r E4a = None
-want_at y x r E4b = None
-want_at y x r E4c = None
-want_at y x r E4d = None
-want_at y x r E4e = None
+want_at y x r E0 = store_byte (parked_byte y r.eject.slot) 0
+want_at y x r E1 = store_byte (map_byte y r.eject.slot) 1
+want_at y x r E2 = access (Load (parked_byte y r.eject.slot) 1)
+want_at y x r E3 = store_byte (map_byte y r.eject.slot) 0
+want_at y x r E4a = access (Out 0xcd8 4 r.eject.cpu)
+want_at y x r E4b = access (Out 0xcdc 1 8)
+want_at y x r E4c = store_byte (arrived_byte y r.eject.slot) 0
+want_at y x r E4d = store_byte (map_byte y r.eject.slot) 0
+want_at y x r E4e = store_byte (parked_byte y r.eject.slot) 0
+want_at y x r E4f = access (Out 0xcd8 4 r.eject.cpu)
+want_at y x r E4g = access (In 0xcdc 1)
+want_at y x r E4h = store_byte (map_byte y r.eject.slot) 0
 want_at y x r T = Some (want.Tell r.outcome)
 want_at y x r E5 = store_byte (session_byte y) 0
 want_at y x r E6 = store_byte (release_byte y r.slot) 1
@@ -141,15 +146,18 @@ next_at y x r N8b v = goes x (led (saw_pair v r.add) (noted r.add.slot v r))
 next_at y x r N9 v = goes x (led (shut r.add) r)
 next_at y x r N10 v = goes x (led (looks N11 y.polls r.add) r)
 next_at y x r N11 v = goes x (led (saw_arrival v r.add) (noted r.add.slot v r))
-next_at y x r E0 v = goes x r
-next_at y x r E1 v = goes x r
-next_at y x r E2 v = goes x r
-next_at y x r E3 v = goes x r
-next_at y x r E4a v = goes x r
-next_at y x r E4b v = goes x r
-next_at y x r E4c v = goes x r
-next_at y x r E4d v = goes x r
-next_at y x r E4e v = goes x r
+next_at y x r E0 v = goes x (at_label E1 r)
+next_at y x r E1 v = goes x (eject_led (awaits y.polls r.eject) r)
+next_at y x r E2 v = goes x (eject_led (saw_parked v r.eject) r)
+next_at y x r E3 v = goes x (eject_led (unparked r.eject) r)
+next_at y x r E4a v = goes x (at_label E4b r)
+next_at y x r E4b v = goes x (at_label (handed_to_block y.late) r)
+next_at y x r E4c v = goes x (at_label E4d r)
+next_at y x r E4d v = goes x (at_label E4e r)
+next_at y x r E4e v = goes x (eject_led (gone r.eject) r)
+next_at y x r E4f v = goes x (at_label E4g r)
+next_at y x r E4g v = goes x (eject_led (saw_status v r.eject) r)
+next_at y x r E4h v = goes x (eject_led (given_up r.eject) r)
 next_at y x r T v = goes x (next_report y.apics (told r.outcome r))
 next_at y x r E5 v = goes x (first_slot E6 E7 r)
 next_at y x r E6 v = goes x (next_slot E6 E7 r)
@@ -172,7 +180,7 @@ runs_at y Monarchs cpu smbase = (cpu == 0) && (smbase == tile_in y 0)
 abbrev pub is_due : Monarch → Part → Label → Bool
 is_due r First l = true
 is_due r Relocated l = true
-is_due r Monarchs l = mark_of l == mark_of r.label
+is_due r Monarchs l = same_label l r.label
 
 -- the label, where its handler runs and its row is due
 abbrev pub due_label : Layout → Monarch → ℕ → ℕ → Label → Option Label

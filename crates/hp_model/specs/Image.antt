@@ -2,7 +2,7 @@
 use Rattle.std.specs.Prelude.{ℕ, zero, suc, ◌-◌, List, [], ◌∷◌, length}
 use Rattle.hp_model.specs.declared.platforms.Platform.{Platform}
 use Rattle.hp_model.specs.declared.labels.Label.{Label}
-use Rattle.hp_model.specs.declared.labels.Label.TheVariants.{R1, R2, R3, R4, R5, R6, S0, S1, S2, S3, S4, C1, C2, C3, C4, C5, C6, NB, N0, N1, N2, N3, N4, N5, N6, N7, N8a, N8b, N9, N10, N11, E0, E1, E2, E3, E4a, E4b, E4c, E4d, E4e, T, E5, E6, E7}
+use Rattle.hp_model.specs.declared.labels.Label.TheVariants.{R1, R2, R3, R4, R5, R6, S0, S1, S2, S3, S4, C1, C2, C3, C4, C5, C6, NB, N0, N1, N2, N3, N4, N5, N6, N7, N8a, N8b, N9, N10, N11, E0, E1, E2, E3, E4a, E4b, E4c, E4d, E4e, E4f, E4g, E4h, T, E5, E6, E7}
 use Rattle.hp_model.specs.Platform.{count_of}
 use Rattle.hp_model.specs.Memory.{Write, write_of}
 use Rattle.hp_model.specs.Labels.{mark_of, cell_of}
@@ -15,7 +15,7 @@ abbrev pub monarch_labels : List Label
 monarch_labels =
     S0 ∷ S1 ∷ S2 ∷ S3 ∷ S4 ∷ C1 ∷ C2 ∷ C3 ∷ C4 ∷ C5 ∷ C6
     ∷ NB ∷ N0 ∷ N1 ∷ N2 ∷ N3 ∷ N4 ∷ N5 ∷ N6 ∷ N7 ∷ N8a ∷ N8b ∷ N9 ∷ N10 ∷ N11
-    ∷ E0 ∷ E1 ∷ E2 ∷ E3 ∷ E4a ∷ E4b ∷ E4c ∷ E4d ∷ E4e ∷ T ∷ E5 ∷ E6 ∷ E7 ∷ []
+    ∷ E0 ∷ E1 ∷ E2 ∷ E3 ∷ E4a ∷ E4b ∷ E4c ∷ E4d ∷ E4e ∷ E4f ∷ E4g ∷ E4h ∷ T ∷ E5 ∷ E6 ∷ E7 ∷ []
 
 -- the marks of these labels, each in its cell of the slot
 unfoldable pub with_cells : Platform → ℕ → List Label → List Write → List Write

@@ -16,16 +16,20 @@ kind_of low =
     else if low / 0x100 % 8 == 6 then Some (Start (low % 0x100))
     else None
 
--- shorthand, bits 19:18 of the low half: 0 the destination in bits 31:24 of the high half, 3 all but the sender; others do nothing (own rule)
-abbrev pub target_of : ℕ → ℕ → Option Target
-target_of high low =
-    if low / 0x40000 % 4 == 0 then Some (Id (high / 0x1000000 % 0x100))
+-- the destination: bits 31:24 of the high half, or under x2APIC all of it; no destination means all processors (own rule)
+abbrev pub destination : Bool → ℕ → ℕ
+destination x2apic high = if x2apic then high else high / 0x1000000 % 0x100
+
+-- shorthand, bits 19:18 of the low half: 0 the destination, 3 all but the sender; others do nothing (own rule)
+abbrev pub target_of : Bool → ℕ → ℕ → Option Target
+target_of x2apic high low =
+    if low / 0x40000 % 4 == 0 then Some (Id (destination x2apic high))
     else if low / 0x40000 % 4 == 3 then Some Others
     else None
 
-abbrev pub decoded : ℕ → ℕ → Option Ipi
-decoded high low =
-    option_and_then (λ kind. option_map (λ to. record { kind = kind; to = to }) (target_of high low)) (kind_of low)
+abbrev pub decoded : Bool → ℕ → ℕ → Option Ipi
+decoded x2apic high low =
+    option_and_then (λ kind. option_map (λ to. record { kind = kind; to = to }) (target_of x2apic high low)) (kind_of low)
 
 -- whether it is sent to the processor with this APIC ID; `sender` is an APIC ID too
 abbrev pub is_target : Target → ℕ → ℕ → Bool

@@ -1,8 +1,8 @@
 -- Labels of the SMI handlers (own rule): whose they are, their marks, and the cells where these stand.
-use Rattle.std.specs.Prelude.{ℕ, ◌==◌, ◌+◌, ◌*◌, List, [], ◌∷◌, Option, Some, None, if◌then◌else◌}
+use Rattle.std.specs.Prelude.{ℕ, Bool, ◌==◌, ◌+◌, ◌*◌, List, [], ◌∷◌, Option, Some, None, if◌then◌else◌}
 use Rattle.hp_model.specs.declared.platforms.Platform.{Platform}
 use Rattle.hp_model.specs.declared.labels.Label.{Label}
-use Rattle.hp_model.specs.declared.labels.Label.TheVariants.{F1, F2, F3, F4, F5, F6, R1, R2, R3, R4, R5, R6, S0, S1, S2, S3, S4, C1, C2, C3, C4, C5, C6, NB, N0, N1, N2, N3, N4, N5, N6, N7, N8a, N8b, N9, N10, N11, E0, E1, E2, E3, E4a, E4b, E4c, E4d, E4e, T, E5, E6, E7}
+use Rattle.hp_model.specs.declared.labels.Label.TheVariants.{F1, F2, F3, F4, F5, F6, R1, R2, R3, R4, R5, R6, S0, S1, S2, S3, S4, C1, C2, C3, C4, C5, C6, NB, N0, N1, N2, N3, N4, N5, N6, N7, N8a, N8b, N9, N10, N11, E0, E1, E2, E3, E4a, E4b, E4c, E4d, E4e, E4f, E4g, E4h, T, E5, E6, E7}
 use Rattle.hp_model.specs.Platform.{tile}
 
 -- whose handler a label is of: the first handler, the relocated handler, the monarch
@@ -58,12 +58,15 @@ part_of E4b = Monarch
 part_of E4c = Monarch
 part_of E4d = Monarch
 part_of E4e = Monarch
+part_of E4f = Monarch
+part_of E4g = Monarch
+part_of E4h = Monarch
 part_of T = Monarch
 part_of E5 = Monarch
 part_of E6 = Monarch
 part_of E7 = Monarch
 
--- the label's place in its handler
+-- the label's place in its handler; those that look whether an eject went through came last (own rule)
 abbrev pub index_of : Label → ℕ
 index_of F1 = 0
 index_of F2 = 1
@@ -115,6 +118,9 @@ index_of T = 34
 index_of E5 = 35
 index_of E6 = 36
 index_of E7 = 37
+index_of E4f = 38
+index_of E4g = 39
+index_of E4h = 40
 
 -- a mark is 4 bytes; those of a handler follow one another
 abbrev pub first_mark : Part → ℕ
@@ -133,7 +139,7 @@ labels =
     ∷ S0 ∷ S1 ∷ S2 ∷ S3 ∷ S4
     ∷ C1 ∷ C2 ∷ C3 ∷ C4 ∷ C5 ∷ C6
     ∷ NB ∷ N0 ∷ N1 ∷ N2 ∷ N3 ∷ N4 ∷ N5 ∷ N6 ∷ N7 ∷ N8a ∷ N8b ∷ N9 ∷ N10 ∷ N11
-    ∷ E0 ∷ E1 ∷ E2 ∷ E3 ∷ E4a ∷ E4b ∷ E4c ∷ E4d ∷ E4e
+    ∷ E0 ∷ E1 ∷ E2 ∷ E3 ∷ E4a ∷ E4b ∷ E4c ∷ E4d ∷ E4e ∷ E4f ∷ E4g ∷ E4h
     ∷ T ∷ E5 ∷ E6 ∷ E7 ∷ []
 
 -- the label among these that has this mark
@@ -153,3 +159,7 @@ first_cell p Monarch slot = tile p 0 + 0x8000
 -- the 4 bytes where the label's mark stands, and where a processor stands at the label
 abbrev pub cell_of : Platform → Label → ℕ → ℕ
 cell_of p l slot = first_cell p (part_of l) slot + 4 * index_of l
+
+-- two labels are one where their marks are
+abbrev pub same_label : Label → Label → Bool
+same_label l m = mark_of l == mark_of m

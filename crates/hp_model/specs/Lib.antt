@@ -16,6 +16,7 @@ pub mod Image
 pub mod Slots
 pub mod Collection
 pub mod Add
+pub mod Eject
 pub mod Monarch
 pub mod Handlers
 pub mod Voices

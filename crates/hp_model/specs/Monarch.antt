@@ -1,16 +1,17 @@
 -- What the monarch keeps, the handler of processor 0 in SMM (own rule), and how its record goes on.
-use Rattle.std.specs.Prelude.{ℕ, Bool, false, ◌&&◌, ◌||◌, not, ◌==◌, nat_lt, nat_le, ◌+◌, ◌-◌, List, [], ◌∷◌, ◌++◌, length, drop, replicate, Option, Some, None, slice_get, slice_set, bit_and, if◌then◌else◌}
+use Rattle.std.specs.Prelude.{ℕ, Bool, false, ◌&&◌, ◌||◌, not, ◌==◌, nat_lt, nat_le, ◌+◌, ◌-◌, List, [], ◌∷◌, ◌++◌, length, drop, replicate, Option, Some, None, slice_get, slice_index_or, slice_set, bit_and, if◌then◌else◌}
 use Rattle.hp_model.specs.declared.platforms.Platform.{Platform}
 use Rattle.hp_model.specs.declared.labels.Label.{Label}
-use Rattle.hp_model.specs.declared.labels.Label.TheVariants.{S0, S3, S4, C1, NB, T, E5}
+use Rattle.hp_model.specs.declared.labels.Label.TheVariants.{S0, S3, S4, C1, NB, E0, T, E5}
 use Rattle.hp_model.specs.declared.outcomes.Outcome.{Outcome}
 use Rattle.hp_model.specs.declared.outcomes.Outcome.TheVariants as outcome
 use Rattle.hp_model.specs.declared.outcomes.Refusal.{Refusal}
-use Rattle.hp_model.specs.declared.outcomes.Refusal.TheVariants.{Disabled, Both, AlreadyKnown, GateHeld}
+use Rattle.hp_model.specs.declared.outcomes.Refusal.TheVariants.{Foreign, Disabled, Both, AlreadyKnown, GateHeld, NoUnplug, NotKnown, NotArrived}
 use Rattle.hp_model.specs.Block.{is_in}
-use Rattle.hp_model.specs.Slots.{Slots, slots_start, known_from, place_of, is_known, bind, completed}
+use Rattle.hp_model.specs.Slots.{Slots, slots_start, known_from, place_of, is_known, bind, completed, forgotten}
 use Rattle.hp_model.specs.Collection.{Report, Collection, Collected, CollectsAt, CollectedAll, collection_start}
 use Rattle.hp_model.specs.Add.{Add, Led, AddsAt, Ends, add_of}
+use Rattle.hp_model.specs.Eject.{Eject, EjectLed, EjectsAt, EjectEnds, eject_of}
 
 pub record Monarch : Type 0 where
   pub label : Label  -- where it stands
@@ -22,6 +23,7 @@ pub record Monarch : Type 0 where
   pub collection : Collection  -- from C1 on
   pub taken : ℕ  -- how many of its reports were taken up
   pub add : Add  -- the running add, at NB to N11
+  pub eject : Eject  -- the running eject, at E0 to E4h
   pub outcome : Outcome  -- what is told, at T
 
 -- nothing was read of any slot
@@ -45,6 +47,7 @@ monarch_start p =
       collection = collection_start;
       taken = 0;
       add = add_of 0 0 0;
+      eject = eject_of 0 0 0;
       outcome = no_outcome;
     }
 
@@ -88,7 +91,7 @@ commanded command r = if command == 4 then record r { label = C1; collection = c
 pub data Class : Type 0 where
   Tells : Outcome → Class
   Adds : Class
-  PassesOver : Class
+  Ejects : Class
 
 abbrev pub refuses : Refusal → Class
 refuses why = Tells (outcome.Refused why)
@@ -101,22 +104,52 @@ is_that (Some other) apic = other == apic
 abbrev pub is_own : List ℕ → Report → Bool
 is_own apics t = not (t.cpu == 0) && is_that (slice_get apics t.cpu) t.apic
 
--- a known APIC ID has its place already, and no other may come while one is held
-abbrev pub insert_class : Slots → Option ℕ → Report → Class
-insert_class s None t = if is_known s t.apic then refuses (AlreadyKnown t.cpu t.apic (place_of s.bound t.apic)) else Adds
-insert_class s (Some held) t =
-    if is_known s t.apic then refuses (AlreadyKnown t.cpu t.apic (place_of s.bound t.apic))
-    else if held == t.apic then Adds
-    else refuses (GateHeld t.cpu t.apic held)
+-- what the tests of a report go by
+pub record Facts : Type 0 where
+  pub own : Bool  -- its APIC ID is its processor's own, and that isn't processor 0
+  pub known : Bool  -- its APIC ID is a boot processor's or was added, and not ejected since
+  pub slot : ℕ  -- the place of its APIC ID among those bound
+  pub held : Option ℕ  -- the APIC ID whose add isn't complete
+  pub features : ℕ  -- the negotiated SMI features
+  pub look : ℕ  -- what was last read of its arrived byte in this session; 2 for nothing
 
--- status bit 0 is enabled, bit 1 an insert event, bit 4 a firmware eject; ejects have no row yet and are passed over
-abbrev pub class : List ℕ → Slots → Report → Class
-class apics s t =
-    if not (is_own apics t) then PassesOver
+-- while an APIC ID is held, no other one is added
+abbrev pub held_class : Option ℕ → Report → Class
+held_class None t = Adds
+held_class (Some held) t = if held == t.apic then Adds else refuses (GateHeld t.cpu t.apic held)
+
+-- an insert event
+abbrev pub insert_class : Facts → Report → Class
+insert_class f t = if f.known then refuses (AlreadyKnown t.cpu t.apic f.slot) else held_class f.held t
+
+-- a firmware eject; feature bit 2 is hot-unplug
+abbrev pub eject_class : Facts → Report → Class
+eject_class f t =
+    if not (bit_and f.features 4 == 4) then refuses (NoUnplug t.cpu f.features)
+    else if not f.known then refuses (NotKnown t.cpu t.apic)
+    else if f.look == 0 then refuses (NotArrived t.cpu t.apic)
+    else Ejects
+
+-- the tests of a report, in order: status bit 0 is enabled, bit 1 an insert event, bit 4 a firmware eject; a report has one of these two events
+abbrev pub class : Facts → Report → Class
+class f t =
+    if not f.own then refuses (Foreign t.cpu t.apic)
     else if not (bit_and t.status 1 == 1) then refuses (Disabled t.cpu t.status)
     else if bit_and t.status 0x12 == 0x12 then refuses (Both t.cpu t.status)
-    else if bit_and t.status 2 == 2 then insert_class s s.held t
-    else PassesOver
+    else if bit_and t.status 2 == 2 then insert_class f t
+    else eject_class f t
+
+-- what the monarch goes by, with these APIC IDs by place
+abbrev pub facts_of : List ℕ → Monarch → Report → Facts
+facts_of apics r t =
+    record {
+      own = is_own apics t;
+      known = is_known r.slots t.apic;
+      slot = place_of r.slots.bound t.apic;
+      held = r.slots.held;
+      features = r.features;
+      look = slice_index_or r.last (place_of r.slots.bound t.apic) 2;
+    }
 
 -- an outcome is told
 abbrev pub tells : Outcome → Monarch → Monarch
@@ -136,20 +169,24 @@ adds t r =
       add = add_of t.cpu t.apic (place_of (bind t.apic r.slots).bound t.apic);
     }
 
+-- an eject begins
+abbrev pub ejects : Report → Monarch → Monarch
+ejects t r = record r { label = E0; eject = eject_of t.cpu t.apic (place_of r.slots.bound t.apic) }
+
 -- the next report is taken up
 abbrev pub took : Monarch → Monarch
 took r = record r { taken = r.taken + 1 }
 
--- what becomes of a report, and of one that is passed over the rest
-abbrev pub answered : Class → Report → Monarch → Monarch → Monarch
-answered (Tells o) t rest r = tells o r
-answered Adds t rest r = adds t r
-answered PassesOver t rest r = rest
+-- what becomes of a report
+abbrev pub answered : Class → Report → Monarch → Monarch
+answered (Tells o) t r = tells o r
+answered Adds t r = adds t r
+answered Ejects t r = ejects t r
 
--- the first of these reports that isn't passed over is answered; without one the session ends
+-- the first of these reports is answered; without one the session ends
 abbrev pub taken_up : List ℕ → List Report → Monarch → Monarch
 taken_up apics [] r = at_label E5 r
-taken_up apics (t ∷ ts) r = answered (class apics r.slots t) t (taken_up apics ts (took r)) (took r)
+taken_up apics (t ∷ ts) r = answered (class (facts_of apics r t) t) t (took r)
 
 -- the next report
 abbrev pub next_report : List ℕ → Monarch → Monarch
@@ -165,8 +202,13 @@ abbrev pub led : Led → Monarch → Monarch
 led (AddsAt l a) r = record r { label = l; add = a }
 led (Ends o) r = tells o r
 
--- a told outcome: an APIC ID that was added is known, and no longer held
+-- where the eject is led
+abbrev pub eject_led : EjectLed → Monarch → Monarch
+eject_led (EjectsAt l j) r = record r { label = l; eject = j }
+eject_led (EjectEnds o) r = tells o r
+
+-- a told outcome: an APIC ID that was added is known, and no longer held; one that was ejected is forgotten
 abbrev pub told : Outcome → Monarch → Monarch
 told (outcome.Added cpu apic slot) r = record r { slots = completed apic r.slots }
-told (outcome.Ejected cpu apic slot) r = r
+told (outcome.Ejected cpu apic slot) r = record r { slots = forgotten apic r.slots }
 told (outcome.Refused why) r = r

@@ -1,5 +1,5 @@
 -- Runs: entries, one step each, with the answer and the instruction address that the step has.
-use Rattle.std.specs.Prelude.{ℕ, Bool, true, false, ◌&&◌, ◌==◌, List, [], ◌∷◌, Option, Some, None, option_and_then, if◌then◌else◌}
+use Rattle.std.specs.Prelude.{◌≡◌, ◌⊎◌, ℕ, Bool, true, false, ◌&&◌, ◌==◌, List, [], ◌∷◌, Option, Some, None, option_and_then, if◌then◌else◌}
 use Rattle.hp_model.specs.declared.platforms.Platform.{Platform}
 use Rattle.hp_model.specs.declared.accesses.Answer.{Answer}
 use Rattle.hp_model.specs.declared.accesses.Answer.TheVariants.{Quiet, Value}
@@ -23,15 +23,19 @@ same_address None (Some y) = false
 same_address (Some x) None = false
 same_address (Some x) (Some y) = x == y
 
--- whose event it is; an outcome is told by processor 0
-abbrev pub actor_of : Event → Actor
-actor_of (Insert k) = actor.Insert k
-actor_of (Remove k) = actor.Remove k
-actor_of (Do k a) = actor.Cpu k
-actor_of (TakeSmi k) = actor.Cpu k
-actor_of (TakeInit k) = actor.Cpu k
-actor_of (Resume k) = actor.Cpu k
-actor_of (Tell o) = actor.Cpu 0
+-- whose entry an event is: an outcome is told by processor 0, and a latched SMI that may come late is an actor of its own (own rule)
+abbrev pub actor_of : Bool → Event → Actor
+actor_of late (Insert k) = actor.Insert k
+actor_of late (Remove k) = actor.Remove k
+actor_of late (Do k a) = actor.Cpu k
+actor_of late (TakeSmi k) = if late then actor.Smi k else actor.Cpu k
+actor_of late (TakeInit k) = actor.Cpu k
+actor_of late (Resume k) = actor.Cpu k
+actor_of late (Tell o) = actor.Cpu 0
+
+-- whether it is a step of this actor: the taking of a latched SMI is one of the SMI, and at once one of its processor too
+abbrev pub IsStepOf : Bool → Actor → Event → Type 0
+IsStepOf late a e = (actor_of late e ≡ a) ⊎ ((k : ℕ) × (a ≡ actor.Smi k) × (e ≡ TakeSmi k))
 
 -- the instruction address that the actor has before the step
 abbrev pub address_of : State → Event → Option ℕ

@@ -1,17 +1,20 @@
 -- The bytes that the SMI handlers share (own rule): one of each array a slot, and those of the default area.
-use Rattle.std.specs.Prelude.{ℕ, ◌+◌, ◌*◌, List}
+use Rattle.std.specs.Prelude.{ℕ, Bool, ◌+◌, ◌*◌, List}
 use Rattle.hp_model.specs.declared.platforms.Platform.{Platform}
-use Rattle.hp_model.specs.Platform.{count_of, tseg}
+use Rattle.hp_model.specs.Platform.{count_of, tseg, is_late}
 
--- what the handlers go by of a platform: where TSEG begins, how many processors are possible, with which APIC IDs by place, how often a byte is looked at
+-- what the handlers go by of a platform: where TSEG begins, how many processors are possible, with which APIC IDs by place, how often a byte is
+-- looked at, how an interrupt command names an APIC ID, and whether SMIs may come late
 pub record Layout : Type 0 where
   pub tseg : ℕ
   pub count : ℕ
   pub apics : List ℕ
   pub polls : ℕ
+  pub x2apic : Bool
+  pub late : Bool
 
 abbrev pub layout_of : Platform → Layout
-layout_of p = record { tseg = tseg p; count = count_of p; apics = p.apic; polls = p.polls }
+layout_of p = record { tseg = tseg p; count = count_of p; apics = p.apic; polls = p.polls; x2apic = p.x2apic; late = is_late p.delivery }
 
 -- the first address of a slot's tile
 abbrev pub tile_in : Layout → ℕ → ℕ

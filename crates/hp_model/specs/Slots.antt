@@ -1,6 +1,7 @@
 -- Slots: the APIC IDs that the firmware has given a place (own rule). A slot stays with its APIC ID for good.
 use Rattle.std.specs.Prelude.{ℕ, Bool, true, false, ◌==◌, ◌+◌, List, [], ◌∷◌, ◌++◌, length, drop, map, replicate, Option, Some, None, slice_index_or, slice_set, if◌then◌else◌}
 use Rattle.hp_model.specs.declared.platforms.Platform.{Platform}
+use Rattle.hp_model.specs.Platform.{apic_of}
 use Rattle.hp_model.specs.Block.{is_in}
 
 pub record Slots : Type 0 where
@@ -10,7 +11,7 @@ pub record Slots : Type 0 where
 
 -- the APIC IDs of the boot processors, in their order
 abbrev pub boot_ids : Platform → List ℕ
-boot_ids p = map (λ k. slice_index_or p.apic k 255) p.boot
+boot_ids p = map (apic_of p) p.boot
 
 -- boot processors are bound and known
 abbrev pub slots_start : Platform → Slots

@@ -1,5 +1,5 @@
 -- One step of the machine and its firmware: a table of events over guards and effects, where the boot sequence and the handlers in SMM say what is wanted.
-use Rattle.std.specs.Prelude.{ℕ, Bool, true, false, not, ◌&&◌, ◌||◌, ◌==◌, nat_lt, nat_le, ◌-◌, ◌%◌, ◌^◌, List, [], ◌∷◌, Option, Some, None, option_map, option_and_then, slice_index_or, slice_set, if◌then◌else◌}
+use Rattle.std.specs.Prelude.{ℕ, Bool, true, false, not, ◌&&◌, ◌||◌, ◌==◌, nat_lt, nat_le, ◌-◌, ◌%◌, ◌^◌, List, [], ◌∷◌, Option, Some, None, option_map, option_and_then, slice_set, if◌then◌else◌}
 use Rattle.std.specs.Str.{bytes_eq}
 use Rattle.std.specs.Option.{unwrap_or}
 use Rattle.hp_model.specs.declared.platforms.Platform.{Platform}
@@ -14,9 +14,10 @@ use Rattle.hp_model.specs.declared.outcomes.Outcome.{Outcome}
 use Rattle.hp_model.specs.declared.outcomes.Outcome.TheVariants as outcome
 use Rattle.hp_model.specs.declared.outcomes.Refusal.TheVariants as refusal
 use Rattle.hp_model.specs.declared.labels.Label.{Label}
+use Rattle.hp_model.specs.declared.labels.Label.TheVariants.{S2, E6, E7}
 use Rattle.hp_model.specs.declared.entries.Event.{Event}
 use Rattle.hp_model.specs.declared.entries.Event.TheVariants.{Insert, Remove, Do, TakeSmi, TakeInit, Resume, Tell}
-use Rattle.hp_model.specs.Platform.{count_of}
+use Rattle.hp_model.specs.Platform.{count_of, apic_of, is_late}
 use Rattle.hp_model.specs.Memory.{Write, byte_at}
 use Rattle.hp_model.specs.View.{Locks, locks_start, lock_read, lock_write, loaded, stored, swapped}
 use Rattle.hp_model.specs.Cpu.{absent, inserted, cpus_start, cpu_at, is_free, is_in_smm, smm_address, moved, halt, may_take_smi, take_smi, may_take_init, take_init, resumed}
@@ -28,6 +29,7 @@ use Rattle.hp_model.specs.Transfers.{Transferred, transfer}
 use Rattle.hp_model.specs.Boot.{Stage, Boots, Refused, Handed, boot_start, boot_access, stage_after, value_in}
 use Rattle.hp_model.specs.SaveArea.{saved, saved_smbase, saved_rip}
 use Rattle.hp_model.specs.SharedBytes.{layout_of}
+use Rattle.hp_model.specs.Labels.{index_of, same_label}
 use Rattle.hp_model.specs.Image.{image}
 use Rattle.hp_model.specs.Monarch.{Monarch, monarch_start, restarted, with_features}
 use Rattle.hp_model.specs.Handlers.{Seat, Next, seat_of, row_of, wanted_at, next_at, address_of_label}
@@ -42,6 +44,7 @@ pub record State : Type 0 where
   pub fw_cfg : FwCfg
   pub monarch : Monarch  -- the record that the handler of processor 0 keeps
   pub stage : Stage
+  pub disturbed : Bool  -- whether a processor outside SMM has written to the register block since the session's SMI was sent to all others
 
 -- what a step answers, and the state after it
 pub record After : Type 0 where
@@ -60,6 +63,7 @@ start p =
       fw_cfg = fw_cfg_start p.features;
       monarch = monarch_start p;
       stage = boot_start;
+      disturbed = false;
     }
 
 abbrev pub at : State → ℕ → Cpu
@@ -67,10 +71,6 @@ at s k = cpu_at s.cpus k
 
 abbrev pub set_cpu : ℕ → Cpu → State → State
 set_cpu k c s = record s { cpus = slice_set s.cpus k c }
-
--- the APIC ID of the processor in a place
-abbrev pub apic_of : Platform → ℕ → ℕ
-apic_of p k = slice_index_or p.apic k 255
 
 -- widths in bytes: of memory, and of a port
 abbrev pub is_memory_width : ℕ → Bool
@@ -121,22 +121,22 @@ is_halt Nop = false
 abbrev pub stands_in_smm : Cpu → Bool
 stands_in_smm c = c.present && is_in_smm c.mode
 
--- a running processor without a latch makes any access, and one in SMM any but a halt
-abbrev pub may_access : Cpu → Access → Bool
-may_access c a = is_free c || (stands_in_smm c && not (is_halt a))
+-- a running processor that nothing keeps makes any access, and one in SMM any but a halt
+abbrev pub may_access : Bool → Cpu → Access → Bool
+may_access late c a = is_free late c || (stands_in_smm c && not (is_halt a))
 
--- by presence, modes and latches alone: what the machine can do, with so many possible processors
-abbrev pub can_do : ℕ → List Cpu → Event → Bool
-can_do count cs (Insert k) = nat_lt k count && not (cpu_at cs k).present
-can_do count cs (Remove k) = not (k == 0) && (cpu_at cs k).present
-can_do count cs (Do k a) = is_normal a && may_access (cpu_at cs k) a
-can_do count cs (TakeSmi k) = may_take_smi (cpu_at cs k)
-can_do count cs (TakeInit k) = may_take_init (cpu_at cs k)
-can_do count cs (Resume k) = stands_in_smm (cpu_at cs k)
-can_do count cs (Tell o) = stands_in_smm (cpu_at cs 0)
+-- by presence, modes and latches alone: what the machine can do, where SMIs may come late or not, with so many possible processors
+abbrev pub can_do : Bool → ℕ → List Cpu → Event → Bool
+can_do late count cs (Insert k) = nat_lt k count && not (cpu_at cs k).present
+can_do late count cs (Remove k) = not (k == 0) && (cpu_at cs k).present
+can_do late count cs (Do k a) = is_normal a && may_access late (cpu_at cs k) a
+can_do late count cs (TakeSmi k) = may_take_smi (cpu_at cs k)
+can_do late count cs (TakeInit k) = may_take_init (cpu_at cs k)
+can_do late count cs (Resume k) = stands_in_smm (cpu_at cs k)
+can_do late count cs (Tell o) = stands_in_smm (cpu_at cs 0)
 
 abbrev pub is_enabled : Platform → State → Event → Bool
-is_enabled p s e = can_do (count_of p) s.cpus e
+is_enabled p s e = can_do (is_late p.delivery) (count_of p) s.cpus e
 
 -- an access as numbers, its kind first: two accesses are one where these are equal
 abbrev pub numbers_of : Access → List ℕ
@@ -178,6 +178,8 @@ outcome_numbers (outcome.Refused (refusal.NoUnplug cpu features)) = 8 ∷ cpu �
 outcome_numbers (outcome.Refused (refusal.NotKnown cpu apic)) = 9 ∷ cpu ∷ apic ∷ []
 outcome_numbers (outcome.Refused (refusal.NotArrived cpu apic)) = 10 ∷ cpu ∷ apic ∷ []
 outcome_numbers (outcome.Refused (refusal.NotParked cpu apic)) = 11 ∷ cpu ∷ apic ∷ []
+outcome_numbers (outcome.Refused (refusal.Foreign cpu apic)) = 12 ∷ cpu ∷ apic ∷ []
+outcome_numbers (outcome.Refused (refusal.StillPending cpu status)) = 13 ∷ cpu ∷ status ∷ []
 
 unfoldable pub same_outcome : Outcome → Outcome → Bool
 same_outcome a b = bytes_eq (outcome_numbers a) (outcome_numbers b)
@@ -322,7 +324,7 @@ access_effect p k in_smm (In port width) s = after_read port width s
 access_effect p k in_smm (Out port width value) s = write_port p k port width value s
 access_effect p k in_smm (CfgRead reg) s = s
 access_effect p k in_smm (CfgWrite reg value) s = record s { locks = lock_write s.locks reg value }
-access_effect p k in_smm (Icr high low) s = record s { cpus = sent (decoded high low) (apic_of p k) p.apic s.cpus }
+access_effect p k in_smm (Icr high low) s = record s { cpus = sent (decoded p.x2apic high low) (apic_of p k) p.apic s.cpus }
 access_effect p k in_smm Halt s = set_cpu k (halt (at s k)) s
 access_effect p k in_smm Nop s = s
 
@@ -395,9 +397,48 @@ firmware_led p s (Boots done supported) e t = with_agreed t
 firmware_led p s (Refused fact) e t = t
 firmware_led p s (Handed requested) e t = handlers_led p s e t
 
+-- the labels that come after S2 in a session, up to E5
+abbrev pub is_after_broadcast : Label → Bool
+is_after_broadcast l = nat_lt (index_of S2) (index_of l) && not (same_label l E6 || same_label l E7)
+
+-- a write to the register block
+abbrev pub writes_block : Access → Bool
+writes_block (Load addr width) = false
+writes_block (Store addr width value) = false
+writes_block (Swap addr expected desired) = false
+writes_block (In port width) = false
+writes_block (Out port width value) = is_on_block port
+writes_block (CfgRead reg) = false
+writes_block (CfgWrite reg value) = false
+writes_block (Icr high low) = false
+writes_block Halt = false
+writes_block Nop = false
+
+-- the access of processor k disturbs a session from outside SMM, and the monarch's S2 begins anew
+abbrev pub disturbs : State → ℕ → Access → Bool
+disturbs s k a =
+    if is_in_smm (at s k).mode then not ((k == 0) && same_label s.monarch.label S2) && s.disturbed
+    else s.disturbed || (writes_block a && is_after_broadcast s.monarch.label)
+
+abbrev pub is_disturbed_by : State → Event → Bool
+is_disturbed_by s (Insert k) = s.disturbed
+is_disturbed_by s (Remove k) = s.disturbed
+is_disturbed_by s (Do k a) = disturbs s k a
+is_disturbed_by s (TakeSmi k) = s.disturbed
+is_disturbed_by s (TakeInit k) = s.disturbed
+is_disturbed_by s (Resume k) = s.disturbed
+is_disturbed_by s (Tell o) = s.disturbed
+
 -- an event's answer and the state after it, where the firmware has gone on
 abbrev pub after : Platform → State → Event → After
-after p s e = record { answer = answer_of s e; state = record (firmware_led p s s.stage e (effect_of p s e)) { stage = stage_after (answer_of s e) s.stage } }
+after p s e =
+    record {
+      answer = answer_of s e;
+      state = record (firmware_led p s s.stage e (effect_of p s e)) {
+        stage = stage_after p.tseg_mib (answer_of s e) s.stage;
+        disturbed = is_disturbed_by s e;
+      };
+    }
 
 -- nothing where the event isn't enabled, or isn't what the boot sequence or a handler wants
 unfoldable pub step : Platform → State → Event → Option After

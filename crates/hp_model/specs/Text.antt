@@ -2,12 +2,14 @@
 use Rattle.std.specs.Prelude.{ℕ, zero, suc, Bool, true, false, ◌*◌, ◌/◌, ◌%◌, List, [], ◌∷◌, ◌++◌, length, Option, Some, None, codes}
 use Rattle.std.specs.Fmt.{decimal, digit_glyph}
 use Rattle.hp_model.specs.declared.platforms.Platform.{Platform}
+use Rattle.hp_model.specs.declared.platforms.Delivery.{Delivery}
+use Rattle.hp_model.specs.declared.platforms.Delivery.TheVariants.{Prompt, Late}
 use Rattle.hp_model.specs.declared.accesses.Access.{Access}
 use Rattle.hp_model.specs.declared.accesses.Access.TheVariants.{Load, Store, Swap, In, Out, CfgRead, CfgWrite, Icr, Halt, Nop}
 use Rattle.hp_model.specs.declared.accesses.Answer.{Answer}
 use Rattle.hp_model.specs.declared.accesses.Answer.TheVariants.{Quiet, Value}
 use Rattle.hp_model.specs.declared.outcomes.Refusal.{Refusal}
-use Rattle.hp_model.specs.declared.outcomes.Refusal.TheVariants.{Disabled, Both, AlreadyKnown, GateHeld, NotAtGate, NotCheckedIn, NoUnplug, NotKnown, NotArrived, NotParked}
+use Rattle.hp_model.specs.declared.outcomes.Refusal.TheVariants.{Disabled, Both, AlreadyKnown, GateHeld, NotAtGate, NotCheckedIn, NoUnplug, NotKnown, NotArrived, NotParked, Foreign, StillPending}
 use Rattle.hp_model.specs.declared.outcomes.Outcome.{Outcome}
 use Rattle.hp_model.specs.declared.outcomes.Outcome.TheVariants.{Added, Ejected, Refused}
 use Rattle.hp_model.specs.declared.entries.Event.{Event}
@@ -59,6 +61,8 @@ refusal_pieces (NoUnplug cpu features) = two (codes "nounplug ") cpu features
 refusal_pieces (NotKnown cpu apic) = two (codes "notknown ") cpu apic
 refusal_pieces (NotArrived cpu apic) = two (codes "notarrived ") cpu apic
 refusal_pieces (NotParked cpu apic) = two (codes "notparked ") cpu apic
+refusal_pieces (Foreign cpu apic) = two (codes "foreign ") cpu apic
+refusal_pieces (StillPending cpu status) = with_status (codes "stillpending ") cpu status
 
 abbrev pub outcome_pieces : Outcome → List Piece
 outcome_pieces (Added cpu apic slot) = three (codes "added ") cpu apic slot
@@ -139,6 +143,19 @@ abbrev pub truth_text : Bool → List ℕ
 truth_text true = codes "true"
 truth_text false = codes "false"
 
+abbrev pub delivery_pieces : Delivery → List Piece
+delivery_pieces Prompt = word (codes " delivery=prompt") ∷ []
+delivery_pieces (Late lag) = one (codes " delivery=late lag=") lag
+
+-- what came later stands in the header only where it isn't as it was
+abbrev pub ext_pieces : Bool → List Piece
+ext_pieces true = []
+ext_pieces false = word (codes " ext=false") ∷ []
+
+abbrev pub x2apic_pieces : Bool → List Piece
+x2apic_pieces true = word (codes " x2apic=true") ∷ []
+x2apic_pieces false = []
+
 -- the header names the platform
 abbrev pub head_pieces : Platform → List Piece
 head_pieces p =
@@ -146,12 +163,13 @@ head_pieces p =
     ∷ word (codes " boot=") ∷ word (numbers_text p.boot)
     ∷ word (codes " low=") ∷ hexadecimal 8 p.low_memory
     ∷ word (codes " tseg=") ∷ number p.tseg_mib
-    ∷ word (codes " features=") ∷ number p.features
+    ∷ (ext_pieces p.ext_tseg
+    ++ (word (codes " features=") ∷ number p.features
     ∷ word (codes " polls=") ∷ number p.polls
     ∷ word (codes " turns=") ∷ number p.turns
     ∷ word (codes " modern=") ∷ word (truth_text p.modern)
     ∷ word (codes " smram=") ∷ word (truth_text p.default_smram)
-    ∷ word (codes " delivery=prompt") ∷ []
+    ∷ (delivery_pieces p.delivery ++ x2apic_pieces p.x2apic)))
 
 unfoldable pub head_text : Platform → List ℕ
 head_text p = line_of (spell (head_pieces p))

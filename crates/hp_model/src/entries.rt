@@ -3,7 +3,7 @@
 use crate::accesses::{Access, Answer};
 use crate::outcomes::Outcome;
 
-/// Who acts: the host with an event on a processor, or a processor, each by its place.
+/// Who acts: the host with an event on a processor, a processor, or its latched SMI, each by the processor's place.
 #[derive(Clone, Copy)]
 pub enum Actor {
     /// The host inserts this processor.
@@ -12,6 +12,8 @@ pub enum Actor {
     Remove(u32),
     /// This processor steps.
     Cpu(u32),
+    /// This processor's latched SMI is taken.
+    Smi(u32),
 }
 
 /// One step of the machine. Processors are named by place.

@@ -55,6 +55,9 @@ pub enum Label {
     E4c,
     E4d,
     E4e,
+    E4f,
+    E4g,
+    E4h,
     // the monarch: an outcome is told, and the end of a session
     T,
     E5,

@@ -1,11 +1,12 @@
-//! Where TSEG and its tiles lie.
+//! Where TSEG and its tiles lie, and how an interrupt command names its destination.
 
-ghost use Rattle.std.specs.Prelude.{◌≡◌, ◌<◌, length};
-ghost use Rattle.hp_model.specs.Platform.{IsFit, tseg as first_of_tseg, tile as first_of_tile};
+ghost use Rattle.std.specs.Prelude.{◌≡◌, ◌<◌, true, length};
+ghost use Rattle.hp_model.specs.Platform.{IsFit, tseg as first_of_tseg, tile as first_of_tile, high_half};
+ghost use Rattle.hp_model.specs.Block.{is_in};
 
 use crate::platforms::Platform;
 
-/// The first address of TSEG: the last 1, 2 or 8 MiB below `low_memory`.
+/// The first address of TSEG: the last 1, 2, 8 or 48 MiB below `low_memory`.
 pub fn tseg(p: &Platform) -> u32
     requires { IsFit p.now }
     ensures { result ≡ first_of_tseg p.now }
@@ -21,4 +22,14 @@ pub fn tile(p: &Platform, slot: u32) -> u32
     ensures { result ≡ first_of_tile p.now slot }
 {
     tseg(p) + 0x20000 + slot * 0x10000
+}
+
+/// The high half of an interrupt command to this APIC ID, which is a possible one.
+#[tactic(auto, using(crate::proofs::ApicIds::fits_a_byte))]
+pub fn icr_high(p: &Platform, apic: u32) -> u32
+    requires fit { IsFit p.now }
+    requires possible { is_in apic p.now.apic ≡ true }
+    ensures { result ≡ high_half p.now.x2apic apic }
+{
+    if p.x2apic { apic } else { apic * 0x1000000 }
 }

@@ -19,7 +19,7 @@ pub use errors::NoMemory;
 pub use files::{File, HostEvent, Hosts, Stall, Stalls, VoiceKind, Voices};
 pub use labels::Label;
 pub use laws::schedule_is_a_run;
-pub use layout::{tile, tseg};
+pub use layout::{icr_high, tile, tseg};
 pub use outcomes::{BootFact, Outcome, Refusal, Step};
 pub use platforms::{Delivery, Ids, Platform};
 pub use processors::{Cpu, Ipi, Kind, Mode, Target};

@@ -37,6 +37,10 @@ pub enum Refusal {
     NotArrived { cpu: u32, apic: u32 },
     /// A firmware eject of a processor that didn't park.
     NotParked { cpu: u32, apic: u32 },
+    /// The APIC ID that was read isn't that of the processor, or the processor is the monarch itself.
+    Foreign { cpu: u32, apic: u32 },
+    /// After its eject the processor's status still had bit 4 set.
+    StillPending { cpu: u32, status: u8 },
 }
 
 /// Why the boot sequence was refused: the value that it read where another was needed.
@@ -48,6 +52,8 @@ pub enum BootFact {
     NoDefaultSmram(u8),
     /// `etc/smi/features-ok` (1 byte) read other than 1: the features weren't negotiated.
     NotNegotiated(u8),
+    /// Register 0x50 (1 byte) read other than 0x30: there is no TSEG of 48 MiB.
+    NoExtTseg(u8),
 }
 
 /// What one answer leads a running add or eject to.

@@ -18,11 +18,13 @@ impl Model for Ids {
     ghost view = { λ s. s.0.items };
 }
 
-/// How a latched SMI is delivered.
+/// When a latched SMI is taken (own rules).
 #[derive(Clone, Copy, Debug, PartialEq)]
 pub enum Delivery {
-    /// In place of the processor's next access outside SMM (own rule).
+    /// In place of the processor's next access outside SMM.
     Prompt,
+    /// At any later step. A schedule gives one turn in `lag` + 1 of a processor to its latched SMI.
+    Late { lag: u32 },
 }
 
 /// A machine before it starts. `fits` says which values can be built.
@@ -34,7 +36,7 @@ pub struct Platform {
     pub boot: Ids,
     /// RAM is the addresses below this one.
     pub low_memory: u32,
-    /// The size of TSEG in MiB: 1, 2 or 8.
+    /// The size of TSEG in MiB: 1, 2, 8 or 48.
     pub tseg_mib: u32,
     /// The supported SMI features: bit 0 broadcast, bit 1 hot-plug, bit 2 hot-unplug.
     pub features: u64,
@@ -47,6 +49,10 @@ pub struct Platform {
     /// Whether the default SMRAM area can be locked.
     pub default_smram: bool,
     pub delivery: Delivery,
+    /// Whether APIC IDs have 32 bits, and the high half of an interrupt command is one.
+    pub x2apic: bool,
+    /// Whether TSEG can have 48 MiB.
+    pub ext_tseg: bool,
 }
 
 impl Platform {
@@ -67,6 +73,8 @@ impl Platform {
             modern: self.modern,
             default_smram: self.default_smram,
             delivery: self.delivery,
+            x2apic: self.x2apic,
+            ext_tseg: self.ext_tseg,
         })
     }
 }

@@ -41,7 +41,7 @@ pub enum Kind {
 #[derive(Clone, Copy)]
 pub enum Target {
     /// The processor with this APIC ID, the sender included.
-    Id(u8),
+    Id(u32),
     /// All but the sender.
     Others,
 }

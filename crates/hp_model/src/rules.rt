@@ -2,9 +2,9 @@
 
 ghost use Rattle.std.specs.Prelude.{◌≡◌, ◌↔◌, ◌==◌, None, Some, IsOk, IfErr, nat_lt, nat_le};
 ghost use Rattle.std.specs.List.{list_all, list_any};
-ghost use Rattle.hp_model.specs.Platform.{counts_fit, all_distinct, ids_fit, ascends_from, boot_fits, memory_fits, tseg_fits, tiles_fit, features_fit, polls_fit, turns_fit, first_broken};
+ghost use Rattle.hp_model.specs.Platform.{counts_fit, all_distinct, ids_fit, ascends_from, boot_fits, memory_fits, tseg_fits, tiles_fit, features_fit, polls_fit, turns_fit, greatest_id, delivery_fits, first_broken};
 
-use crate::platforms::Platform;
+use crate::platforms::{Delivery, Platform};
 
 /// The number of a rule of the platform file; docs/FORMATS.md lists them.
 #[derive(Clone, Copy, Debug, PartialEq)]
@@ -14,7 +14,7 @@ fn has_fitting_count(p: &Platform) -> bool
     ensures { result ≡ counts_fit p.now }
 {
     let count = p.apic.0.len();
-    0 < count && count <= 64
+    0 < count && count <= 512
 }
 
 fn is_among(id: u32, ids: &[u32]) -> bool
@@ -32,16 +32,22 @@ fn are_distinct(ids: &[u32]) -> bool
     }
 }
 
-fn are_apic_ids(ids: &[u32]) -> bool
-    ensures { result ≡ list_all (λ a. nat_le a 254) ids.now }
+fn are_at_most(ids: &[u32], greatest: u32) -> bool
+    ensures { result ≡ list_all (λ a. nat_le a greatest) ids.now }
 {
-    ids.iter().all(|id| *id <= 254)
+    ids.iter().all(|id| *id <= greatest)
+}
+
+fn greatest_apic_id(p: &Platform) -> u32
+    ensures { result ≡ greatest_id p.now }
+{
+    if p.x2apic { 0xfffffffe } else { 254 }
 }
 
 fn has_fitting_ids(p: &Platform) -> bool
     ensures { result ≡ ids_fit p.now }
 {
-    are_apic_ids(p.apic.0.as_slice()) && are_distinct(p.apic.0.as_slice())
+    are_at_most(p.apic.0.as_slice(), greatest_apic_id(p)) && are_distinct(p.apic.0.as_slice())
 }
 
 /// Whether the numbers ascend strictly, the first from above `low`.
@@ -84,7 +90,7 @@ fn has_fitting_memory(p: &Platform) -> bool
 fn has_fitting_tseg(p: &Platform) -> bool
     ensures { result ≡ tseg_fits p.now }
 {
-    p.tseg_mib == 1 || p.tseg_mib == 2 || p.tseg_mib == 8
+    p.tseg_mib == 1 || p.tseg_mib == 2 || p.tseg_mib == 8 || p.tseg_mib == 48
 }
 
 fn has_fitting_tiles(p: &Platform) -> bool
@@ -95,6 +101,7 @@ fn has_fitting_tiles(p: &Platform) -> bool
         1 => count <= 14,
         2 => count <= 30,
         8 => count <= 126,
+        48 => count <= 512 && 0x4000000 <= p.low_memory,
         _ => false,
     }
 }
@@ -117,9 +124,18 @@ fn has_fitting_turns(p: &Platform) -> bool
     p.turns <= 200000
 }
 
-/// Whether the machine can be built: Ok exactly where rules 2 to 10 of docs/FORMATS.md hold, else the first that fails.
+fn has_fitting_delivery(p: &Platform) -> bool
+    ensures { result ≡ delivery_fits p.now }
+{
+    match p.delivery {
+        Delivery::Prompt => true,
+        Delivery::Late { lag } => 1 <= lag && lag <= 1000,
+    }
+}
+
+/// Whether the machine can be built: Ok exactly where rules 2 to 11 of docs/FORMATS.md hold, else the first that fails.
 ///
-/// The type already meets rule 11, which is about the text of `delivery`.
+/// Of rule 11 the type already meets what is about the text of `delivery`.
 pub fn fits(p: &Platform) -> Result<(), Rule>
     ensures ok { IsOk result ↔ (first_broken p.now ≡ None) }
     ensures broken { IfErr result (λ rule. first_broken p.now ≡ Some rule.0) }
@@ -150,6 +166,9 @@ pub fn fits(p: &Platform) -> Result<(), Rule>
     }
     if !has_fitting_turns(p) {
         return Err(Rule(10));
+    }
+    if !has_fitting_delivery(p) {
+        return Err(Rule(11));
     }
     Ok(())
 }
