@@ -22,6 +22,11 @@ pub mod Handlers
 pub mod Voices
 pub mod Step
 pub mod Runs
+pub mod Transitions
+pub mod Account
+pub mod Sessions
+pub mod Smbases
+pub mod Exact
 pub mod Safety
 pub mod Schedule
 pub mod Text

@@ -29,3 +29,8 @@ value_from bytes x (suc n) = bytes x + 256 * value_from bytes (x + 1) n
 -- a store of a value
 abbrev pub write_of : ℕ → ℕ → ℕ → Write
 write_of addr width value = record { first = addr; bytes = bytes_of width value }
+
+-- how many writes have covered a byte
+abbrev pub touched : List Write → ℕ → ℕ
+touched [] x = 0
+touched (w ∷ ws) x = if covers w x then touched ws x + 1 else touched ws x

@@ -1,17 +1,14 @@
--- The first law of safety (own rule): each instruction executed in SMM lies in SMRAM that was locked before it, and nobody in SMM is astray.
-use Rattle.std.specs.Prelude.{◌≡◌, ◌<◌, ℕ, Bool, true, false, ◌&&◌, ◌+◌, List, [], ◌∷◌, ◌++◌, Option, Some, None, if◌then◌else◌}
+-- What safety means (own rules): the law of locked instructions, those of SMBASEs and of sessions, and all together.
+use Rattle.std.specs.Prelude.{◌≡◌, ◌<◌, ℕ, Bool, true, false, ◌&&◌, ◌+◌, List, ◌∷◌, ◌++◌, Option, Some, None}
 use Rattle.hp_model.specs.declared.platforms.Platform.{Platform}
 use Rattle.hp_model.specs.declared.accesses.Want.{Want}
 use Rattle.hp_model.specs.declared.entries.Entry.{Entry}
-use Rattle.hp_model.specs.Memory.{Write, covers}
+use Rattle.hp_model.specs.Memory.{touched}
 use Rattle.hp_model.specs.View.{is_locked}
 use Rattle.hp_model.specs.Step.{State, at, stands_in_smm, wanted}
 use Rattle.hp_model.specs.Runs.{run}
-
--- how many writes have covered a byte
-abbrev pub touched : List Write → ℕ → ℕ
-touched [] x = 0
-touched (w ∷ ws) x = if covers w x then touched ws x + 1 else touched ws x
+use Rattle.hp_model.specs.Smbases.{IsDistinct, IsNamed}
+use Rattle.hp_model.specs.Exact.{IsExact}
 
 -- a processor is astray where it is in SMM and no handler says what it does there
 abbrev pub wants_none : Option Want → Bool
@@ -31,3 +28,10 @@ pub record IsLockedBefore (p : Platform) (es : List Entry) : Type 0 where
   pub locked : (before rest : List Entry) (e : Entry) (s : State) (a i : ℕ) → es ≡ before ++ e ∷ rest → run p before ≡ Some s → e.at ≡ Some a → i < 4 → is_locked s.locks (a + i) ≡ true
   pub untouched : (before rest : List Entry) (e : Entry) (s : State) (a i : ℕ) → es ≡ before ++ e ∷ rest → run p before ≡ Some s → e.at ≡ Some a → i < 4 → IsUntouched p before s (a + i)
   pub rows : (before rest : List Entry) (s : State) (k : ℕ) → es ≡ before ++ rest → run p before ≡ Some s → is_astray p s k ≡ false
+
+-- a platform's entries are safe
+pub record IsSafe (p : Platform) (es : List Entry) : Type 0 where
+  pub locked_before : IsLockedBefore p es
+  pub distinct : IsDistinct p es
+  pub named : IsNamed p es
+  pub exact : IsExact p es
