@@ -13,18 +13,19 @@ pub record Transition : Type 0 where
   pub before : State
   pub after : State
 
--- one transition more, and the rest after it; entries past one that is no step have none
+-- one transition more, and the rest after it; past an entry that goes nowhere there are none
 abbrev pub went_on : List Transition → State → Entry → (List Transition → State → List Transition) → Option State → List Transition
 went_on past s e rest None = past
 went_on past s e rest (Some t) = rest (record { entry = e; before = s; after = t } ∷ past) t
 
-unfoldable pub transitions_from : Platform → List Transition → State → List Entry → List Transition
-transitions_from p past s [] = past
-transitions_from p past s (e ∷ es) = went_on past s e (λ more t. transitions_from p more t es) (run_on p s e)
+-- the transitions of entries, each of which leads from a state to the next one
+unfoldable pub transitions_by : (State → Entry → Option State) → List Transition → State → List Entry → List Transition
+transitions_by next past s [] = past
+transitions_by next past s (e ∷ es) = went_on past s e (λ more t. transitions_by next more t es) (next s e)
 
 -- the transitions of a run
 unfoldable pub transitions : Platform → List Entry → List Transition
-transitions p es = transitions_from p [] (start p) es
+transitions p es = transitions_by (run_on p) [] (start p) es
 
 abbrev pub entries_of : List Transition → List Entry
 entries_of xs = map (λ x. x.entry) xs

@@ -3,7 +3,11 @@ pub mod AddsChanged
 pub mod AddsRun
 pub mod AddsScheduled
 pub mod Changed
+pub mod EjectsChanged
+pub mod EjectsRun
+pub mod EjectsScheduled
 pub mod Opened
+pub mod FedRecords
 pub mod Runs
 pub mod Scheduled
 pub mod Ways

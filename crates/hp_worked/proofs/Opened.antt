@@ -17,11 +17,12 @@ use Rattle.hp_model.specs.Runs.{run, run_from, run_on}
 use Rattle.hp_model.specs.Voices.{says}
 use Rattle.hp_model.specs.Schedule.{act, act_all, actors_of, turns_from, booted, boot_fact, scheduled}
 use Rattle.hp_worked.specs.Asked.{first_stop, all_the_way}
+use Rattle.hp_worked.specs.Files.{without_turns, numbers_from}
 use Rattle.hp_worked.specs.Traces.{boot}
 
 -- the machine's step and its runs, and the boot, with which all traces begin
 unfoldable pub the_run : ⊤
-unfolding boot_cpus cpus_start first_places bytes_of value_from is_hole hit_each saved saved_smbase saved_rip big_bytes big_value little_value directory listed bytes_stored bytes_loaded transfer boot_accesses boot_access label_with image with_cells with_tiles with_releases row_of step same_access same_outcome mark_at row_at run run_from run_on first_stop all_the_way boot
+unfolding boot_cpus cpus_start first_places bytes_of value_from is_hole hit_each saved saved_smbase saved_rip big_bytes big_value little_value directory listed bytes_stored bytes_loaded transfer boot_accesses boot_access label_with image with_cells with_tiles with_releases row_of step same_access same_outcome mark_at row_at run run_from run_on first_stop all_the_way boot without_turns numbers_from
 the_run = tt
 
 -- the schedule too

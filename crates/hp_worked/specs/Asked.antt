@@ -10,7 +10,8 @@ use Rattle.hp_model.specs.Boot.{Handed}
 use Rattle.hp_model.specs.Step.{State, at, start, stands_in_smm}
 use Rattle.hp_model.specs.Runs.{run, run_from, run_on}
 use Rattle.hp_model.specs.Schedule.{Scene, scene_start, boot_turns, turns_from}
-use Rattle.hp_model.specs.Safety.{touched, is_astray}
+use Rattle.hp_model.specs.Memory.{touched}
+use Rattle.hp_model.specs.Safety.{is_astray}
 
 -- the entries are a run of the file's platform
 abbrev pub is_run : File → List Entry → Bool
@@ -82,7 +83,8 @@ is_untouched_from p es t = all_the_way p (λ s address. four_bytes (λ x. touche
 
 -- since the boot, which has locked them
 abbrev pub is_untouched_at_each : File → List Entry → Bool
-is_untouched_at_each f es = judged (is_untouched_from f.platform (drop boot_turns es)) (run f.platform (take boot_turns es))
+is_untouched_at_each f es =
+    judged (is_untouched_from f.platform (drop (boot_turns f.platform) es)) (run f.platform (take (boot_turns f.platform) es))
 
 -- whether the processor is astray after these steps of the machine alone
 abbrev pub astray_alone_after : File → ℕ → List Entry → Option Bool

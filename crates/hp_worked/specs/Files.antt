@@ -1,9 +1,9 @@
 -- Platform files of the worked traces, as data.
-use Rattle.std.specs.Prelude.{ℕ, true, false, List, [], ◌∷◌, replicate}
+use Rattle.std.specs.Prelude.{ℕ, zero, suc, ◌+◌, true, false, List, [], ◌∷◌, ◌++◌, replicate}
 use Rattle.hp_model.specs.declared.platforms.Platform.{Platform}
-use Rattle.hp_model.specs.declared.platforms.Delivery.TheVariants.{Prompt}
+use Rattle.hp_model.specs.declared.platforms.Delivery.TheVariants.{Prompt, Late}
 use Rattle.hp_model.specs.declared.accesses.Access.{Access}
-use Rattle.hp_model.specs.declared.accesses.Access.TheVariants.{Load, Store, Swap, In, Out, CfgRead, CfgWrite, Icr}
+use Rattle.hp_model.specs.declared.accesses.Access.TheVariants.{Load, Store, Swap, In, Out, CfgRead, CfgWrite, Icr, Nop}
 use Rattle.hp_model.specs.declared.entries.Actor.TheVariants as actor
 use Rattle.hp_model.specs.declared.files.VoiceKind.{VoiceKind}
 use Rattle.hp_model.specs.declared.files.VoiceKind.TheVariants.{Script, Pen}
@@ -13,7 +13,7 @@ use Rattle.hp_model.specs.declared.files.File.{File}
 
 -- one processor, 128 MiB of RAM with 1 MiB of TSEG, all features, and no turn
 abbrev pub one_processor : Platform
-one_processor = record { apic = 0 ∷ []; boot = 0 ∷ []; low_memory = 0x8000000; tseg_mib = 1; features = 7; polls = 8; turns = 0; modern = true; default_smram = true; delivery = Prompt }
+one_processor = record { apic = 0 ∷ []; boot = 0 ∷ []; low_memory = 0x8000000; tseg_mib = 1; features = 7; polls = 8; turns = 0; modern = true; default_smram = true; delivery = Prompt; x2apic = false; ext_tseg = true }
 
 -- two processors, the second one not there at boot, or there
 abbrev pub one_of_two : Platform
@@ -156,6 +156,91 @@ not_at_gate_file =
     add_file (record one_of_two { polls = 2; turns = 120 }) (inserts_in 0 1 ∷ []) (stalls_in 1 0 999 ∷ [])
     (Out 0xb2 1 0x4 ∷ Out 0xcd8 4 0x1 ∷ Out 0xcdc 1 0x2 ∷ []) 1
 
+-- a processor is inserted at turn 0, its eject is handed to the firmware after its add, and it is inserted anew at turn 121
+abbrev pub ejected_and_added_again_file : File
+ejected_and_added_again_file =
+    add_file (record one_of_two { turns = 200 }) (inserts_in 0 1 ∷ inserts_in 121 1 ∷ []) []
+    (Out 0xb2 1 0x4 ∷ Out 0xcd8 4 0x1 ∷ Out 0xcdc 1 0x2 ∷ Out 0xcdc 1 0x10 ∷ Out 0xb2 1 0x4 ∷ Out 0xb2 1 0x4 ∷ []) 1
+
+-- the same without the second insert, where hot-unplug isn't supported
+abbrev pub no_unplug_file : File
+no_unplug_file =
+    add_file (record one_of_two { features = 3; turns = 120 }) (inserts_in 0 1 ∷ []) []
+    (Out 0xb2 1 0x4 ∷ Out 0xcd8 4 0x1 ∷ Out 0xcdc 1 0x2 ∷ Out 0xcdc 1 0x10 ∷ Out 0xb2 1 0x4 ∷ []) 1
+
+-- an inserted processor's event is cleared, and its eject handed to the firmware
+abbrev pub not_known_file : File
+not_known_file =
+    add_file (record one_of_two { turns = 60 }) (inserts_in 0 1 ∷ []) []
+    (Out 0xcd8 4 0x1 ∷ Out 0xcdc 1 0x2 ∷ Out 0xcdc 1 0x10 ∷ Out 0xb2 1 0x4 ∷ []) 1
+
+-- the eject of a boot processor is handed to the firmware, and from a turn on it gets no turn
+abbrev pub boot_eject_file : ℕ → File
+boot_eject_file turn =
+    record {
+      platform = record two_processors { turns = 100 };
+      hosts = [];
+      stalls = stalls_in 1 turn 999 ∷ [];
+      voices = Script (Out 0xcd8 4 0x1 ∷ Out 0xcdc 1 0x10 ∷ Out 0xb2 1 0x4 ∷ []) ∷ Script [] ∷ [];
+    }
+
+abbrev pub not_arrived_file : File
+not_arrived_file = boot_eject_file 0
+
+abbrev pub not_parked_file : File
+not_parked_file = boot_eject_file 15
+
+-- of a processor's turns one in four is its SMI's
+abbrev pub late_alone_file : File
+late_alone_file = file_of (record one_processor { turns = 11; delivery = Late 3 }) (Script (Out 0xb2 1 0x5 ∷ Nop ∷ Load 0 4 ∷ []) ∷ [])
+
+-- processor k gets none of n turns, which are `step` apart
+unfoldable pub without_turns : ℕ → ℕ → ℕ → ℕ → List Stall
+without_turns k zero turn step = []
+without_turns k (suc n) turn step = stalls_in k turn turn ∷ without_turns k n (turn + step) step
+
+-- late delivery, where the eject of processor 1 is handed to the firmware
+abbrev pub late_file : Platform → List Stall → List VoiceKind → File
+late_file p stalls others =
+    record {
+      platform = record p { delivery = Late 3 };
+      hosts = [];
+      stalls = stalls;
+      voices = Script (Out 0xcd8 4 0x1 ∷ Out 0xcdc 1 0x10 ∷ Out 0xb2 1 0x4 ∷ []) ∷ others;
+    }
+
+-- processor 1 gets no turn for its SMI, and selects processor 0 after 18 steps
+abbrev pub selector_taken_away_file : File
+selector_taken_away_file =
+    late_file (record two_processors { turns = 120 }) (without_turns 1 12 7 8) (Script (replicate 18 Nop ++ Out 0xcd8 4 0 ∷ []) ∷ [])
+
+-- processor 2 gets no turn for its SMI, and selects itself after 31 steps
+abbrev pub eject_led_astray_file : File
+eject_led_astray_file =
+    late_file (record two_processors { apic = 0 ∷ 1 ∷ 2 ∷ []; boot = 0 ∷ 1 ∷ 2 ∷ []; turns = 240 }) (without_turns 2 16 11 12)
+    (Script [] ∷ Script (replicate 31 Nop ++ Out 0xcd8 4 0x2 ∷ []) ∷ [])
+
+-- the plainest add, of an APIC ID past 8 bits
+abbrev pub wide_add_file : File
+wide_add_file =
+    add_file (record one_of_two { apic = 0 ∷ 70000 ∷ []; x2apic = true }) (inserts_in 0 1 ∷ []) []
+    (Out 0xb2 1 0x4 ∷ Out 0xcd8 4 0x1 ∷ Out 0xcdc 1 0x2 ∷ []) 1
+
+-- n numbers from k on
+unfoldable pub numbers_from : ℕ → ℕ → List ℕ
+numbers_from zero k = []
+numbers_from (suc n) k = k ∷ numbers_from n (k + 1)
+
+-- 512 processors, of which one is there, and a TSEG of 48 MiB
+abbrev pub largest : Platform
+largest = record one_processor { apic = numbers_from 512 0; tseg_mib = 48; x2apic = true }
+
+abbrev pub largest_file : File
+largest_file = file_of largest (Script [] ∷ replicate 511 Pen)
+
+abbrev pub refused_for_its_tseg_file : File
+refused_for_its_tseg_file = file_of (record largest { ext_tseg = false }) (Script [] ∷ replicate 511 Pen)
+
 -- one processor, and 16 MiB of RAM
 abbrev pub small_memory : Platform
 small_memory = record one_processor { low_memory = 0x1000000 }
@@ -173,3 +258,7 @@ interrupts_file = record (file_of (record one_of_two { turns = 20 }) (Script (Ic
 -- both INIT and an SMI are sent before processor 1 gets a turn
 abbrev pub smi_before_init_file : File
 smi_before_init_file = record (file_of (record two_processors { turns = 8 }) (Script (Icr 0x1000000 0x500 ∷ Icr 0x1000000 0x200 ∷ []) ∷ Script [] ∷ [])) { stalls = record { cpu = 1; from = 1; to = 3 } ∷ [] }
+
+-- the same file where SMIs don't come late
+abbrev pub prompt_file : File → File
+prompt_file f = record f { platform = record f.platform { delivery = Prompt } }

@@ -36,6 +36,10 @@ boot =
     ∷ does 0 (Out 0x630 4 0x21)
     ∷ []
 
+-- a boot where the platform supports features 0 and 1 alone
+abbrev pub boot_of_two_features : List Entry
+boot_of_two_features = with_entry 22 (does 0 (Store 0x1010 8 0x3)) (with_entry 20 (reads 0 (Load 0x1010 8) 0x3) boot)
+
 -- one processor, and no turn: the boot alone
 unfoldable pub smallest : List Entry
 smallest = boot

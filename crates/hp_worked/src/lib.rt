@@ -2,11 +2,17 @@
 #![tactic(auto)]
 
 mod adds;
+mod ejects;
 mod laws;
+mod records;
 
 pub use adds::{
     changed_adds_are_none, changed_adds_stop_at_the_change, files_make_worked_adds,
     instructions_of_worked_adds_are_locked, nobody_is_astray_in_worked_adds, worked_adds_are_runs,
+};
+pub use ejects::{
+    changed_ejects_are_none, changed_ejects_stop_at_the_change, files_make_worked_ejects,
+    worked_ejects_are_runs, worked_tseg_is_refused,
 };
 pub use laws::{
     changed_traces_are_none, changed_traces_stop_at_the_change, files_make_traces_alone,
@@ -14,3 +20,4 @@ pub use laws::{
     worked_boots_are_refused, worked_instructions_are_locked, worked_traces_are_runs,
     worked_traces_run_alone,
 };
+pub use records::monarch_believes_no_answer;

@@ -1,0 +1,212 @@
+-- Ejects that are refused, entry by entry.
+use Rattle.std.specs.Prelude.{List, [], ◌∷◌, ◌++◌}
+use Rattle.hp_model.specs.declared.accesses.Access.TheVariants.{Load, Store, Swap, In, Out, Icr, Halt}
+use Rattle.hp_model.specs.declared.outcomes.Outcome.TheVariants.{Added, Refused}
+use Rattle.hp_model.specs.declared.outcomes.Refusal.TheVariants.{NoUnplug, NotArrived, NotKnown, NotParked}
+use Rattle.hp_model.specs.declared.entries.Entry.{Entry}
+use Rattle.hp_worked.specs.Entries.{does, does_at, reads_at, takes_smi, resumes, inserts, tells, waits}
+use Rattle.hp_worked.specs.Traces.{boot, boot_of_two_features}
+
+-- Hot-unplug isn't among the features that were agreed on.
+unfoldable pub no_unplug : List Entry
+no_unplug =
+    boot_of_two_features ++
+    (inserts 1
+    ∷ does 0 (Out 0xb2 1 0x4)
+    ∷ takes_smi 0
+    ∷ does_at 0 0x7f28000 (Store 0x7f04000 1 0x1)
+    ∷ does_at 0 0x7f28008 (Icr 0 0xc0200)
+    ∷ reads_at 0 0x7f28010 (In 0xb2 1) 0x4
+    ∷ does_at 0 0x7f28014 (Out 0xcd8 4 0)
+    ∷ does_at 0 0x7f28018 (Out 0xcdd 1 0)
+    ∷ reads_at 0 0x7f2801c (In 0xce0 4) 0x1
+    ∷ reads_at 0 0x7f28020 (In 0xcdc 1) 0x3
+    ∷ does_at 0 0x7f28024 (Out 0xcdd 1 0x3)
+    ∷ reads_at 0 0x7f28028 (In 0xce0 4) 0x1
+    ∷ does_at 0 0x7f2802c (Store 0x7f01001 1 0)
+    ∷ does_at 0 0x7f28030 (Store 0x7f00001 1 0)
+    ∷ does_at 0 0x7f28034 (Store 0x3000c 1 0)
+    ∷ does_at 0 0x7f28038 (Store 0x30008 4 0x7f30000)
+    ∷ does_at 0 0x7f2803c (Icr 0x1000000 0x200)
+    ∷ does_at 0 0x7f28040 (Icr 0x1000000 0x500)
+    ∷ does_at 0 0x7f28044 (Icr 0x1000000 0x69f)
+    ∷ takes_smi 1
+    ∷ does_at 0 0x7f28048 (Icr 0x1000000 0x69f)
+    ∷ waits 1
+    ∷ does_at 0 0x7f2804c (Store 0x30000 8 0x1)
+    ∷ reads_at 1 0x38000 (Swap 0x30000 0x1 0xffffffffffffffff) 0x1
+    ∷ reads_at 0 0x7f28050 (Load 0x3000c 1) 0
+    ∷ reads_at 1 0x38004 (Load 0x30008 4) 0x7f30000
+    ∷ reads_at 0 0x7f28054 (Load 0x7f00001 1) 0
+    ∷ does_at 1 0x38008 (Store 0x3ff00 4 0x7f30000)
+    ∷ reads_at 0 0x7f28050 (Load 0x3000c 1) 0
+    ∷ does_at 1 0x3800c (Store 0x3000c 1 0x1)
+    ∷ reads_at 0 0x7f28054 (Load 0x7f00001 1) 0
+    ∷ does_at 1 0x38010 (Icr 0x1000000 0x200)
+    ∷ reads_at 0 0x7f28050 (Load 0x3000c 1) 0x1
+    ∷ resumes 1 0x38014
+    ∷ does_at 0 0x7f28058 (Store 0x30000 8 0xffffffffffffffff)
+    ∷ takes_smi 1
+    ∷ does_at 0 0x7f2805c (Store 0x7f00001 1 0)
+    ∷ does_at 1 0x7f38000 (Store 0x7f00001 1 0x1)
+    ∷ reads_at 0 0x7f28060 (Load 0x7f00001 1) 0x1
+    ∷ reads_at 1 0x7f38004 (Load 0x7f02001 1) 0
+    ∷ tells 0x7f28088 (Added 1 1 1)
+    ∷ reads_at 1 0x7f38008 (Load 0x7f01001 1) 0
+    ∷ does_at 0 0x7f2808c (Store 0x7f04000 1 0)
+    ∷ does_at 1 0x7f38000 (Store 0x7f00001 1 0x1)
+    ∷ does_at 0 0x7f28090 (Store 0x7f01001 1 0x1)
+    ∷ reads_at 1 0x7f38004 (Load 0x7f02001 1) 0
+    ∷ resumes 0 0x7f28094
+    ∷ reads_at 1 0x7f38008 (Load 0x7f01001 1) 0x1
+    ∷ does 0 (Out 0xcd8 4 0x1)
+    ∷ does_at 1 0x7f3800c (Store 0x7f00001 1 0)
+    ∷ does 0 (Out 0xcdc 1 0x2)
+    ∷ resumes 1 0x7f38010
+    ∷ does 0 (Out 0xcdc 1 0x10)
+    ∷ does 1 (Store 0x9f010 1 0x1)
+    ∷ does 0 (Out 0xb2 1 0x4)
+    ∷ takes_smi 1
+    ∷ takes_smi 0
+    ∷ does_at 1 0x7f38000 (Store 0x7f00001 1 0x1)
+    ∷ does_at 0 0x7f28000 (Store 0x7f04000 1 0x1)
+    ∷ reads_at 1 0x7f38004 (Load 0x7f02001 1) 0
+    ∷ does_at 0 0x7f28004 (Store 0x7f01001 1 0)
+    ∷ reads_at 1 0x7f38008 (Load 0x7f01001 1) 0
+    ∷ does_at 0 0x7f28008 (Icr 0 0xc0200)
+    ∷ does_at 1 0x7f38000 (Store 0x7f00001 1 0x1)
+    ∷ reads_at 0 0x7f2800c (Load 0x7f00001 1) 0x1
+    ∷ reads_at 1 0x7f38004 (Load 0x7f02001 1) 0
+    ∷ reads_at 0 0x7f28010 (In 0xb2 1) 0x4
+    ∷ reads_at 1 0x7f38008 (Load 0x7f01001 1) 0
+    ∷ does_at 0 0x7f28014 (Out 0xcd8 4 0)
+    ∷ does_at 1 0x7f38000 (Store 0x7f00001 1 0x1)
+    ∷ does_at 0 0x7f28018 (Out 0xcdd 1 0)
+    ∷ reads_at 1 0x7f38004 (Load 0x7f02001 1) 0
+    ∷ reads_at 0 0x7f2801c (In 0xce0 4) 0x1
+    ∷ reads_at 1 0x7f38008 (Load 0x7f01001 1) 0
+    ∷ reads_at 0 0x7f28020 (In 0xcdc 1) 0x11
+    ∷ does_at 1 0x7f38000 (Store 0x7f00001 1 0x1)
+    ∷ does_at 0 0x7f28024 (Out 0xcdd 1 0x3)
+    ∷ reads_at 1 0x7f38004 (Load 0x7f02001 1) 0
+    ∷ reads_at 0 0x7f28028 (In 0xce0 4) 0x1
+    ∷ reads_at 1 0x7f38008 (Load 0x7f01001 1) 0
+    ∷ tells 0x7f28088 (Refused (NoUnplug 1 3))
+    ∷ does_at 1 0x7f38000 (Store 0x7f00001 1 0x1)
+    ∷ does_at 0 0x7f2808c (Store 0x7f04000 1 0)
+    ∷ reads_at 1 0x7f38004 (Load 0x7f02001 1) 0
+    ∷ does_at 0 0x7f28090 (Store 0x7f01001 1 0x1)
+    ∷ reads_at 1 0x7f38008 (Load 0x7f01001 1) 0x1
+    ∷ resumes 0 0x7f28094
+    ∷ does_at 1 0x7f3800c (Store 0x7f00001 1 0)
+    ∷ does 0 Halt
+    ∷ resumes 1 0x7f38010
+    ∷ takes_smi 1
+    ∷ does_at 1 0x7f38000 (Store 0x7f00001 1 0x1)
+    ∷ reads_at 1 0x7f38004 (Load 0x7f02001 1) 0
+    ∷ reads_at 1 0x7f38008 (Load 0x7f01001 1) 0x1
+    ∷ does_at 1 0x7f3800c (Store 0x7f00001 1 0)
+    ∷ resumes 1 0x7f38010
+    ∷ does 1 Halt
+    ∷ [])
+
+-- A processor was inserted, its event cleared, and its eject handed to the firmware before any add.
+unfoldable pub not_known : List Entry
+not_known =
+    boot ++
+    (inserts 1
+    ∷ does 0 (Out 0xcd8 4 0x1)
+    ∷ does 0 (Out 0xcdc 1 0x2)
+    ∷ does 0 (Out 0xcdc 1 0x10)
+    ∷ does 0 (Out 0xb2 1 0x4)
+    ∷ takes_smi 0
+    ∷ does_at 0 0x7f28000 (Store 0x7f04000 1 0x1)
+    ∷ does_at 0 0x7f28008 (Icr 0 0xc0200)
+    ∷ reads_at 0 0x7f28010 (In 0xb2 1) 0x4
+    ∷ does_at 0 0x7f28014 (Out 0xcd8 4 0)
+    ∷ does_at 0 0x7f28018 (Out 0xcdd 1 0)
+    ∷ reads_at 0 0x7f2801c (In 0xce0 4) 0x1
+    ∷ reads_at 0 0x7f28020 (In 0xcdc 1) 0x11
+    ∷ does_at 0 0x7f28024 (Out 0xcdd 1 0x3)
+    ∷ reads_at 0 0x7f28028 (In 0xce0 4) 0x1
+    ∷ tells 0x7f28088 (Refused (NotKnown 1 1))
+    ∷ does_at 0 0x7f2808c (Store 0x7f04000 1 0)
+    ∷ resumes 0 0x7f28094
+    ∷ does 0 Halt
+    ∷ [])
+
+-- Processor 1 gets no turn, and its arrived byte is read as 0 each time.
+unfoldable pub not_arrived : List Entry
+not_arrived =
+    boot ++
+    (does 0 (Out 0xcd8 4 0x1)
+    ∷ does 0 (Out 0xcdc 1 0x10)
+    ∷ does 0 (Out 0xb2 1 0x4)
+    ∷ takes_smi 0
+    ∷ does_at 0 0x7f28000 (Store 0x7f04000 1 0x1)
+    ∷ does_at 0 0x7f28004 (Store 0x7f01001 1 0)
+    ∷ does_at 0 0x7f28008 (Icr 0 0xc0200)
+    ∷ reads_at 0 0x7f2800c (Load 0x7f00001 1) 0
+    ∷ reads_at 0 0x7f2800c (Load 0x7f00001 1) 0
+    ∷ reads_at 0 0x7f2800c (Load 0x7f00001 1) 0
+    ∷ reads_at 0 0x7f2800c (Load 0x7f00001 1) 0
+    ∷ reads_at 0 0x7f2800c (Load 0x7f00001 1) 0
+    ∷ reads_at 0 0x7f2800c (Load 0x7f00001 1) 0
+    ∷ reads_at 0 0x7f2800c (Load 0x7f00001 1) 0
+    ∷ reads_at 0 0x7f2800c (Load 0x7f00001 1) 0
+    ∷ reads_at 0 0x7f28010 (In 0xb2 1) 0x4
+    ∷ does_at 0 0x7f28014 (Out 0xcd8 4 0)
+    ∷ does_at 0 0x7f28018 (Out 0xcdd 1 0)
+    ∷ reads_at 0 0x7f2801c (In 0xce0 4) 0x1
+    ∷ reads_at 0 0x7f28020 (In 0xcdc 1) 0x11
+    ∷ does_at 0 0x7f28024 (Out 0xcdd 1 0x3)
+    ∷ reads_at 0 0x7f28028 (In 0xce0 4) 0x1
+    ∷ tells 0x7f28088 (Refused (NotArrived 1 1))
+    ∷ does_at 0 0x7f2808c (Store 0x7f04000 1 0)
+    ∷ does_at 0 0x7f28090 (Store 0x7f01001 1 0x1)
+    ∷ resumes 0 0x7f28094
+    ∷ does 0 Halt
+    ∷ [])
+
+-- Processor 1 has arrived, and then gets no turn: its parked byte is read as 0 each time.
+unfoldable pub not_parked : List Entry
+not_parked =
+    boot ++
+    (does 0 (Out 0xcd8 4 0x1)
+    ∷ does 1 Halt
+    ∷ does 0 (Out 0xcdc 1 0x10)
+    ∷ does 0 (Out 0xb2 1 0x4)
+    ∷ takes_smi 1
+    ∷ takes_smi 0
+    ∷ does_at 1 0x7f38000 (Store 0x7f00001 1 0x1)
+    ∷ does_at 0 0x7f28000 (Store 0x7f04000 1 0x1)
+    ∷ reads_at 1 0x7f38004 (Load 0x7f02001 1) 0
+    ∷ does_at 0 0x7f28004 (Store 0x7f01001 1 0)
+    ∷ reads_at 1 0x7f38008 (Load 0x7f01001 1) 0
+    ∷ does_at 0 0x7f28008 (Icr 0 0xc0200)
+    ∷ does_at 1 0x7f38000 (Store 0x7f00001 1 0x1)
+    ∷ reads_at 0 0x7f2800c (Load 0x7f00001 1) 0x1
+    ∷ reads_at 0 0x7f28010 (In 0xb2 1) 0x4
+    ∷ does_at 0 0x7f28014 (Out 0xcd8 4 0)
+    ∷ does_at 0 0x7f28018 (Out 0xcdd 1 0)
+    ∷ reads_at 0 0x7f2801c (In 0xce0 4) 0x1
+    ∷ reads_at 0 0x7f28020 (In 0xcdc 1) 0x11
+    ∷ does_at 0 0x7f28024 (Out 0xcdd 1 0x3)
+    ∷ reads_at 0 0x7f28028 (In 0xce0 4) 0x1
+    ∷ does_at 0 0x7f28064 (Store 0x7f03001 1 0)
+    ∷ does_at 0 0x7f28068 (Store 0x7f02001 1 0x1)
+    ∷ reads_at 0 0x7f2806c (Load 0x7f03001 1) 0
+    ∷ reads_at 0 0x7f2806c (Load 0x7f03001 1) 0
+    ∷ reads_at 0 0x7f2806c (Load 0x7f03001 1) 0
+    ∷ reads_at 0 0x7f2806c (Load 0x7f03001 1) 0
+    ∷ reads_at 0 0x7f2806c (Load 0x7f03001 1) 0
+    ∷ reads_at 0 0x7f2806c (Load 0x7f03001 1) 0
+    ∷ reads_at 0 0x7f2806c (Load 0x7f03001 1) 0
+    ∷ reads_at 0 0x7f2806c (Load 0x7f03001 1) 0
+    ∷ does_at 0 0x7f28070 (Store 0x7f02001 1 0)
+    ∷ tells 0x7f28088 (Refused (NotParked 1 1))
+    ∷ does_at 0 0x7f2808c (Store 0x7f04000 1 0)
+    ∷ does_at 0 0x7f28090 (Store 0x7f01001 1 0x1)
+    ∷ resumes 0 0x7f28094
+    ∷ does 0 Halt
+    ∷ [])
