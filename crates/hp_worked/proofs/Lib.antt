@@ -9,5 +9,7 @@ pub mod EjectsScheduled
 pub mod Opened
 pub mod FedRecords
 pub mod Runs
+pub mod SafeTraces
 pub mod Scheduled
 pub mod Ways
+pub mod WrongTraces

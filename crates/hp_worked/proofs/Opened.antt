@@ -16,6 +16,12 @@ use Rattle.hp_model.specs.Step.{step, same_access, same_outcome, mark_at, row_at
 use Rattle.hp_model.specs.Runs.{run, run_from, run_on}
 use Rattle.hp_model.specs.Voices.{says}
 use Rattle.hp_model.specs.Schedule.{act, act_all, actors_of, turns_from, booted, boot_fact, scheduled}
+use Rattle.hp_model.specs.Transitions.{transitions_by, transitions, since, older_than, newest, at_each, at_each_state, places}
+use Rattle.hp_model.specs.Account.{bound, is_known, left_held}
+use Rattle.hp_model.specs.Sessions.{triples, outcomes, disturbed_in}
+use Rattle.hp_model.specs.Exact.{is_quiet, reports_truly, answers_all}
+use Rattle.hp_worked.specs.Judged.{verdicts}
+use Rattle.hp_worked.specs.Looked.{back_from, session_triples, session_lengths, classes}
 use Rattle.hp_worked.specs.Asked.{first_stop, all_the_way}
 use Rattle.hp_worked.specs.Files.{without_turns, numbers_from}
 use Rattle.hp_worked.specs.Traces.{boot}
@@ -29,3 +35,8 @@ the_run = tt
 unfoldable pub the_schedule : ⊤
 unfolding the_run says act act_all actors_of turns_from booted boot_fact scheduled
 the_schedule = tt
+
+-- what is read from entries, and the laws of safety
+unfoldable pub the_laws : ⊤
+unfolding the_run transitions_by transitions since older_than newest at_each at_each_state places bound is_known left_held triples outcomes disturbed_in is_quiet reports_truly answers_all verdicts back_from session_triples session_lengths classes
+the_laws = tt

@@ -262,3 +262,7 @@ smi_before_init_file = record (file_of (record two_processors { turns = 8 }) (Sc
 -- the same file where SMIs don't come late
 abbrev pub prompt_file : File → File
 prompt_file f = record f { platform = record f.platform { delivery = Prompt } }
+
+-- two processors are inserted, and looks are taken four times
+abbrev pub few_looks_file : File
+few_looks_file = add_file (record one_of_three { polls = 4; turns = 300 }) (inserts_in 0 1 ∷ inserts_in 0 2 ∷ []) (stalls_in 1 0 999 ∷ []) (Out 0xb2 1 0x4 ∷ []) 2
