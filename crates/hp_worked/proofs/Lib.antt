@@ -1,3 +1,4 @@
+pub mod AccountsRead
 pub mod AddWays
 pub mod AddsChanged
 pub mod AddsRun

@@ -1,12 +1,13 @@
 -- What the laws of safety say of transitions, each by its test; and the transitions of firmware that does something wrong.
-use Rattle.std.specs.Prelude.{ℕ, ◌+◌, Bool, true, ◌&&◌, ◌==◌, List, [], ◌∷◌, Option, Some, None, length, if◌then◌else◌}
+use Rattle.std.specs.Prelude.{ℕ, ◌+◌, Bool, true, false, not, ◌&&◌, ◌||◌, ◌==◌, List, [], ◌∷◌, Option, Some, None, length, if◌then◌else◌}
 use Rattle.hp_model.specs.declared.platforms.Platform.{Platform}
 use Rattle.hp_model.specs.declared.entries.Entry.{Entry}
 use Rattle.hp_model.specs.declared.files.File.{File}
 use Rattle.hp_model.specs.View.{is_locked}
 use Rattle.hp_model.specs.Step.{State, start, is_enabled, answer_of, effect_of}
 use Rattle.hp_model.specs.Runs.{same_answer}
-use Rattle.hp_model.specs.Transitions.{Transition, transitions, transitions_by, at_each, at_each_state, moved_in}
+use Rattle.hp_model.specs.Sessions.{is_called_in, is_disturbed}
+use Rattle.hp_model.specs.Transitions.{Transition, entries_of, transitions, transitions_by, at_each, at_each_state, moved_in}
 use Rattle.hp_model.specs.Smbases.{have_own_smbases, are_all_apart, is_named}
 use Rattle.hp_model.specs.Exact.{is_quiet, reports_truly, answers, answers_all, shows, loses_none, moves_held, each_told}
 use Rattle.std.specs.List.{list_all}
@@ -26,6 +27,10 @@ finds_locked xs = at_each (λ older x. four_bytes (is_locked x.before.locks) x.e
 
 abbrev pub are_named : Platform → List Transition → Bool
 are_named p xs = at_each (λ older x. list_all (is_named p older x) (moved_in p x)) xs
+
+abbrev pub same_truth : Bool → Bool → Bool
+same_truth true b = b
+same_truth false b = not b
 
 -- what each part of the laws says of transitions, in order
 pub record Verdicts : Type 0 where
@@ -71,3 +76,12 @@ verdicts_of_record f es = verdicts f.platform (recorded f.platform es)
 -- the machine alone can make each of the entries
 abbrev pub is_record : File → List Entry → Bool
 is_record f es = length (recorded f.platform es) == length es
+
+-- while all others are called in, the state's flag is what the entries say of the session
+abbrev pub flag_is_right : File → List Entry → Bool
+flag_is_right f es =
+    at_each
+    (λ older x.
+        not (is_called_in f.platform (entries_of (x ∷ older)))
+        || same_truth x.after.disturbed (is_disturbed f.platform (entries_of (x ∷ older))))
+    (transitions f.platform es)

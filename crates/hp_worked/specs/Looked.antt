@@ -13,6 +13,10 @@ use Rattle.hp_model.specs.Account.{bound, is_known}
 use Rattle.hp_model.specs.Sessions.{session, triples, outcome_in, open_triple, ends_outcome, held, is_disturbed}
 use Rattle.hp_model.specs.Exact.{class_by}
 
+-- a triple: place, status and APIC ID
+abbrev pub reported : ℕ → ℕ → ℕ → Report
+reported cpu status apic = record { cpu = cpu; status = status; apic = apic }
+
 -- a trace newest first
 unfoldable pub back_from : List Entry → List Entry → List Entry
 back_from older [] = older

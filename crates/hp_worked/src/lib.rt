@@ -1,11 +1,17 @@
 //! The machine's definitions, computed on whole traces that were worked out by hand.
 #![tactic(auto)]
 
+mod accounts;
 mod adds;
 mod ejects;
 mod laws;
 mod records;
+mod safety;
 
+pub use accounts::{
+    an_apic_id_is_held, apic_ids_are_bound, apic_ids_are_known, reports_have_their_class,
+    sessions_are_disturbed, sessions_report,
+};
 pub use adds::{
     changed_adds_are_none, changed_adds_stop_at_the_change, files_make_worked_adds,
     instructions_of_worked_adds_are_locked, nobody_is_astray_in_worked_adds, worked_adds_are_runs,
@@ -21,3 +27,7 @@ pub use laws::{
     worked_traces_run_alone,
 };
 pub use records::monarch_believes_no_answer;
+pub use safety::{
+    runs_are_recorded_well, worked_traces_are_safe, wrong_traces_are_recorded,
+    wrong_traces_are_refused,
+};
