@@ -1,5 +1,5 @@
 -- What the entries of a run, newest first, tell of APIC IDs (own rules): which are bound, known, and held after a refusal. No state is looked at.
-use Rattle.std.specs.Prelude.{ℕ, Bool, true, false, ◌==◌, List, [], ◌∷◌, ◌++◌, Option, Some, None, if◌then◌else◌}
+use Rattle.std.specs.Prelude.{ℕ, Bool, true, false, ◌==◌, List, [], ◌∷◌, ◌++◌, Option, Some, None, option_and_then, if◌then◌else◌}
 use Rattle.std.specs.Option.{unwrap_or}
 use Rattle.hp_model.specs.declared.platforms.Platform.{Platform}
 use Rattle.hp_model.specs.declared.accesses.Access.{Access}
@@ -10,14 +10,13 @@ use Rattle.hp_model.specs.declared.outcomes.Outcome.{Outcome}
 use Rattle.hp_model.specs.declared.outcomes.Outcome.TheVariants.{Added, Ejected, Refused}
 use Rattle.hp_model.specs.declared.outcomes.Refusal.{Refusal}
 use Rattle.hp_model.specs.declared.outcomes.Refusal.TheVariants.{Disabled, Both, AlreadyKnown, GateHeld, NotAtGate, NotCheckedIn, NoUnplug, NotKnown, NotArrived, NotParked, Foreign, StillPending}
-use Rattle.hp_model.specs.declared.entries.Event.{Event}
-use Rattle.hp_model.specs.declared.entries.Event.TheVariants.{Insert, Remove, Do, TakeSmi, TakeInit, Resume, Tell}
 use Rattle.hp_model.specs.declared.entries.Entry.{Entry}
 use Rattle.hp_model.specs.Block.{is_in}
 use Rattle.hp_model.specs.Labels.{cell_of}
 use Rattle.hp_model.specs.Slots.{boot_ids}
 use Rattle.hp_model.specs.Monarch.{is_that}
 use Rattle.hp_model.specs.Runs.{same_address}
+use Rattle.hp_model.specs.Events.{access_in, outcome_in}
 
 -- an entry is at a label of the monarch or of the first handler where its instruction address is the label's cell
 abbrev pub is_at : Platform → Label → Entry → Bool
@@ -36,18 +35,9 @@ stored_by (Icr high low) = None
 stored_by Halt = None
 stored_by Nop = None
 
-abbrev pub stored_in : Event → Option ℕ
-stored_in (Insert k) = None
-stored_in (Remove k) = None
-stored_in (Do k a) = stored_by a
-stored_in (TakeSmi k) = None
-stored_in (TakeInit k) = None
-stored_in (Resume k) = None
-stored_in (Tell o) = None
-
 -- the APIC ID for which an entry at N7 opens the gate
 abbrev pub opened_for : Platform → Entry → Option ℕ
-opened_for p e = if is_at p N7 e then stored_in e.event else None
+opened_for p e = if is_at p N7 e then option_and_then stored_by (access_in e.event) else None
 
 abbrev pub with_bound : Option ℕ → List ℕ → List ℕ
 with_bound None ids = ids
@@ -64,19 +54,10 @@ told_known apic (Added cpu other slot) = if other == apic then Some true else No
 told_known apic (Ejected cpu other slot) = if other == apic then Some false else None
 told_known apic (Refused why) = None
 
-abbrev pub says_known : ℕ → Event → Option Bool
-says_known apic (Insert k) = None
-says_known apic (Remove k) = None
-says_known apic (Do k a) = None
-says_known apic (TakeSmi k) = None
-says_known apic (TakeInit k) = None
-says_known apic (Resume k) = None
-says_known apic (Tell o) = told_known apic o
-
 -- known: what was last told of it, and at first a boot processor's
 unfoldable pub is_known : Platform → List Entry → ℕ → Bool
 is_known p [] apic = is_in apic (boot_ids p)
-is_known p (e ∷ older) apic = unwrap_or (says_known apic e.event) (is_known p older apic)
+is_known p (e ∷ older) apic = unwrap_or (option_and_then (told_known apic) (outcome_in e.event)) (is_known p older apic)
 
 -- a refusal that leaves its APIC ID held, and any other
 abbrev pub refused_held : Option ℕ → Refusal → Option ℕ
@@ -98,16 +79,11 @@ told_held held (Added cpu apic slot) = if is_that held apic then None else held
 told_held held (Ejected cpu apic slot) = held
 told_held held (Refused why) = refused_held held why
 
-abbrev pub says_held : Option ℕ → Event → Option ℕ
-says_held held (Insert k) = held
-says_held held (Remove k) = held
-says_held held (Do k a) = held
-says_held held (TakeSmi k) = held
-says_held held (TakeInit k) = held
-says_held held (Resume k) = held
-says_held held (Tell o) = told_held held o
+abbrev pub held_by : Option ℕ → Option Outcome → Option ℕ
+held_by held None = held
+held_by held (Some o) = told_held held o
 
 -- held after a refusal: the APIC ID of the last NotAtGate or NotCheckedIn, until it is told as added
 unfoldable pub left_held : List Entry → Option ℕ
 left_held [] = None
-left_held (e ∷ older) = says_held (left_held older) e.event
+left_held (e ∷ older) = held_by (left_held older) (outcome_in e.event)

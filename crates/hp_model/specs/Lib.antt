@@ -22,10 +22,12 @@ pub mod Handlers
 pub mod Voices
 pub mod Step
 pub mod Runs
+pub mod Events
 pub mod Transitions
 pub mod Account
 pub mod Sessions
 pub mod Smbases
+pub mod Outcomes
 pub mod Exact
 pub mod Safety
 pub mod Schedule

@@ -1,7 +1,7 @@
 -- Sessions of the monarch, read from the entries of a run, newest first (own rules): their reports, what was told, and what a report goes by.
-use Rattle.std.specs.Prelude.{ℕ, Bool, true, false, ◌&&◌, ◌||◌, not, ◌==◌, List, [], ◌∷◌, ◌++◌, length, Option, Some, None, slice_get, if◌then◌else◌}
+use Rattle.std.specs.Prelude.{ℕ, Bool, true, false, ◌&&◌, ◌||◌, not, ◌==◌, List, [], ◌∷◌, ◌++◌, length, Option, Some, None, option_map, slice_get, if◌then◌else◌}
 use Rattle.std.specs.List.{list_any}
-use Rattle.std.specs.Option.{is_some}
+use Rattle.std.specs.Option.{is_some, unwrap_or}
 use Rattle.hp_model.specs.declared.platforms.Platform.{Platform}
 use Rattle.hp_model.specs.declared.accesses.Access.{Access}
 use Rattle.hp_model.specs.declared.accesses.Access.TheVariants.{Load}
@@ -9,7 +9,6 @@ use Rattle.hp_model.specs.declared.labels.Label.{Label}
 use Rattle.hp_model.specs.declared.labels.Label.TheVariants.{S2, C1, C2, C3, C4, C5, C6, NB, E5}
 use Rattle.hp_model.specs.declared.outcomes.Outcome.{Outcome}
 use Rattle.hp_model.specs.declared.entries.Event.{Event}
-use Rattle.hp_model.specs.declared.entries.Event.TheVariants.{Insert, Remove, Do, TakeSmi, TakeInit, Resume, Tell}
 use Rattle.hp_model.specs.declared.entries.Entry.{Entry}
 use Rattle.hp_model.specs.Boot.{value_in}
 use Rattle.hp_model.specs.SharedBytes.{layout_of, arrived_byte}
@@ -17,22 +16,17 @@ use Rattle.hp_model.specs.Slots.{place_of}
 use Rattle.hp_model.specs.Collection.{Report}
 use Rattle.hp_model.specs.Monarch.{Class, Facts, class, is_own}
 use Rattle.hp_model.specs.Step.{same_access, writes_block}
+use Rattle.hp_model.specs.Events.{access_in, outcome_in, is_access_of, is_entry_of, is_resume_of}
 use Rattle.hp_model.specs.Transitions.{since, newest}
 use Rattle.hp_model.specs.Account.{is_at, bound, is_known, left_held}
 
 -- processor 0 enters SMM, or leaves it
-abbrev pub bounds_session : Event → Bool
-bounds_session (Insert k) = false
-bounds_session (Remove k) = false
-bounds_session (Do k a) = false
-bounds_session (TakeSmi k) = k == 0
-bounds_session (TakeInit k) = false
-bounds_session (Resume k) = k == 0
-bounds_session (Tell o) = false
+abbrev pub bounds_session : Entry → Bool
+bounds_session e = is_entry_of 0 e.event || is_resume_of 0 e.event
 
 -- a session: the entries since the last SMI entry of processor 0, up to its RSM
 abbrev pub session : List Entry → List Entry
-session es = since (λ e. bounds_session e.event) es
+session es = since bounds_session es
 
 abbrev pub was_at : Platform → Label → List Entry → Bool
 was_at p l es = list_any (is_at p l) es
@@ -53,15 +47,6 @@ triple_by p older e = record { cpu = last_value p C3 older; status = last_value 
 unfoldable pub triples : Platform → List Entry → List Report
 triples p [] = []
 triples p (e ∷ older) = elim (is_at p C6 e) as (λ _. List Report) [ true ↦ triples p older ++ triple_by p older e ∷ [] | false ↦ triples p older ]
-
-abbrev pub outcome_in : Event → Option Outcome
-outcome_in (Insert k) = None
-outcome_in (Remove k) = None
-outcome_in (Do k a) = None
-outcome_in (TakeSmi k) = None
-outcome_in (TakeInit k) = None
-outcome_in (Resume k) = None
-outcome_in (Tell o) = Some o
 
 abbrev pub with_outcome : List Outcome → Option Outcome → List Outcome
 with_outcome os None = os
@@ -91,15 +76,9 @@ apic_in (Some t) = Some t.apic
 abbrev pub held : Platform → List Entry → Option ℕ
 held p es = if add_runs p es then apic_in (open_triple p es) else left_held es
 
--- processor k makes this access
-abbrev pub makes_access : ℕ → Access → Event → Bool
-makes_access k a (Insert j) = false
-makes_access k a (Remove j) = false
-makes_access k a (Do j b) = (j == k) && same_access b a
-makes_access k a (TakeSmi j) = false
-makes_access k a (TakeInit j) = false
-makes_access k a (Resume j) = false
-makes_access k a (Tell o) = false
+-- processor 0 makes this access
+abbrev pub monarch_makes : Access → Event → Bool
+monarch_makes a e = is_access_of 0 e && unwrap_or (option_map (same_access a) (access_in e)) false
 
 -- what processor 0 has last loaded of a slot's arrived byte in the running session; 2 for nothing
 abbrev pub look_by : Option Entry → ℕ
@@ -107,7 +86,7 @@ look_by None = 2
 look_by (Some e) = value_in e.answer
 
 abbrev pub last_look : Platform → ℕ → List Entry → ℕ
-last_look p slot es = look_by (newest (λ e. makes_access 0 (Load (arrived_byte (layout_of p) slot) 1) e.event) (session es))
+last_look p slot es = look_by (newest (λ e. monarch_makes (Load (arrived_byte (layout_of p) slot) 1) e.event) (session es))
 
 -- what a report goes by; the negotiated features are all that the platform supports
 abbrev pub facts_in : Platform → List Entry → Report → Facts
@@ -130,7 +109,7 @@ abbrev pub collects : Platform → Entry → Bool
 collects p e = list_any (λ l. is_at p l e) (C1 ∷ C2 ∷ C3 ∷ C4 ∷ C5 ∷ C6 ∷ [])
 
 abbrev pub ends_outcome : Platform → Entry → Bool
-ends_outcome p e = tells e || (collects p e || bounds_session e.event)
+ends_outcome p e = tells e || (collects p e || bounds_session e)
 
 -- from its entry at S2 to its entry at E5 a session has all other processors called in
 abbrev pub is_called_in : Platform → List Entry → Bool
@@ -141,20 +120,14 @@ is_outside None = true
 is_outside (Some address) = false
 
 -- a processor outside SMM writes to the register block
-abbrev pub interferes : Event → Bool
-interferes (Insert k) = false
-interferes (Remove k) = false
-interferes (Do k a) = writes_block a
-interferes (TakeSmi k) = false
-interferes (TakeInit k) = false
-interferes (Resume k) = false
-interferes (Tell o) = false
+abbrev pub interferes : Entry → Bool
+interferes e = is_outside e.at && unwrap_or (option_map writes_block (access_in e.event)) false
 
 -- the session is disturbed: one did so meanwhile
 unfoldable pub disturbed_in : Platform → List Entry → Bool
 disturbed_in p [] = false
 disturbed_in p (e ∷ older) =
-    elim (is_outside e.at && interferes e.event) as (λ _. Bool) [ true ↦ is_called_in p older || disturbed_in p older | false ↦ disturbed_in p older ]
+    elim (interferes e) as (λ _. Bool) [ true ↦ is_called_in p older || disturbed_in p older | false ↦ disturbed_in p older ]
 
 abbrev pub is_disturbed : Platform → List Entry → Bool
 is_disturbed p es = disturbed_in p (session es)

@@ -4,8 +4,6 @@ use Rattle.std.specs.List.{list_all, list_any}
 use Rattle.hp_model.specs.declared.platforms.Platform.{Platform}
 use Rattle.hp_model.specs.declared.processors.Cpu.{Cpu}
 use Rattle.hp_model.specs.declared.labels.Label.TheVariants.{F1, F6}
-use Rattle.hp_model.specs.declared.entries.Event.{Event}
-use Rattle.hp_model.specs.declared.entries.Event.TheVariants.{Insert, Remove, Do, TakeSmi, TakeInit, Resume, Tell}
 use Rattle.hp_model.specs.declared.entries.Entry.{Entry}
 use Rattle.hp_model.specs.Platform.{count_of, tile, apic_of}
 use Rattle.hp_model.specs.Memory.{touched}
@@ -16,7 +14,8 @@ use Rattle.hp_model.specs.Collection.{Report}
 use Rattle.hp_model.specs.Monarch.{is_that}
 use Rattle.hp_model.specs.Step.{State, at}
 use Rattle.hp_model.specs.Boot.{value_in}
-use Rattle.hp_model.specs.Transitions.{Transition, transitions, entries_of, at_each, at_each_state, newest, older_than, places, moved_in, is_resume_of}
+use Rattle.hp_model.specs.Events.{is_access_of, is_entry_of, is_resume_of}
+use Rattle.hp_model.specs.Transitions.{Transition, transitions, entries_of, at_each, at_each_state, newest, older_than, places, moved_in}
 use Rattle.hp_model.specs.Account.{is_at, opened_for, bound}
 use Rattle.hp_model.specs.Sessions.{session, triples}
 
@@ -38,25 +37,6 @@ are_all_apart p s = list_all (λ j. list_all (λ k. (j == k) || are_apart (at s 
 pub record IsDistinct (p : Platform) (es : List Entry) : Type 0 where
   pub own : at_each_state p (have_own_smbases p) (transitions p es) ≡ true
   pub apart : at_each_state p (λ older s. are_all_apart p s) (transitions p es) ≡ true
-
--- processor k enters SMM
-abbrev pub is_entry_of : ℕ → Event → Bool
-is_entry_of k (Insert j) = false
-is_entry_of k (Remove j) = false
-is_entry_of k (Do j a) = false
-is_entry_of k (TakeSmi j) = j == k
-is_entry_of k (TakeInit j) = false
-is_entry_of k (Resume j) = false
-is_entry_of k (Tell o) = false
-
-abbrev pub is_access_of : ℕ → Event → Bool
-is_access_of k (Insert j) = false
-is_access_of k (Remove j) = false
-is_access_of k (Do j a) = j == k
-is_access_of k (TakeSmi j) = false
-is_access_of k (TakeInit j) = false
-is_access_of k (Resume j) = false
-is_access_of k (Tell o) = false
 
 -- it passes the gate: its exchange at F1 found its own APIC ID there
 abbrev pub passes : Platform → ℕ → Entry → Bool

@@ -1,8 +1,6 @@
 -- Runs as transitions: each entry with the state before it and the state after it. Lists are newest first, as they are looked back on.
 use Rattle.std.specs.Prelude.{ℕ, zero, suc, Bool, true, false, ◌&&◌, not, ◌==◌, List, [], ◌∷◌, map, filter, Option, Some, None}
 use Rattle.hp_model.specs.declared.platforms.Platform.{Platform}
-use Rattle.hp_model.specs.declared.entries.Event.{Event}
-use Rattle.hp_model.specs.declared.entries.Event.TheVariants.{Insert, Remove, Do, TakeSmi, TakeInit, Resume, Tell}
 use Rattle.hp_model.specs.declared.entries.Entry.{Entry}
 use Rattle.hp_model.specs.Platform.{count_of}
 use Rattle.hp_model.specs.Step.{State, at, start}
@@ -72,13 +70,3 @@ has_left x k = (at x.before k).present && not (at x.after k).present
 
 abbrev pub left_in : Platform → Transition → List ℕ
 left_in p x = filter (has_left x) (places (count_of p))
-
--- it is processor k's own RSM
-abbrev pub is_resume_of : ℕ → Event → Bool
-is_resume_of k (Insert j) = false
-is_resume_of k (Remove j) = false
-is_resume_of k (Do j a) = false
-is_resume_of k (TakeSmi j) = false
-is_resume_of k (TakeInit j) = false
-is_resume_of k (Resume j) = j == k
-is_resume_of k (Tell o) = false

@@ -9,7 +9,8 @@ use Rattle.hp_model.specs.Runs.{same_answer}
 use Rattle.hp_model.specs.Sessions.{is_called_in, is_disturbed}
 use Rattle.hp_model.specs.Transitions.{Transition, entries_of, transitions, transitions_by, at_each, at_each_state, moved_in}
 use Rattle.hp_model.specs.Smbases.{have_own_smbases, are_all_apart, is_named}
-use Rattle.hp_model.specs.Exact.{is_quiet, reports_truly, answers, answers_all, shows, loses_none, moves_held, each_told}
+use Rattle.hp_model.specs.Outcomes.{answers, shows, loses_none, each_told}
+use Rattle.hp_model.specs.Exact.{is_quiet, reports_truly, answers_all, moves_held}
 use Rattle.std.specs.List.{list_all}
 use Rattle.hp_worked.specs.Asked.{four_bytes}
 

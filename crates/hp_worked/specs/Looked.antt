@@ -2,16 +2,15 @@
 use Rattle.std.specs.Prelude.{ℕ, Bool, true, false, ◌==◌, List, [], ◌∷◌, ◌++◌, length, drop, take, Option, Some, None}
 use Rattle.hp_model.specs.declared.platforms.Platform.{Platform}
 use Rattle.hp_model.specs.declared.outcomes.Outcome.{Outcome}
-use Rattle.hp_model.specs.declared.entries.Event.{Event}
-use Rattle.hp_model.specs.declared.entries.Event.TheVariants.{Insert, Remove, Do, TakeSmi, TakeInit, Resume, Tell}
 use Rattle.hp_model.specs.declared.entries.Entry.{Entry}
 use Rattle.hp_model.specs.declared.files.File.{File}
 use Rattle.hp_model.specs.Collection.{Report}
 use Rattle.hp_model.specs.Monarch.{Class}
-use Rattle.hp_model.specs.Transitions.{since, is_resume_of}
+use Rattle.hp_model.specs.Events.{outcome_in, is_resume_of}
+use Rattle.hp_model.specs.Transitions.{since}
 use Rattle.hp_model.specs.Account.{bound, is_known}
-use Rattle.hp_model.specs.Sessions.{session, triples, outcome_in, open_triple, ends_outcome, held, is_disturbed}
-use Rattle.hp_model.specs.Exact.{class_by}
+use Rattle.hp_model.specs.Sessions.{session, triples, open_triple, ends_outcome, held, is_disturbed}
+use Rattle.hp_model.specs.Outcomes.{class_by}
 
 -- a triple: place, status and APIC ID
 abbrev pub reported : ℕ → ℕ → ℕ → Report
