@@ -1,3 +1,4 @@
 pub mod ApicIds
+pub mod AtEach
 pub mod Same
 pub mod Scheduled

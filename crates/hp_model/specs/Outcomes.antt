@@ -21,7 +21,7 @@ use Rattle.hp_model.specs.Step.{State, at, same_outcome, stands_in_smm}
 use Rattle.hp_model.specs.Events.{outcome_in, is_access_of}
 use Rattle.hp_model.specs.Transitions.{Transition, entries_of, at_each, since, older_than, newest, left_in}
 use Rattle.hp_model.specs.Account.{is_at, opened_for, bound}
-use Rattle.hp_model.specs.Sessions.{open_triple, class_in, is_disturbed, was_at, ends_outcome}
+use Rattle.hp_model.specs.Sessions.{open_triple, class_in, is_disturbed, ends_outcome}
 
 -- what is told, the report that it answers, the class of this report, and the transitions of the outcome, newest first
 pub record Telling : Type 0 where
@@ -169,21 +169,24 @@ is_ejected p t cpu apic slot =
     (is_in apic (bound p t.entries) && (place_of (bound p t.entries) apic == slot))
     && (is_disturbed p t.entries || is_only (is_eject_of p cpu slot) (departures p t.own))
 
--- three attempts opened the gate, and what each look of the third one read
+-- three attempts have opened the gate
 abbrev pub has_three_attempts : Platform → ℕ → List Entry → Bool
 has_three_attempts p apic own = length (filter (opens p apic) own) == 3
 
+-- and each look of the third one read 0
 abbrev pub is_not_at_gate : Platform → ℕ → List Entry → Bool
 is_not_at_gate p apic own =
     has_three_attempts p apic own
     && (reads_zeros p N8a (since (is_at p N7) own) && reads_zeros p N8b (since (is_at p N7) own))
 
+-- one of the third attempt's looks read 1, and then N10 came
+abbrev pub was_seen : Platform → List Entry → Bool
+was_seen p looks = is_in 1 (values_at p N8a looks) || is_in 1 (values_at p N8b looks)
+
 abbrev pub is_not_checked_in : Platform → ℕ → List Entry → Bool
 is_not_checked_in p apic own =
     let third = since (is_at p N7) own in
-    has_three_attempts p apic own
-    && ((is_in 1 (values_at p N8a third) || is_in 1 (values_at p N8b third))
-    && (was_at p N10 third && reads_zeros p N11 (since (is_at p N10) third)))
+    has_three_attempts p apic own && (was_seen p (older_than (is_at p N10) third) && reads_zeros p N11 (since (is_at p N10) third))
 
 abbrev pub is_still_pending : Platform → ℕ → List Entry → Bool
 is_still_pending p status own = is_in status (values_at p E4g own) && (bit_and status 0x10 == 0x10)

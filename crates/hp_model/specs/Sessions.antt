@@ -1,5 +1,5 @@
 -- Sessions of the monarch, read from the entries of a run, newest first (own rules): their reports, what was told, and what a report goes by.
-use Rattle.std.specs.Prelude.{ℕ, Bool, true, false, ◌&&◌, ◌||◌, not, ◌==◌, List, [], ◌∷◌, ◌++◌, length, Option, Some, None, option_map, slice_get, if◌then◌else◌}
+use Rattle.std.specs.Prelude.{ℕ, Bool, true, false, ◌&&◌, ◌||◌, not, List, [], ◌∷◌, ◌++◌, length, Option, Some, None, option_map, slice_get, if◌then◌else◌}
 use Rattle.std.specs.List.{list_any}
 use Rattle.std.specs.Option.{is_some, unwrap_or}
 use Rattle.hp_model.specs.declared.platforms.Platform.{Platform}
@@ -24,7 +24,7 @@ use Rattle.hp_model.specs.Account.{is_at, bound, is_known, left_held}
 abbrev pub bounds_session : Entry → Bool
 bounds_session e = is_entry_of 0 e.event || is_resume_of 0 e.event
 
--- a session: the entries since the last SMI entry of processor 0, up to its RSM
+-- a session: the entries since processor 0 entered SMM; between sessions, those since it left
 abbrev pub session : List Entry → List Entry
 session es = since bounds_session es
 

@@ -1,6 +1,5 @@
 -- Traces of ejects, of late delivery and of wide APIC IDs with one thing changed are no runs, and stop at the change.
 use Rattle.std.proofs.Common.{◌≡◌, false, Some, refl}
-use Rattle.hp_model.specs.declared.platforms.Delivery.TheVariants.{Prompt}
 use Rattle.hp_worked.specs.Asked.{is_run, stops_at}
 use Rattle.hp_worked.specs.Files.{ejected_and_added_again_file, eject_led_astray_file, wide_add_file, late_alone_file, prompt_file}
 use Rattle.hp_worked.specs.Ejects.{ejected_and_added_again, told_too_early, ejected_unparked}

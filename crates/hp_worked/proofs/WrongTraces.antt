@@ -1,7 +1,6 @@
 -- The laws of safety refuse what wrong firmware does, each by the part that speaks of it, and the machine alone records it.
 use Rattle.std.proofs.Common.{◌≡◌, true, false, refl}
 use Rattle.hp_worked.specs.Judged.{verdicts_of_record, is_record, all_well}
-use Rattle.hp_worked.specs.Asked.{is_run}
 use Rattle.hp_worked.specs.Files.{an_add_file, ejected_and_added_again_file, few_looks_file, not_arrived_file, rendezvous_file, two_adds_file}
 use Rattle.hp_worked.specs.Adds.{an_add}
 use Rattle.hp_worked.specs.Ejects.{ejected_and_added_again}

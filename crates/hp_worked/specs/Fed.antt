@@ -1,5 +1,5 @@
 -- Rows of the monarch on its record alone: where a list of answers leads it.
-use Rattle.std.specs.Prelude.{ℕ, true, false, List, [], ◌∷◌}
+use Rattle.std.specs.Prelude.{ℕ, List, [], ◌∷◌}
 use Rattle.hp_model.specs.declared.platforms.Platform.{Platform}
 use Rattle.hp_model.specs.declared.platforms.Delivery.TheVariants.{Late}
 use Rattle.hp_model.specs.declared.accesses.Answer.{Answer}

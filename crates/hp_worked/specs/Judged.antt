@@ -1,5 +1,5 @@
 -- What the laws of safety say of transitions, each by its test; and the transitions of firmware that does something wrong.
-use Rattle.std.specs.Prelude.{ℕ, ◌+◌, Bool, true, false, not, ◌&&◌, ◌||◌, ◌==◌, List, [], ◌∷◌, Option, Some, None, length, if◌then◌else◌}
+use Rattle.std.specs.Prelude.{Bool, true, false, not, ◌&&◌, ◌||◌, ◌==◌, List, [], ◌∷◌, Option, Some, None, length, if◌then◌else◌}
 use Rattle.hp_model.specs.declared.platforms.Platform.{Platform}
 use Rattle.hp_model.specs.declared.entries.Entry.{Entry}
 use Rattle.hp_model.specs.declared.files.File.{File}
@@ -83,6 +83,6 @@ abbrev pub flag_is_right : File → List Entry → Bool
 flag_is_right f es =
     at_each
     (λ older x.
-        not (is_called_in f.platform (entries_of (x ∷ older)))
-        || same_truth x.after.disturbed (is_disturbed f.platform (entries_of (x ∷ older))))
+    not (is_called_in f.platform (entries_of (x ∷ older)))
+    || same_truth x.after.disturbed (is_disturbed f.platform (entries_of (x ∷ older))))
     (transitions f.platform es)
