@@ -34,8 +34,8 @@ actor_of late (Resume k) = actor.Cpu k
 actor_of late (Tell o) = actor.Cpu 0
 
 -- whether it is a step of this actor: the taking of a latched SMI is one of the SMI, and at once one of its processor too
-abbrev pub IsStepOf : Bool → Actor → Event → Type 0
-IsStepOf late a e = (actor_of late e ≡ a) ⊎ ((k : ℕ) × (a ≡ actor.Smi k) × (e ≡ TakeSmi k))
+abbrev pub IsStepBy : Bool → Actor → Event → Type 0
+IsStepBy late a e = (actor_of late e ≡ a) ⊎ ((k : ℕ) × (a ≡ actor.Smi k) × (e ≡ TakeSmi k))
 
 -- the instruction address that the actor has before the step
 abbrev pub address_of : State → Event → Option ℕ
