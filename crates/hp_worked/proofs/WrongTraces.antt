@@ -1,6 +1,7 @@
 -- The laws of safety refuse what wrong firmware does, each by the part that speaks of it, and the machine alone records it.
 use Rattle.std.proofs.Common.{◌≡◌, true, false, refl}
 use Rattle.hp_worked.specs.Judged.{verdicts_of_record, is_record, all_well}
+use Rattle.hp_worked.specs.Asked.{is_run}
 use Rattle.hp_worked.specs.Files.{an_add_file, ejected_and_added_again_file, few_looks_file, not_arrived_file, rendezvous_file, two_adds_file}
 use Rattle.hp_worked.specs.Adds.{an_add}
 use Rattle.hp_worked.specs.Ejects.{ejected_and_added_again}
@@ -84,8 +85,42 @@ pub rendezvous_is_recorded_well : verdicts_of_record rendezvous_file rendezvous 
 unfolding the_laws rendezvous
 rendezvous_is_recorded_well = refl
 
+pub default_area_left_open_is_no_run : is_run an_add_file default_area_left_open ≡ false
+unfolding the_laws default_area_left_open
+default_area_left_open_is_no_run = refl
+
+pub added_at_the_flag_is_no_run : is_run an_add_file added_at_the_flag ≡ false
+unfolding the_laws added_at_the_flag
+added_at_the_flag_is_no_run = refl
+
+pub no_smi_to_itself_is_no_run : is_run an_add_file no_smi_to_itself ≡ false
+unfolding the_laws no_smi_to_itself
+no_smi_to_itself_is_no_run = refl
+
+pub added_beside_a_held_one_is_no_run : is_run few_looks_file added_beside_a_held_one ≡ false
+unfolding the_laws added_beside_a_held_one
+added_beside_a_held_one_is_no_run = refl
+
+pub slot_given_away_is_no_run : is_run two_adds_file slot_given_away ≡ false
+unfolding the_laws slot_given_away
+slot_given_away_is_no_run = refl
+
+pub ejected_outside_is_no_run : is_run not_arrived_file ejected_outside ≡ false
+unfolding the_laws ejected_outside
+ejected_outside_is_no_run = refl
+
+pub called_in_before_release_is_no_run : is_run rendezvous_file called_in_before_release ≡ false
+unfolding the_laws called_in_before_release
+called_in_before_release_is_no_run = refl
+
+pub collected_past_the_end_is_no_run : is_run two_adds_file collected_past_the_end ≡ false
+unfolding the_laws collected_past_the_end
+collected_past_the_end_is_no_run = refl
+
 pub ruleset recorded = (default_area_left_open_is_recorded, added_at_the_flag_is_recorded, no_smi_to_itself_is_recorded, added_beside_a_held_one_is_recorded, slot_given_away_is_recorded, ejected_outside_is_recorded, called_in_before_release_is_recorded, collected_past_the_end_is_recorded)
 
 pub ruleset refused = (default_area_left_open_is_refused, added_at_the_flag_is_refused, no_smi_to_itself_is_refused, added_beside_a_held_one_is_refused, slot_given_away_is_refused, ejected_outside_is_refused, called_in_before_release_is_refused, collected_past_the_end_is_refused)
 
 pub ruleset recorded_well = (an_add_is_recorded_well, ejected_and_added_again_is_recorded_well, rendezvous_is_recorded_well)
+
+pub ruleset no_runs = (default_area_left_open_is_no_run, added_at_the_flag_is_no_run, no_smi_to_itself_is_no_run, added_beside_a_held_one_is_no_run, slot_given_away_is_no_run, ejected_outside_is_no_run, called_in_before_release_is_no_run, collected_past_the_end_is_no_run)

@@ -28,6 +28,6 @@ pub use laws::{
 };
 pub use records::monarch_believes_no_answer;
 pub use safety::{
-    runs_are_recorded_well, worked_traces_are_safe, wrong_traces_are_recorded,
-    wrong_traces_are_refused,
+    runs_are_recorded_well, worked_traces_are_safe, wrong_traces_are_no_runs,
+    wrong_traces_are_recorded, wrong_traces_are_refused,
 };

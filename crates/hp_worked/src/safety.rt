@@ -2,6 +2,7 @@
 
 ghost use Rattle.std.specs.Prelude.{◌≡◌, true, false};
 ghost use Rattle.hp_worked.specs.Judged.{verdicts_of_run, verdicts_of_record, is_record, all_well};
+ghost use Rattle.hp_worked.specs.Asked.{is_run};
 ghost use Rattle.hp_worked.specs.Files.{already_known_file, an_add_file, disabled_processor_file, eject_led_astray_file, ejected_and_added_again_file, few_looks_file, gate_held_file, insert_and_eject_file, late_alone_file, no_unplug_file, not_arrived_file, not_at_gate_file, not_known_file, not_parked_file, rendezvous_file, selector_taken_away_file, two_adds_file, two_new_processors_file, wide_add_file};
 ghost use Rattle.hp_worked.specs.Adds.{an_add};
 ghost use Rattle.hp_worked.specs.Ejects.{ejected_and_added_again};
@@ -49,6 +50,19 @@ pub fn wrong_traces_are_recorded()
     ensures ejected_outside { is_record not_arrived_file ejected_outside ≡ true }
     ensures called_in_before_release { is_record rendezvous_file called_in_before_release ≡ true }
     ensures collected_past_the_end { is_record two_adds_file collected_past_the_end ≡ true }
+{}
+
+/// None of them is a run: a handler or the boot wants something else.
+#[tactic(auto, using(crate::proofs::WrongTraces::no_runs))]
+pub fn wrong_traces_are_no_runs()
+    ensures default_area_left_open { is_run an_add_file default_area_left_open ≡ false }
+    ensures added_at_the_flag { is_run an_add_file added_at_the_flag ≡ false }
+    ensures no_smi_to_itself { is_run an_add_file no_smi_to_itself ≡ false }
+    ensures added_beside_a_held_one { is_run few_looks_file added_beside_a_held_one ≡ false }
+    ensures slot_given_away { is_run two_adds_file slot_given_away ≡ false }
+    ensures ejected_outside { is_run not_arrived_file ejected_outside ≡ false }
+    ensures called_in_before_release { is_run rendezvous_file called_in_before_release ≡ false }
+    ensures collected_past_the_end { is_run two_adds_file collected_past_the_end ≡ false }
 {}
 
 /// And the laws refuse each of them, by the part that speaks of it.
