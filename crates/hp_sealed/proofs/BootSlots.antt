@@ -1,20 +1,19 @@
 -- The slots at the start: the boot processors' APIC IDs are distinct possible ones.
-use Rattle.std.proofs.Common.{ℕ, zero, suc, ◌≡◌, ◌<◌, ◌≤◌, ◌==◌, Bool, true, false, not, ◌&&◌, ◌||◌, nat_lt, List, [], ◌∷◌, length, map, get_or, refl, sym, ap, subst, ◌∙◌, arith}
+use Rattle.std.proofs.Common.{ℕ, zero, suc, ◌≡◌, ◌+◌, ◌<◌, ◌≤◌, ◌==◌, Bool, true, false, not, ◌&&◌, ◌||◌, nat_lt, List, [], ◌∷◌, length, map, get_or, refl, sym, ap, subst, ◌∙◌, arith}
 use Rattle.std.specs.Prelude.{slice_index_or, slice_get}
 use Rattle.std.specs.List.{list_all, list_any}
 use Rattle.std.proofs.lemmas.Bool.{and_parts, ltb-true}
 use Rattle.std.proofs.lemmas.Bool.Decides.{nat_tests}
 use Rattle.std.proofs.lemmas.List.{length-map, length-replicate}
 use Rattle.hp_model.specs.declared.platforms.Platform.{Platform}
-use Rattle.hp_model.specs.Platform.{all_distinct, ascends_from, count_of}
+use Rattle.hp_model.specs.Platform.{all_distinct, ascends_from, count_of, apic_of}
 use Rattle.hp_model.specs.Block.{is_in}
-use Rattle.hp_model.specs.Slots.{slots_start}
+use Rattle.hp_model.specs.Slots.{slots_start, place_of}
 use Rattle.hp_model.specs.Monarch.{is_that}
-use Rattle.hp_model.specs.Step.{apic_of}
 use Rattle.hp_sealed.specs.Sealed.{Placed}
 
 -- two places of a list of distinct IDs hold two of them
-none_same : (as' : List ℕ) (x k : ℕ) → list_any (λ y. y == x) as' ≡ false → k < length as' → get_or as' k 255 ≡ x → ⊥
+none_same : (as' : List ℕ) (x k : ℕ) → list_any (λ y. y == x) as' ≡ false → k < length as' → get_or as' k 0xffffffff ≡ x → ⊥
 none_same [] x k e less g = omega (arith, less)
 none_same (a ∷ as') x zero e less g = by_head (a == x) refl e
   where
@@ -27,24 +26,24 @@ none_same (a ∷ as') x (suc k) e less g = none_same as' x k (rest (a == x) e) (
     rest true f = absurd cc
     rest false f = f
 
-ids_differ : (as' : List ℕ) (i j : ℕ) → all_distinct as' ≡ true → i < length as' → j < length as' → get_or as' i 255 ≡ get_or as' j 255 → i ≡ j
+pub ids_differ : (as' : List ℕ) (i j : ℕ) → all_distinct as' ≡ true → i < length as' → j < length as' → get_or as' i 0xffffffff ≡ get_or as' j 0xffffffff → i ≡ j
 ids_differ [] i j e li lj g = absurd (omega (arith, li))
 ids_differ (a ∷ as') i j e li lj g = by_head (list_any (λ y. y == a) as') refl e i j li lj g (λ x y h u v w. ids_differ as' x y h u v w)
   where
-    by_head : (c : Bool) → list_any (λ y. y == a) as' ≡ c → (not c && all_distinct as') ≡ true → (i j : ℕ) → i < suc (length as') → j < suc (length as') → get_or (a ∷ as') i 255 ≡ get_or (a ∷ as') j 255 → ((x y : ℕ) → all_distinct as' ≡ true → x < length as' → y < length as' → get_or as' x 255 ≡ get_or as' y 255 → x ≡ y) → i ≡ j
+    by_head : (c : Bool) → list_any (λ y. y == a) as' ≡ c → (not c && all_distinct as') ≡ true → (i j : ℕ) → i < suc (length as') → j < suc (length as') → get_or (a ∷ as') i 0xffffffff ≡ get_or (a ∷ as') j 0xffffffff → ((x y : ℕ) → all_distinct as' ≡ true → x < length as' → y < length as' → get_or as' x 0xffffffff ≡ get_or as' y 0xffffffff → x ≡ y) → i ≡ j
     by_head true u f i j li lj g more = absurd cc
     by_head false u f zero zero li lj g more = refl
     by_head false u f zero (suc j) li lj g more = absurd (none_same as' a j u (omega (arith, lj)) (sym g))
     by_head false u f (suc i) zero li lj g more = absurd (none_same as' a i u (omega (arith, li)) g)
     by_head false u f (suc i) (suc j) li lj g more = ap suc (more i j f (omega (arith, li)) (omega (arith, lj)) g)
 
-in_at : (as' : List ℕ) (k : ℕ) → k < length as' → is_in (slice_index_or as' k 255) as' ≡ true
+in_at : (as' : List ℕ) (k : ℕ) → k < length as' → is_in (slice_index_or as' k 0xffffffff) as' ≡ true
 in_at [] k less = absurd (omega (arith, less))
 in_at (a ∷ as') zero less = let s : (a == a) ≡ true = same a in rw s refl
   where
     same : (n : ℕ) → (n == n) ≡ true
     same n = grind (arith, nat_tests)
-in_at (a ∷ as') (suc k) less = more (a == slice_index_or as' k 255) (is_in (slice_index_or as' k 255) as') (in_at as' k (omega (arith, less)))
+in_at (a ∷ as') (suc k) less = more (a == slice_index_or as' k 0xffffffff) (is_in (slice_index_or as' k 0xffffffff) as') (in_at as' k (omega (arith, less)))
   where
     more : (b c : Bool) → c ≡ true → (b || c) ≡ true
     more true c e = refl
@@ -91,3 +90,37 @@ module _ (p : Platform) (ids : all_distinct p.apic ≡ true) where
     where
       same : (n : ℕ) → (n == n) ≡ true
       same n = grind (arith, nat_tests)
+
+-- each of these, by what f makes of it, is among the IDs, the first at place n and the others after it
+abbrev pub AtPlaces : (ℕ → ℕ) → List ℕ → ℕ → List ℕ → Type 0
+AtPlaces f ids n [] = Unit {0}
+AtPlaces f ids n (b ∷ bs) = ((is_in (f b) ids ≡ true) × (place_of ids (f b) ≡ n)) × AtPlaces f ids (n + 1) bs
+
+places_more : (f : ℕ → ℕ) (x : ℕ) (ids : List ℕ) (n : ℕ) (bs : List ℕ) → list_any (λ y. y == x) (map f bs) ≡ false → AtPlaces f ids n bs → AtPlaces f (x ∷ ids) (n + 1) bs
+places_more f x ids n [] e h = tt
+places_more f x ids n (b ∷ bs) e h =
+    let none = neither (f b == x) (list_any (λ y. y == x) (map f bs)) e in
+    let other = turned (f b) x none.0 in
+    let here = h.0.0 in
+    ((rw (other, here) refl, rw other (ap (λ i. i + 1) h.0.1)), places_more f x ids (n + 1) bs none.1 h.1)
+  where
+    neither : (a b : Bool) → (a || b) ≡ false → (a ≡ false) × (b ≡ false)
+    neither false b e = (refl, e)
+    neither true b e = absurd cc
+
+    turned : (a b : ℕ) → (a == b) ≡ false → (b == a) ≡ false
+    turned a b e = grind (arith, nat_tests)
+
+pub places : (f : ℕ → ℕ) (bs : List ℕ) → all_distinct (map f bs) ≡ true → AtPlaces f (map f bs) 0 bs
+places f [] d = tt
+places f (b ∷ bs) d =
+    let parts = distinct_rest (list_any (λ y. y == f b) (map f bs)) (all_distinct (map f bs)) d in
+    let here : (f b == f b) ≡ true = same (f b) in
+    ((rw here refl, rw here refl), places_more f (f b) (map f bs) 0 bs parts.0 (places f bs parts.1))
+  where
+    same : (n : ℕ) → (n == n) ≡ true
+    same n = grind (arith, nat_tests)
+
+    distinct_rest : (c d : Bool) → (not c && d) ≡ true → (c ≡ false) × (d ≡ true)
+    distinct_rest true d e = absurd cc
+    distinct_rest false d e = (refl, e)

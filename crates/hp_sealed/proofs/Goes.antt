@@ -3,6 +3,7 @@ use Rattle.std.proofs.Common.{ℕ, ◌≡◌, ◌+◌, ◌<◌, ◌%◌, ◌==�
 use Rattle.std.proofs.lemmas.Bool.{and_parts, eqb-true}
 use Rattle.std.proofs.lemmas.Bool.Decides.{nat_tests}
 use Rattle.std.proofs.lemmas.Option.{same_Some}
+use Rattle.std.specs.Option.{unwrap_or}
 use Rattle.hp_model.specs.declared.platforms.Platform.{Platform}
 use Rattle.hp_model.specs.declared.processors.Mode.{Mode}
 use Rattle.hp_model.specs.declared.processors.Mode.TheVariants.{Wait, Running, Halted, Smm}
@@ -12,14 +13,15 @@ use Rattle.hp_model.specs.declared.outcomes.BootFact.{BootFact}
 use Rattle.hp_model.specs.declared.entries.Event.{Event}
 use Rattle.hp_model.specs.declared.entries.Event.TheVariants.{Insert, Remove, Do, TakeSmi, TakeInit, Resume, Tell}
 use Rattle.hp_model.specs.Cpu.{is_in_smm, address_in, smm_address}
-use Rattle.hp_model.specs.Boot.{Stage, Boots, Refused, Handed, boot_access, boot_refusal, value_in, stage_by, stage_after}
-use Rattle.hp_model.specs.Step.{State, After, at, same_access, is_boots, is_enabled, is_wanted, wanted_in, answer_to, access_effect, with_agreed, after, step}
+use Rattle.hp_model.specs.Boot.{Stage, Boots, Refused, Handed, ext_count, boot_access, boot_refusal, value_in, stage_by, stage_after}
+use Rattle.hp_model.specs.Monarch.{with_features}
+use Rattle.hp_model.specs.Step.{State, After, at, same_access, is_boots, is_enabled, is_wanted, wanted_in, answer_to, access_effect, with_agreed, is_disturbed_by, after, step}
 use Rattle.hp_sealed.specs.Left.{Sound, LeavesLocked}
 use Rattle.hp_sealed.specs.Sealed.{IsOutside, IsSealed}
 use Rattle.hp_sealed.specs.Booting.{Booting, IsBooting, IsRefused, IsBooted, Goes}
 use Rattle.hp_sealed.proofs.Left.{pick_by}
 use Rattle.hp_sealed.proofs.Same.{same_access-is}
-use Rattle.hp_sealed.proofs.Outside.{acts, left_acted}
+use Rattle.hp_sealed.proofs.Outside.{Calm, acts, left_acted}
 use Rattle.hp_sealed.proofs.Boots.{Passes, passes, outside_acts, locked_by}
 use Rattle.hp_sealed.proofs.Image.{holds_sealed}
 
@@ -66,56 +68,65 @@ not_in_smm c here none = by_mode c.mode (subst (λ b. (if b then address_in c.mo
 
 -- the state after a boot's access
 abbrev reached : Platform → State → ℕ → ℕ → Access → State
-reached p s done supported b = record (with_agreed (access_effect p 0 false b s)) { stage = stage_after (answer_to false b s) (Boots done supported) }
+reached p s done supported b = record (with_agreed (access_effect p 0 false b s)) { stage = stage_after p.tseg_mib (answer_to false b s) (Boots done supported); disturbed = is_disturbed_by s (Do 0 b) }
 
 after_boots : (p : Platform) (s : State) (done supported : ℕ) (b : Access) → s.stage ≡ Boots done supported → is_in_smm (at s 0).mode ≡ false → (after p s (Do 0 b)).state ≡ reached p s done supported b
 after_boots p s done supported b stage mode = rw (mode, stage) refl
 
-outside_agreed : (p : Platform) (u : State) (g : Stage) → IsOutside p u → IsOutside p (record (with_agreed u) { stage = g })
-outside_agreed p u g h = record { outside = h.outside; based = h.based; first = h.first; recorded = h.recorded }
+outside_agreed : (p : Platform) (u : State) (g : Stage) (d : Bool) → IsOutside p u → IsOutside p (record (with_agreed u) { stage = g; disturbed = d })
+outside_agreed p u g d h = record {
+  outside = h.outside;
+  based = h.based;
+  possible = h.possible;
+  slotted = h.slotted;
+  first = h.first;
+  recorded = h.recorded;
+  begun = ap (with_features (unwrap_or u.fw_cfg.negotiated 0)) h.begun;
+}
 
-booting_agreed : (p : Platform) (n : ℕ) (u : State) (g : Stage) → Booting p n u → Booting p n (record (with_agreed u) { stage = g })
-booting_agreed p n u g h = record {
-  cpus = outside_agreed p u g h.cpus;
+booting_agreed : (p : Platform) (n : ℕ) (u : State) (g : Stage) (d : Bool) → Booting p n u → Booting p n (record (with_agreed u) { stage = g; disturbed = d })
+booting_agreed p n u g d h = record {
+  cpus = outside_agreed p u g d h.cpus;
   low_memory = h.low_memory;
   f_smbase = h.f_smbase;
   smram = h.smram;
   esmramc = h.esmramc;
+  ext_tseg = h.ext_tseg;
   memory = h.memory;
   kept = h.kept;
 }
 
-handed_over : (p : Platform) (u : State) (requested : ℕ) → Sound p → Booting p 27 u → IsSealed p (record (with_agreed u) { stage = Handed requested })
-handed_over p u requested fit h = record {
+handed_over : (p : Platform) (u : State) (requested : ℕ) (d : Bool) → Sound p → Booting p (27 + ext_count p.tseg_mib) u → IsSealed p (record (with_agreed u) { stage = Handed requested; disturbed = d })
+handed_over p u requested d fit h = record {
   stage = refl;
-  locks = locked_by p 27 u (omega arith) h;
+  locks = locked_by p (27 + ext_count p.tseg_mib) u (omega arith) h;
   holds = holds_sealed p u.writes fit (h.kept (omega arith));
-  cpus = outside_agreed p u (Handed requested) h.cpus;
+  cpus = outside_agreed p u (Handed requested) d h.cpus;
 }
 
-last_of : (n : ℕ) → (n == 26) ≡ true → n + 1 ≡ 27
-last_of n e = grind (arith, nat_tests)
+last_of : (more n : ℕ) → (n == 26 + more) ≡ true → n + 1 ≡ 27 + more
+last_of more n e = grind (arith, nat_tests)
 
-more_of : (n : ℕ) → (n == 26) ≡ false → n < 27 → n + 1 < 27
-more_of n e less = grind (arith, nat_tests)
+more_of : (more n : ℕ) → (n == 26 + more) ≡ false → n < 27 + more → n + 1 < 27 + more
+more_of more n e less = grind (arith, nat_tests)
 
 -- where an access leads, by what it is refused for
-staged : (p : Platform) (n v : ℕ) (b : Access) (s : State) → Sound p → n < 27 → Booting p n s → Passes p n b → (o : Option BootFact) → boot_refusal n (value_in (answer_to false b s)) ≡ o → IsBooted p (record (with_agreed (access_effect p 0 false b s)) { stage = stage_by o n v (value_in (answer_to false b s)) })
-staged p n v b s fit less h pass (Some fact) is =
-    inr (inl (record { fact = fact; stage = refl; cpus = outside_agreed p (access_effect p 0 false b s) (Refused fact) (outside_acts p s (access_effect p 0 false b s) (acts p 0 false b s) h.cpus) }))
-staged p n v b s fit less h pass None is =
+staged : (p : Platform) (n v : ℕ) (b : Access) (s : State) (d : Bool) → Sound p → n < 27 + ext_count p.tseg_mib → Booting p n s → Passes p n b → (o : Option BootFact) → boot_refusal p.tseg_mib n (value_in (answer_to false b s)) ≡ o → IsBooted p (record (with_agreed (access_effect p 0 false b s)) { stage = stage_by p.tseg_mib o n v (value_in (answer_to false b s)); disturbed = d })
+staged p n v b s d fit less h pass (Some fact) is =
+    inr (inl (record { fact = fact; stage = refl; cpus = outside_agreed p (access_effect p 0 false b s) (Refused fact) d (outside_acts p s (access_effect p 0 false b s) (acts p 0 false b s) h.cpus) }))
+staged p n v b s d fit less h pass None is =
     let u = access_effect p 0 false b s in
     let next : Booting p (n + 1) u = pass.on s h is in
     let read = value_in (answer_to false b s) in
-    pick_by (λ g. IsBooted p (record (with_agreed u) { stage = g })) (n == 26) (Handed (v % 8)) (Boots (n + 1) (if n == 20 then read else v))
-    (λ e. inr (inr (handed_over p u (v % 8) fit (subst (λ i. Booting p i u) (last_of n e) next))))
-    (λ e. inl (record { done = n + 1; supported = if n == 20 then read else v; stage = refl; going = more_of n e less; holds = booting_agreed p (n + 1) u (Boots (n + 1) (if n == 20 then read else v)) next }))
+    pick_by (λ g. IsBooted p (record (with_agreed u) { stage = g; disturbed = d })) (n == 26 + ext_count p.tseg_mib) (Handed (v % 8)) (Boots (n + 1) (if n == 20 + ext_count p.tseg_mib then read else v))
+    (λ e. inr (inr (handed_over p u (v % 8) d fit (subst (λ i. Booting p i u) (last_of (ext_count p.tseg_mib) n e) next))))
+    (λ e. inl (record { done = n + 1; supported = if n == 20 + ext_count p.tseg_mib then read else v; stage = refl; going = more_of (ext_count p.tseg_mib) n e less; holds = booting_agreed p (n + 1) u (Boots (n + 1) (if n == 20 + ext_count p.tseg_mib then read else v)) d next }))
 
 -- the boot's access, and the state that it leads to
 record BootStep (p : Platform) (s : State) (t : State) : Type 0 where
   done : ℕ
   supported : ℕ
-  going : done < 27
+  going : done < 27 + ext_count p.tseg_mib
   holds : Booting p done s
   is : reached p s done supported (boot_access p.tseg_mib supported done) ≡ t
 
@@ -146,9 +157,16 @@ boot_goes p s e t fit h is =
     let b = boot_step p s e t h is in
     let access = boot_access p.tseg_mib b.supported b.done in
     let leaves = boot_leaves p s e t h is in (
-      subst (IsBooted p) b.is (staged p b.done b.supported access s fit b.going b.holds (passes p fit b.supported b.done b.going) (boot_refusal b.done (value_in (answer_to false access s))) refl),
+      subst (IsBooted p) b.is (staged p b.done b.supported access s (is_disturbed_by s (Do 0 access)) fit b.going b.holds (passes p fit b.supported b.done b.going) (boot_refusal p.tseg_mib b.done (value_in (answer_to false access s))) refl),
       record { left = λ x k l. leaves.left x l; locked = λ x k l. leaves.locked x l },
     )
+
+-- and each processor stays as it was, or is gone
+pub boot_calm : (p : Platform) (s : State) (e : Event) (t : After) → IsBooting p s → step p s e ≡ Some t → (k : ℕ) → Calm (at s k) (at t.state k)
+boot_calm p s e t h is k =
+    let b = boot_step p s e t h is in
+    let access = boot_access p.tseg_mib b.supported b.done in
+    subst (λ (u : State). Calm (at s k) (at u k)) b.is ((acts p 0 false access s).cpus k)
 
 -- a refused boot has no step
 pub refused_goes : (p : Platform) (s : State) (e : Event) (t : After) → IsRefused p s → step p s e ≡ Some t → ⊥

@@ -6,11 +6,12 @@ use Rattle.hp_model.specs.declared.platforms.Platform.{Platform}
 use Rattle.hp_model.specs.declared.accesses.Answer.{Answer}
 use Rattle.hp_model.specs.declared.entries.Event.{Event}
 use Rattle.hp_model.specs.declared.entries.Entry.{Entry}
+use Rattle.hp_model.specs.Memory.{touched}
 use Rattle.hp_model.specs.Platform.{IsFit}
 use Rattle.hp_model.specs.Boot.{Stage, Boots, Refused, Handed, is_handed, stage_after}
 use Rattle.hp_model.specs.Step.{State, After, answer_of, step, start}
 use Rattle.hp_model.specs.Runs.{run_on, run_from, run}
-use Rattle.hp_model.specs.Safety.{touched, IsUntouched}
+use Rattle.hp_model.specs.Safety.{IsUntouched}
 use Rattle.hp_sealed.specs.Left.{Sound, LeavesLocked}
 use Rattle.hp_sealed.specs.Sealed.{IsOutside, IsSealed}
 use Rattle.hp_sealed.specs.Booting.{IsBooting, IsRefused}
@@ -33,16 +34,16 @@ before_outside p s (inl h) = h.holds.cpus
 before_outside p s (inr h) = h.cpus
 
 -- what is handed over stays so
-stage_stays : (a : Answer) (g : Stage) → is_handed g ≡ true → is_handed (stage_after a g) ≡ true
-stage_stays a (Boots done supported) h = absurd cc
-stage_stays a (Refused fact) h = absurd cc
-stage_stays a (Handed requested) h = refl
+stage_stays : (mib : ℕ) (a : Answer) (g : Stage) → is_handed g ≡ true → is_handed (stage_after mib a g) ≡ true
+stage_stays mib a (Boots done supported) h = absurd cc
+stage_stays mib a (Refused fact) h = absurd cc
+stage_stays mib a (Handed requested) h = refl
 
 handed_stays : (p : Platform) (s t : State) (e : Entry) → is_handed s.stage ≡ true → run_on p s e ≡ Some t → is_handed t.stage ≡ true
 handed_stays p s t e h is =
     let m = made p s e t is in
     let w = stepped p s e.event m.after m.step in
-    subst (λ (u : State). is_handed u.stage ≡ true) (ap (λ (a : After). a.state) w.is ∙ m.state) (stage_stays (answer_of s e.event) s.stage h)
+    subst (λ (u : State). is_handed u.stage ≡ true) (ap (λ (a : After). a.state) w.is ∙ m.state) (stage_stays p.tseg_mib (answer_of s e.event) s.stage h)
 
 run_handed : (p : Platform) (s t : State) (es : List Entry) → is_handed s.stage ≡ true → run_from p s es ≡ Some t → is_handed t.stage ≡ true
 unfolding run_from

@@ -5,7 +5,7 @@ use Rattle.std.proofs.lemmas.Bool.{and_parts, eqb-true, cases_eq, cases_order}
 use Rattle.std.proofs.lemmas.Bool.Decides.{nat_tests}
 use Rattle.hp_model.specs.declared.platforms.Platform.{Platform}
 use Rattle.hp_model.specs.declared.labels.Label.{Label}
-use Rattle.hp_model.specs.declared.labels.Label.TheVariants.{F1, F2, F3, F4, F5, F6, R1, R2, R3, R4, R5, R6, S0, S1, S2, S3, S4, C1, C2, C3, C4, C5, C6, NB, N0, N1, N2, N3, N4, N5, N6, N7, N8a, N8b, N9, N10, N11, E0, E1, E2, E3, E4a, E4b, E4c, E4d, E4e, T, E5, E6, E7}
+use Rattle.hp_model.specs.declared.labels.Label.TheVariants.{F1, F2, F3, F4, F5, F6, R1, R2, R3, R4, R5, R6, S0, S1, S2, S3, S4, C1, C2, C3, C4, C5, C6, NB, N0, N1, N2, N3, N4, N5, N6, N7, N8a, N8b, N9, N10, N11, E0, E1, E2, E3, E4a, E4b, E4c, E4d, E4e, E4f, E4g, E4h, T, E5, E6, E7}
 use Rattle.hp_model.specs.Platform.{tseg, tile, count_of}
 use Rattle.hp_model.specs.Memory.{Write, byte_at, bytes_of, value_from, write_of}
 use Rattle.hp_model.specs.Labels.{Part, First, Relocated, Monarch, part_of, index_of, mark_of, first_cell, cell_of}
@@ -105,14 +105,14 @@ tiles_hold p (suc n) k ws l side some most = elim (cases_eq k (suc n)) [
       ∙ tiles_hold p n k ws l side some (omega (arith, o, most))
 ]
 
-releases_leave : (p : Platform) (n b : ℕ) (ws : List Write) → n ≤ 64 → tseg p + 0x20000 ≤ b → value_from (byte_at (with_releases p n ws)) b 4 ≡ value_from (byte_at ws) b 4
+releases_leave : (p : Platform) (n b : ℕ) (ws : List Write) → n ≤ 512 → tseg p + 0x20000 ≤ b → value_from (byte_at (with_releases p n ws)) b 4 ≡ value_from (byte_at ws) b 4
 unfolding with_releases
 releases_leave p zero b ws small low = refl
 releases_leave p (suc n) b ws small low =
     value_apart (release_byte (layout_of p) (suc n)) b 1 1 (with_releases p n ws) (inl (below (tseg p) n b small low))
     ∙ releases_leave p n b ws (omega (arith, small)) low
   where
-    below : (base n b : ℕ) → suc n ≤ 64 → base + 0x20000 ≤ b → base + 0x1000 + suc n + 1 ≤ b
+    below : (base n b : ℕ) → suc n ≤ 512 → base + 0x20000 ≤ b → base + 0x1000 + suc n + 1 ≤ b
     below base n b small low = omega (arith, small, low)
 
 -- the image's cells
@@ -198,6 +198,9 @@ first_cells p E4b e = absurd cc
 first_cells p E4c e = absurd cc
 first_cells p E4d e = absurd cc
 first_cells p E4e e = absurd cc
+first_cells p E4f e = absurd cc
+first_cells p E4g e = absurd cc
+first_cells p E4h e = absurd cc
 first_cells p T e = absurd cc
 first_cells p E5 e = absurd cc
 first_cells p E6 e = absurd cc

@@ -3,7 +3,7 @@ use Rattle.std.proofs.Common.{ℕ, ◌≡◌, ◌+◌, ◌<◌, ◌≤◌, ◌==
 use Rattle.std.specs.List.{list_any}
 use Rattle.std.proofs.lemmas.Option.{same_Some}
 use Rattle.hp_model.specs.declared.labels.Label.{Label}
-use Rattle.hp_model.specs.declared.labels.Label.TheVariants.{F1, F2, F3, F4, F5, F6, R1, R2, R3, R4, R5, R6, S0, S1, S2, S3, S4, C1, C2, C3, C4, C5, C6, NB, N0, N1, N2, N3, N4, N5, N6, N7, N8a, N8b, N9, N10, N11, E0, E1, E2, E3, E4a, E4b, E4c, E4d, E4e, T, E5, E6, E7}
+use Rattle.hp_model.specs.declared.labels.Label.TheVariants.{F1, F2, F3, F4, F5, F6, R1, R2, R3, R4, R5, R6, S0, S1, S2, S3, S4, C1, C2, C3, C4, C5, C6, NB, N0, N1, N2, N3, N4, N5, N6, N7, N8a, N8b, N9, N10, N11, E0, E1, E2, E3, E4a, E4b, E4c, E4d, E4e, E4f, E4g, E4h, T, E5, E6, E7}
 use Rattle.hp_model.specs.Labels.{Part, First, Relocated, Monarch, part_of, index_of, first_mark, mark_of, label_with}
 use Rattle.hp_model.specs.Image.{relocated_labels, monarch_labels}
 
@@ -56,6 +56,9 @@ label_with-mark E4b = refl
 label_with-mark E4c = refl
 label_with-mark E4d = refl
 label_with-mark E4e = refl
+label_with-mark E4f = refl
+label_with-mark E4g = refl
+label_with-mark E4h = refl
 label_with-mark T = refl
 label_with-mark E5 = refl
 label_with-mark E6 = refl
@@ -64,8 +67,8 @@ label_with-mark E7 = refl
 pub same_label : (l m : Label) → mark_of l ≡ mark_of m → l ≡ m
 same_label l m e = same_Some l m (sym (label_with-mark l) ∙ (ap label_with e ∙ label_with-mark m))
 
--- a handler has at most 38 labels, the first one 6
-pub index_small : (l : Label) → index_of l ≤ 37
+-- a handler has at most 41 labels, the first one 6
+pub index_small : (l : Label) → index_of l ≤ 40
 index_small F1 = omega arith
 index_small F2 = omega arith
 index_small F3 = omega arith
@@ -112,6 +115,9 @@ index_small E4b = omega arith
 index_small E4c = omega arith
 index_small E4d = omega arith
 index_small E4e = omega arith
+index_small E4f = omega arith
+index_small E4g = omega arith
+index_small E4h = omega arith
 index_small T = omega arith
 index_small E5 = omega arith
 index_small E6 = omega arith
@@ -164,6 +170,9 @@ index_first E4b e = absurd cc
 index_first E4c e = absurd cc
 index_first E4d e = absurd cc
 index_first E4e e = absurd cc
+index_first E4f e = absurd cc
+index_first E4g e = absurd cc
+index_first E4h e = absurd cc
 index_first T e = absurd cc
 index_first E5 e = absurd cc
 index_first E6 e = absurd cc
@@ -172,7 +181,7 @@ index_first E7 e = absurd cc
 pub mark_small : (l : Label) → mark_of l < 0x100000000
 mark_small l = by_part (part_of l) (index_of l) (index_small l)
   where
-    by_part : (q : Part) (i : ℕ) → i ≤ 37 → first_mark q + i < 0x100000000
+    by_part : (q : Part) (i : ℕ) → i ≤ 40 → first_mark q + i < 0x100000000
     by_part First i h = omega (arith, h)
     by_part Relocated i h = omega (arith, h)
     by_part Monarch i h = omega (arith, h)
@@ -225,6 +234,9 @@ among_relocated E4b e = absurd cc
 among_relocated E4c e = absurd cc
 among_relocated E4d e = absurd cc
 among_relocated E4e e = absurd cc
+among_relocated E4f e = absurd cc
+among_relocated E4g e = absurd cc
+among_relocated E4h e = absurd cc
 among_relocated T e = absurd cc
 among_relocated E5 e = absurd cc
 among_relocated E6 e = absurd cc
@@ -277,6 +289,9 @@ among_monarch E4b e = refl
 among_monarch E4c e = refl
 among_monarch E4d e = refl
 among_monarch E4e e = refl
+among_monarch E4f e = refl
+among_monarch E4g e = refl
+among_monarch E4h e = refl
 among_monarch T e = refl
 among_monarch E5 e = refl
 among_monarch E6 e = refl

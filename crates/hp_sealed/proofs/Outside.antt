@@ -5,13 +5,14 @@ use Rattle.hp_model.specs.declared.platforms.Platform.{Platform}
 use Rattle.hp_model.specs.declared.processors.Cpu.{Cpu}
 use Rattle.hp_model.specs.declared.accesses.Access.{Access}
 use Rattle.hp_model.specs.declared.accesses.Access.TheVariants.{Load, Store, Swap, In, Out, CfgRead, CfgWrite, Icr, Halt, Nop}
-use Rattle.hp_model.specs.View.{Locks, f_smbase_written, is_fixed, lock_write, is_in_default, is_in_tseg, is_locked}
+use Rattle.hp_model.specs.Platform.{apic_of}
+use Rattle.hp_model.specs.View.{Locks, f_smbase_written, ext_tseg_written, is_fixed, lock_write, is_in_default, is_in_tseg, is_locked}
 use Rattle.hp_model.specs.Cpu.{absent, halt, cpu_at}
 use Rattle.hp_model.specs.Block.{block_write, ejected_by}
 use Rattle.hp_model.specs.Interrupts.{decoded, smi_raised}
 use Rattle.hp_model.specs.Ich9.{raises_smi}
 use Rattle.hp_model.specs.FwCfg.{selected, advanced, with_high, dma_address, without_high, has_broadcast}
-use Rattle.hp_model.specs.Step.{State, at, apic_of, without_ejected, write_block, is_on_block, is_fw_cfg_data, is_fw_cfg_selector, is_dma_high, is_dma_low, start_transfer, write_ich9, write_port, access_effect}
+use Rattle.hp_model.specs.Step.{State, at, without_ejected, write_block, is_on_block, is_fw_cfg_data, is_fw_cfg_selector, is_dma_high, is_dma_low, start_transfer, write_ich9, write_port, access_effect}
 use Rattle.hp_sealed.specs.Left.{IsLeft, Locked}
 use Rattle.hp_sealed.proofs.Left.{pick, pick_by, left_same, left_outside, left_swap, left_transfer}
 use Rattle.hp_sealed.proofs.Stay.{Stays, stays_same, stays_sent, stays_halt, stays_raised, stays_set, at_set}
@@ -94,7 +95,7 @@ fixed_by l e = rw e refl
 pub locked_write : (p : Platform) (l : Locks) (reg value : ℕ) → Locked p l → Locked p (lock_write l reg value)
 locked_write p l reg value h =
     pick (Locked p) (reg == 0x9c) (record l { f_smbase = f_smbase_written l.has_default l.f_smbase value }) _
-    (record { f_smbase = two_stays l.has_default l.f_smbase value h.f_smbase; smram = h.smram; esmramc = h.esmramc; low_memory = h.low_memory })
+    (record { f_smbase = two_stays l.has_default l.f_smbase value h.f_smbase; smram = h.smram; esmramc = h.esmramc; low_memory = h.low_memory; ext_tseg = h.ext_tseg })
     (pick_by (Locked p) (is_fixed l) l _ (λ e. h) (λ e. absurd (let f = fixed_by l h.smram in cc)))
 
 -- a locked byte stays locked
@@ -125,14 +126,16 @@ locked_stays l reg value x e =
     (pick_by (λ a. is_locked a x ≡ true) (is_fixed l) l _ (λ f. e)
     (λ f. let first = λ (u : Bool). either_first (is_in_default l x) (is_in_tseg l x) u e (no_tseg l x f) in
     pick (λ a. is_locked a x ≡ true) (reg == 0x9d) (record l { smram = bit_and value 0x18 }) _ (first _)
-    (pick (λ a. is_locked a x ≡ true) (reg == 0x9e) (record l { esmramc = bit_and value 7 }) l (first _) e)))
+    (pick (λ a. is_locked a x ≡ true) (reg == 0x9e) (record l { esmramc = bit_and value 7 }) _ (first _)
+    (pick (λ a. is_locked a x ≡ true) (reg == 0x50) (record l { ext_tseg = ext_tseg_written l value }) l (first _) e))))
 
 same_low : (l : Locks) (reg value : ℕ) → (lock_write l reg value).low_memory ≡ l.low_memory
 same_low l reg value =
     pick (λ a. a.low_memory ≡ l.low_memory) (reg == 0x9c) (record l { f_smbase = f_smbase_written l.has_default l.f_smbase value }) _ refl
     (pick (λ a. a.low_memory ≡ l.low_memory) (is_fixed l) l _ refl
     (pick (λ a. a.low_memory ≡ l.low_memory) (reg == 0x9d) (record l { smram = bit_and value 0x18 }) _ refl
-    (pick (λ a. a.low_memory ≡ l.low_memory) (reg == 0x9e) (record l { esmramc = bit_and value 7 }) l refl refl)))
+    (pick (λ a. a.low_memory ≡ l.low_memory) (reg == 0x9e) (record l { esmramc = bit_and value 7 }) _ refl
+    (pick (λ a. a.low_memory ≡ l.low_memory) (reg == 0x50) (record l { ext_tseg = ext_tseg_written l value }) l refl refl))))
 
 pub acts : (p : Platform) (k : ℕ) (b : Bool) (a : Access) (s : State) → Acts p s (access_effect p k b a s)
 acts p k b (Load addr width) s = same p s s refl refl refl refl
@@ -142,7 +145,7 @@ acts p k b (In port width) s = pick (Acts p s) (is_fw_cfg_data port width) (reco
 acts p k b (Out port width value) s = acts_port p k port width value s
 acts p k b (CfgRead reg) s = same p s s refl refl refl refl
 acts p k b (CfgWrite reg value) s = record { cpus = λ j. inl (stays_same (at s j)); first = stays_same (at s 0); locks = λ h. locked_write p s.locks reg value h; bytes = λ x e. locked_stays s.locks reg value x e; low_memory = same_low s.locks reg value; monarch = refl; stage = refl }
-acts p k b (Icr high low) s = of_cpus p s _ refl refl refl (λ j. stays_sent (decoded high low) (apic_of p k) p.apic s.cpus j)
+acts p k b (Icr high low) s = of_cpus p s _ refl refl refl (λ j. stays_sent (decoded p.x2apic high low) (apic_of p k) p.apic s.cpus j)
 acts p k b Halt s = of_cpus p s _ refl refl refl (λ j. stays_set s.cpus k (halt (at s k)) (stays_halt (at s k)) j)
 acts p k b Nop s = same p s s refl refl refl refl
 

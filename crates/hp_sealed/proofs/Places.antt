@@ -15,13 +15,14 @@ use Rattle.hp_sealed.specs.Sealed.{is_other_tile, is_based}
 use Rattle.hp_sealed.specs.Booting.{is_set_up}
 use Rattle.hp_sealed.proofs.Labels.{index_small, index_first}
 
-from_size : (p : Platform) → Sound p → p.low_memory - tseg_size (tseg_enabled p.tseg_mib) * 0x100000 ≡ tseg p
-from_size p sound = by_size sound.size
+from_size : (p : Platform) (ext : ℕ) → Sound p → (p.tseg_mib ≡ 48 → ext ≡ 0x30) → p.low_memory - tseg_size ext (tseg_enabled p.tseg_mib) * 0x100000 ≡ tseg p
+from_size p ext sound asked = by_size sound.size
   where
-    by_size : (p.tseg_mib ≡ 1) ⊎ ((p.tseg_mib ≡ 2) ⊎ (p.tseg_mib ≡ 8)) → p.low_memory - tseg_size (tseg_enabled p.tseg_mib) * 0x100000 ≡ p.low_memory - p.tseg_mib * 0x100000
+    by_size : (p.tseg_mib ≡ 1) ⊎ ((p.tseg_mib ≡ 2) ⊎ ((p.tseg_mib ≡ 8) ⊎ (p.tseg_mib ≡ 48))) → p.low_memory - tseg_size ext (tseg_enabled p.tseg_mib) * 0x100000 ≡ p.low_memory - p.tseg_mib * 0x100000
     by_size (inl e) = rw e refl
     by_size (inr (inl e)) = rw e refl
-    by_size (inr (inr e)) = rw e refl
+    by_size (inr (inr (inl e))) = rw e refl
+    by_size (inr (inr (inr e))) = rw (e, asked e) refl
 
 -- once all is locked, so is the default area
 pub default_locked : (p : Platform) (l : Locks) (x : ℕ) → Locked p l → (nat_le 0x30000 x && nat_lt x 0x50000) ≡ true → is_locked l x ≡ true
@@ -32,7 +33,15 @@ locks_plain : (base top x : ℕ) → guarded_by base top x ≡ true → ((nat_le
 locks_plain base top x g = grind (arith, nat_tests)
 
 pub guarded_locked : (p : Platform) (l : Locks) (x : ℕ) → Sound p → Locked p l → is_guarded p x ≡ true → is_locked l x ≡ true
-guarded_locked p l x sound h g = rw (h.f_smbase, h.smram, h.esmramc, h.low_memory, from_size p sound) (locks_plain (tseg p) p.low_memory x g)
+guarded_locked p l x sound h g = rw (h.f_smbase, h.smram, h.esmramc, h.low_memory, from_size p l.ext_tseg sound h.ext_tseg) (locks_plain (tseg p) p.low_memory x g)
+
+-- all of TSEG is locked
+pub tseg_locked : (p : Platform) (l : Locks) (x : ℕ) → Sound p → Locked p l → (nat_le (tseg p) x && nat_lt x p.low_memory) ≡ true → is_locked l x ≡ true
+tseg_locked p l x sound h g = rw (h.f_smbase, h.smram, h.esmramc, h.low_memory, from_size p l.ext_tseg sound h.ext_tseg, g) (more (nat_le 0x30000 x && nat_lt x 0x50000))
+  where
+    more : (a : Bool) → (a || true) ≡ true
+    more true = refl
+    more false = refl
 
 pub kept_guarded : (p : Platform) (x : ℕ) → is_kept p x ≡ true → is_guarded p x ≡ true
 kept_guarded p x e = (and_parts (is_guarded p x) (nat_lt (x % 0x10000) 0xfefc) e).0

@@ -4,6 +4,8 @@ use Rattle.std.proofs.lemmas.Bool.Decides.{nat_tests}
 use Rattle.std.proofs.lemmas.List.{append_assoc, append-nil}
 use Rattle.std.proofs.lemmas.Option.{same_Some}
 use Rattle.hp_model.specs.declared.platforms.Platform.{Platform}
+use Rattle.hp_model.specs.declared.accesses.Answer.{Answer}
+use Rattle.hp_model.specs.declared.accesses.Answer.TheVariants.{Quiet, Value}
 use Rattle.hp_model.specs.declared.entries.Entry.{Entry}
 use Rattle.hp_model.specs.Step.{State, After, start, step}
 use Rattle.hp_model.specs.Runs.{same_answer, same_address, address_of, accept, run_on, run_from, run}
@@ -14,6 +16,7 @@ pub record Made (p : Platform) (s : State) (e : Entry) (t : State) : Type 0 wher
   pub step : step p s e.event ≡ Some after
   pub state : after.state ≡ t
   pub place : address_of s e.event ≡ e.at
+  pub answer : after.answer ≡ e.answer
 
 same_places : (a b : Option ℕ) → same_address a b ≡ true → a ≡ b
 same_places None None e = refl
@@ -21,12 +24,18 @@ same_places None (Some y) e = absurd cc
 same_places (Some x) None e = absurd cc
 same_places (Some x) (Some y) e = let i : x ≡ y = grind (arith, nat_tests) in ap Some i
 
+same_answers : (a b : Answer) → same_answer a b ≡ true → a ≡ b
+same_answers Quiet Quiet e = refl
+same_answers Quiet (Value v) e = absurd cc
+same_answers (Value v) Quiet e = absurd cc
+same_answers (Value v) (Value w) e = let i : v ≡ w = grind (arith, nat_tests) in ap Value i
+
 pub made : (p : Platform) (s : State) (e : Entry) (t : State) → run_on p s e ≡ Some t → Made p s e t
 unfolding run_on
 made p s e t is = on (step p s e.event) refl is
   where
-    parts : (a b : Bool) (x : State) → cond (a && b) (Some x) None ≡ Some t → (b ≡ true) × (x ≡ t)
-    parts true true x e = (refl, same_Some x t e)
+    parts : (a b : Bool) (x : State) → cond (a && b) (Some x) None ≡ Some t → (a ≡ true) × (b ≡ true) × (x ≡ t)
+    parts true true x e = (refl, refl, same_Some x t e)
     parts true false x e = absurd cc
     parts false b x e = absurd cc
 
@@ -34,7 +43,7 @@ made p s e t is = on (step p s e.event) refl is
     on None is f = absurd cc
     on (Some a) is f =
         let g = parts (same_answer a.answer e.answer) (same_address (address_of s e.event) e.at) a.state f in
-        record { after = a; step = is; state = g.1; place = same_places (address_of s e.event) e.at g.0 }
+        record { after = a; step = is; state = g.2; place = same_places (address_of s e.event) e.at g.1; answer = same_answers a.answer e.answer g.0 }
 
 -- a run of one entry more
 pub run_more : (p : Platform) (s t u : State) (es : List Entry) (e : Entry) → run_from p s es ≡ Some t → run_on p t e ≡ Some u → run_from p s (es ++ e ∷ []) ≡ Some u

@@ -45,6 +45,21 @@ little_four v h = omega arith
 pub value_written : (a v : ℕ) (ws : List Write) → v < 0x100000000 → value_from (byte_at (write_of a 4 v ∷ ws)) a 4 ≡ v
 value_written a v ws h = value_is 4 a (write_of a 4 v ∷ ws) (bytes_of 4 v) (length-bytes_of 4 v) (byte_written a 4 v ws) ∙ little_four v h
 
+little_eight : (v : ℕ) → v < 0x10000000000000000 → little_value (bytes_of 8 v) ≡ v
+unfolding little_value bytes_of
+little_eight v h = omega arith
+
+little_one : (v : ℕ) → v < 0x100 → little_value (bytes_of 1 v) ≡ v
+unfolding little_value bytes_of
+little_one v h = omega arith
+
+-- likewise of 8 bytes, and of one
+pub value_eight : (a v : ℕ) (ws : List Write) → v < 0x10000000000000000 → value_from (byte_at (write_of a 8 v ∷ ws)) a 8 ≡ v
+value_eight a v ws h = value_is 8 a (write_of a 8 v ∷ ws) (bytes_of 8 v) (length-bytes_of 8 v) (byte_written a 8 v ws) ∙ little_eight v h
+
+pub value_one : (a v : ℕ) (ws : List Write) → v < 0x100 → value_from (byte_at (write_of a 1 v ∷ ws)) a 1 ≡ v
+value_one a v ws h = value_is 1 a (write_of a 1 v ∷ ws) (bytes_of 1 v) (length-bytes_of 1 v) (byte_written a 1 v ws) ∙ little_one v h
+
 -- and another value
 pub value_apart : (a b w v : ℕ) (ws : List Write) → (a + w ≤ b) ⊎ (b + 4 ≤ a) → value_from (byte_at (write_of a w v ∷ ws)) b 4 ≡ value_from (byte_at ws) b 4
 value_apart a b w v ws h = value_left 4 b ws (write_of a w v ∷ ws) (λ i small. left_more (b + i) (write_of a w v) ws (let e = length-bytes_of w v in rw e (misses a b w i h small)))

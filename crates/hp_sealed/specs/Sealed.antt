@@ -1,19 +1,19 @@
 -- Sealed SMRAM: what holds in the state in which the boot sequence hands the machine over.
-use Rattle.std.specs.Prelude.{ℕ, ◌≡◌, Bool, true, not, ◌&&◌, ◌||◌, ◌==◌, ◌≤◌, List, length, None, slice_get, if◌then◌else◌}
+use Rattle.std.specs.Prelude.{ℕ, ◌≡◌, Bool, true, not, ◌&&◌, ◌||◌, ◌==◌, ◌<◌, ◌≤◌, ◌⊎◌, List, length, None, slice_get, if◌then◌else◌}
 use Rattle.std.specs.List.{list_all}
 use Rattle.hp_model.specs.declared.platforms.Platform.{Platform}
 use Rattle.hp_model.specs.declared.labels.Label.{Label}
-use Rattle.hp_model.specs.Platform.{tile, all_distinct}
+use Rattle.hp_model.specs.Platform.{tile, count_of, all_distinct, apic_of}
 use Rattle.hp_model.specs.Memory.{Write, byte_at, value_from}
 use Rattle.hp_model.specs.Cpu.{smm_address}
 use Rattle.hp_model.specs.Block.{is_in}
 use Rattle.hp_model.specs.Labels.{part_of, mark_of}
 use Rattle.hp_model.specs.SharedBytes.{Layout, layout_of, gate, closed}
-use Rattle.hp_model.specs.Slots.{Slots}
-use Rattle.hp_model.specs.Monarch.{Monarch, is_that}
+use Rattle.hp_model.specs.Slots.{Slots, boot_ids, place_of}
+use Rattle.hp_model.specs.Monarch.{Monarch, monarch_start, with_features, is_that}
 use Rattle.hp_model.specs.Handlers.{slot_at, is_tile, runs_at, address_of_label}
 use Rattle.hp_model.specs.Boot.{is_handed}
-use Rattle.hp_model.specs.Step.{State, at, apic_of}
+use Rattle.hp_model.specs.Step.{State, at}
 use Rattle.hp_sealed.specs.Left.{Locked}
 
 -- the tile of a possible slot other than slot 0
@@ -33,14 +33,21 @@ pub record Placed (p : Platform) (s : Slots) : Type 0 where
 
 -- the monarch's record has such slots, and looks at one of the first
 abbrev pub Recorded : Platform → Monarch → Type 0
-Recorded p r = (r.slot ≤ 64) × Placed p r.slots
+Recorded p r = (r.slot ≤ 512) × Placed p r.slots
 
--- no processor is in SMM, each is based where it may be, and processor 0 is present
+-- an SMBASE that a processor of this APIC ID may have where these are bound: the default one, or the tile of its place among them
+abbrev pub IsAtSlot : Platform → List ℕ → ℕ → ℕ → Type 0
+IsAtSlot p bound apic smbase = (smbase ≡ 0x30000) ⊎ ((is_in apic bound ≡ true) × (smbase ≡ tile p (place_of bound apic)))
+
+-- no processor is in SMM, each is based where it may be, a boot processor in the tile of its slot, processor 0 is present, and the monarch's record is as at the start
 pub record IsOutside (p : Platform) (s : State) : Type 0 where
   pub outside : (k : ℕ) → smm_address (at s k) ≡ None
   pub based : (k : ℕ) → (at s k).present ≡ true → is_based p k (at s k).smbase ≡ true
+  pub possible : (k : ℕ) → (at s k).present ≡ true → k < count_of p
+  pub slotted : (k : ℕ) → (at s k).present ≡ true → IsAtSlot p (boot_ids p) (apic_of p k) (at s k).smbase
   pub first : (at s 0).present ≡ true
   pub recorded : Recorded p s.monarch
+  pub begun : s.monarch ≡ with_features s.monarch.features (monarch_start p)
 
 -- wherever a handler runs, each of its cells holds its label's mark, and the gate is closed
 pub record Holds (p : Platform) (ws : List Write) : Type 0 where
