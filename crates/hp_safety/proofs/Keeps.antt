@@ -1,32 +1,38 @@
 -- What one processor keeps of the invariant, and which row it has.
-use Rattle.std.proofs.Common.{ℕ, zero, suc, ◌≡◌, ◌≢◌, ◌+◌, ◌*◌, ◌≤◌, ◌==◌, ◌⊎◌, inl, inr, Bool, true, false, cond, ◌||◌, List, Option, Some, None, option_map, option_and_then, refl, sym, ap, subst, ◌∙◌, arith}
+use Rattle.std.proofs.Common.{ℕ, zero, suc, ◌≡◌, ◌≢◌, ◌+◌, ◌*◌, ◌<◌, ◌≤◌, ◌==◌, ◌⊎◌, inl, inr, Bool, true, false, cond, List, Option, Some, None, option_map, option_and_then, refl, sym, ap, subst, ◌∙◌, arith}
 use Rattle.std.proofs.lemmas.Bool.{and_parts, eqb-true}
+use Rattle.std.proofs.lemmas.Bool.Decides.{nat_tests}
 use Rattle.std.proofs.lemmas.Option.{same_Some}
 use Rattle.hp_model.specs.declared.platforms.Platform.{Platform}
 use Rattle.hp_model.specs.declared.processors.Cpu.{Cpu}
 use Rattle.hp_model.specs.declared.labels.Label.{Label}
-use Rattle.hp_model.specs.Platform.{tseg, tile, count_of}
+use Rattle.hp_model.specs.Platform.{tseg, tile, count_of, apic_of}
 use Rattle.hp_model.specs.Memory.{Write, byte_at, value_from}
 use Rattle.hp_model.specs.View.{Locks, is_hole, loaded}
-use Rattle.hp_model.specs.Cpu.{absent, address_in, smm_address, cpu_at}
-use Rattle.hp_model.specs.Boot.{is_handed}
+use Rattle.hp_model.specs.Cpu.{absent, address_in, smm_address}
+use Rattle.hp_model.specs.Block.{Block, is_in}
+use Rattle.hp_model.specs.Boot.{Stage, is_handed}
 use Rattle.hp_model.specs.Labels.{Part, First, Relocated, Monarch as Monarchs, part_of, index_of, mark_of}
-use Rattle.hp_model.specs.SharedBytes.{Layout, layout_of, tile_in, default_smbase_field}
+use Rattle.hp_model.specs.SharedBytes.{Layout, layout_of, tile_in}
+use Rattle.hp_model.specs.FwCfg.{FwCfg}
+use Rattle.hp_model.specs.Ich9.{Ich9}
 use Rattle.hp_model.specs.SaveArea.{smbase_field}
-use Rattle.hp_model.specs.Monarch.{Monarch}
+use Rattle.hp_model.specs.Slots.{Slots, place_of}
+use Rattle.hp_model.specs.Monarch.{Monarch, is_that}
 use Rattle.hp_model.specs.Handlers.{runs_at, is_due, row_of, address_of_label}
 use Rattle.hp_model.specs.Step.{State, at, mark_at, row_at}
 use Rattle.hp_sealed.specs.Left.{IsLeft, Sound, Locked, is_guarded}
-use Rattle.hp_sealed.specs.Sealed.{is_other_tile, is_based, Recorded}
+use Rattle.hp_sealed.specs.Sealed.{is_based, Recorded, IsAtSlot}
 use Rattle.hp_sealed.proofs.Stay.{Stays}
 use Rattle.hp_sealed.proofs.Outside.{Calm}
 use Rattle.hp_sealed.proofs.Values.{value_left}
 use Rattle.hp_sealed.proofs.Labels.{label_with-mark, same_label, index_small}
 use Rattle.hp_sealed.proofs.Places.{Base, base_based, kept_cell, guarded_field, runs_based}
-use Rattle.hp_safety.proofs.Needs.{Need, Never, Nothing, Passing, Loaded, Adding, Opening, need_of, Needs}
-use Rattle.hp_safety.proofs.Invariant.{is_ready, AtCell, Stands, Saves, IsLocked, IsGated, Invariant, SeatedBy, Seated}
+use Rattle.hp_safety.proofs.Needs.{Need, Ejecting, Nothing, Passing, Loaded, Saved, Adding, Opening, Open, Looking, Telling, need_of, is_aloft, Facts, FirstNeeds, Needs}
+use Rattle.hp_safety.proofs.Invariant.{held_tile, is_ready, may_return, facts_of, AtCell, Stands, Saves, IsLocked, IsGated, Rests, Holding, is_past, Settled, Invariant, SeatedBy, Seated}
+use Rattle.hp_safety.proofs.Aloft.{aloft_past}
 use Rattle.hp_safety.proofs.Saves.{in_reach}
-use Rattle.hp_safety.proofs.Writes.{may_return, Writes}
+use Rattle.hp_safety.proofs.Writes.{Writes}
 
 -- a processor with an instruction address in SMM is present
 pub smm_present : (c : Cpu) (a : ℕ) → smm_address c ≡ Some a → c.present ≡ true
@@ -36,75 +42,65 @@ smm_present c a e = by_presence c.present (address_in c.mode) e
     by_presence true o e = refl
     by_presence false o e = absurd cc
 
--- what a label needs is still there where the new SMBASE stays a tile, if it is one
-needs_kept : (count : ℕ) (before after tiled : Bool) (slot : ℕ) (q : Part) (n : Need) → (before ≡ true → after ≡ true) → Needs count before tiled slot q n → Needs count after tiled slot q n
-needs_kept count before after tiled slot First Never more h = h
-needs_kept count before after tiled slot First Nothing more h = h
-needs_kept count before after tiled slot First Passing more h = more h
-needs_kept count before after tiled slot First Loaded more h = h
-needs_kept count before after tiled slot First Adding more h = h
-needs_kept count before after tiled slot First Opening more h = h
-needs_kept count before after tiled slot Relocated n more h = h
-needs_kept count before after tiled slot Monarchs Never more h = h
-needs_kept count before after tiled slot Monarchs Nothing more h = h
-needs_kept count before after tiled slot Monarchs Passing more h = h
-needs_kept count before after tiled slot Monarchs Loaded more h = h
-needs_kept count before after tiled slot Monarchs Adding more h = h
-needs_kept count before after tiled slot Monarchs Opening more h = (h.0, more h.1)
+-- what a label needs is still there where what memory holds is as good as it was
+needs_kept : (f : Facts) (ready returns : Bool) (q : Part) (n : Need) → (f.ready ≡ true → ready ≡ true) → (f.returns ≡ true → returns ≡ true) → Needs f q n → Needs (record f { ready = ready; returns = returns }) q n
+needs_kept f ready returns First Ejecting more also h = h
+needs_kept f ready returns First Nothing more also h = h
+needs_kept f ready returns First Passing more also h = (h.0, more h.1)
+needs_kept f ready returns First Loaded more also h = h
+needs_kept f ready returns First Saved more also h = (h.0, also h.1)
+needs_kept f ready returns First Adding more also h = h
+needs_kept f ready returns First Opening more also h = h
+needs_kept f ready returns First Open more also h = h
+needs_kept f ready returns First Looking more also h = h
+needs_kept f ready returns First Telling more also h = h
+needs_kept f ready returns Relocated n more also h = h
+needs_kept f ready returns Monarchs Ejecting more also h = h
+needs_kept f ready returns Monarchs Nothing more also h = h
+needs_kept f ready returns Monarchs Passing more also h = h
+needs_kept f ready returns Monarchs Loaded more also h = h
+needs_kept f ready returns Monarchs Saved more also h = h
+needs_kept f ready returns Monarchs Adding more also h = h
+needs_kept f ready returns Monarchs Opening more also h = (h.0, h.1, more h.2)
+needs_kept f ready returns Monarchs Open more also h = (h.0, h.1, more h.2)
+needs_kept f ready returns Monarchs Looking more also h = h
+needs_kept f ready returns Monarchs Telling more also h = h
 
-pub stands_kept : (p : Platform) (r : Monarch) (ws vs : List Write) (k b base : ℕ) (o : Option ℕ) → (is_ready p ws ≡ true → is_ready p vs ≡ true) → Stands p r ws k b base o → Stands p r vs k b base o
-stands_kept p r ws vs k b base None more h = tt
-stands_kept p r ws vs k b base (Some a) more h = (
+pub stands_kept : (p : Platform) (r : Monarch) (ws vs : List Write) (k b base : ℕ) (o : Option ℕ) → (is_ready p r.slots ws ≡ true → is_ready p r.slots vs ≡ true) → (may_return p r.slots ws ≡ true → may_return p r.slots vs ≡ true) → Stands p r ws k b base o → Stands p r vs k b base o
+stands_kept p r ws vs k b base None more also h = tt
+stands_kept p r ws vs k b base (Some a) more also h = (
   h.0,
   record {
     runs = h.1.runs;
     due = h.1.due;
     here = h.1.here;
-    met = needs_kept (count_of p) (is_ready p ws) (is_ready p vs) (is_other_tile (layout_of p) base) r.add.slot (part_of h.0) (need_of h.0) more h.1.met;
+    met = needs_kept (facts_of p r ws (apic_of p k) base) (is_ready p r.slots vs) (may_return p r.slots vs) (part_of h.0) (need_of h.0) more also h.1.met;
   },
 )
 
--- the saved field of an SMBASE is as good as it was: a tile's is left, and the default area's is one of the three values
+-- the saved field of a tile is left
 field_left : (p : Platform) (b : ℕ) (ws vs : List Write) → Base p b → tseg p + 0x20000 ≤ b → ((x : ℕ) → is_guarded p x ≡ true → IsLeft x ws vs) → value_from (byte_at vs) (b + smbase_field) 4 ≡ value_from (byte_at ws) (b + smbase_field) 4
 field_left p b ws vs h low left = value_left 4 (b + smbase_field) ws vs (λ i small. left (b + smbase_field + i) (guarded_field p b i h low small))
 
-returns_based : (p : Platform) (k : ℕ) (ws : List Write) → (k == 0) ≡ false → is_based p k (value_from (byte_at ws) default_smbase_field 4) ≡ may_return p ws
-returns_based p k ws z = rw z refl
-
-not_first : (p : Platform) (k b : ℕ) → Sound p → is_based p k b ≡ true → b ≡ 0x30000 → (k == 0) ≡ false
-not_first p k b sound based e = by_first (k == 0) refl based
-  where
-    apart : (base b : ℕ) → 0x800000 ≤ base → b ≡ 0x30000 → (b == base + 0x20000 + 0) ≡ true → ⊥
-    apart base b above e f = let i = eqb-true b (base + 0x20000 + 0) f in omega (arith, above, e, i)
-
-    by_first : (c : Bool) → (k == 0) ≡ c → cond c (b == tile p 0) ((b == 0x30000) || is_other_tile (layout_of p) b) ≡ true → (k == 0) ≡ false
-    by_first true z f = absurd (apart (tseg p) b sound.above e f)
-    by_first false z f = z
-
-saves_kept : (p : Platform) (ws vs : List Write) (k b a : ℕ) → Sound p → Writes p ws vs → is_based p k b ≡ true → Saves p ws k b (Some a) → Saves p vs k b (Some a)
-saves_kept p ws vs k b a sound writes based h =
-    let base = base_based p k b sound based in
-    elim base.area [
-      | inl e ↦ (
-          let z = not_first p k b sound based e in
-          let old : is_based p k (value_from (byte_at ws) default_smbase_field 4) ≡ true = subst (λ c. is_based p k (value_from (byte_at ws) (c + smbase_field) 4) ≡ true) e h in
-          let new : is_based p k (value_from (byte_at vs) default_smbase_field 4) ≡ true = returns_based p k vs z ∙ writes.returns (sym (returns_based p k ws z) ∙ old) in
-          subst (λ c. is_based p k (value_from (byte_at vs) (c + smbase_field) 4) ≡ true) (sym e) new
-          )
-      | inr low ↦ subst (λ v. is_based p k v ≡ true) (sym (field_left p b ws vs base low writes.cells)) h
-    ]
+saves_kept : (p : Platform) (ws vs : List Write) (b a : ℕ) → Base p b → ((x : ℕ) → is_guarded p x ≡ true → IsLeft x ws vs) → Saves ws b (Some a) → Saves vs b (Some a)
+saves_kept p ws vs b a base left h = elim base.area [
+  | inl e ↦ inl e
+  | inr low ↦ elim h [ inl e ↦ inl e | inr e ↦ inr (field_left p b ws vs base low left ∙ e) ]
+]
 
 -- seated stays seated
-pub seated_left : (p : Platform) (r : Monarch) (ws vs : List Write) (k : ℕ) (c : Cpu) → Sound p → Writes p ws vs → Seated p r ws k c → Seated p r vs k c
+pub seated_left : (p : Platform) (r : Monarch) (ws vs : List Write) (k : ℕ) (c : Cpu) → Sound p → Writes p r.slots ws vs → Seated p r ws k c → Seated p r vs k c
 seated_left p r ws vs k c sound writes h = record {
   based = h.based;
-  stands = stands_kept p r ws vs k c.smbase c.base (smm_address c) writes.ready h.stands;
+  possible = h.possible;
+  slotted = h.slotted;
+  stands = stands_kept p r ws vs k c.smbase c.base (smm_address c) writes.ready writes.returns h.stands;
   saves = by_address (smm_address c) refl h.saves;
 }
   where
-    by_address : (o : Option ℕ) → smm_address c ≡ o → Saves p ws k c.smbase o → Saves p vs k c.smbase o
+    by_address : (o : Option ℕ) → smm_address c ≡ o → Saves ws c.smbase o → Saves vs c.smbase o
     by_address None is old = tt
-    by_address (Some a) is old = saves_kept p ws vs k c.smbase a sound writes (h.based (smm_present c a is)) old
+    by_address (Some a) is old = saves_kept p ws vs c.smbase a (base_based p k c.smbase sound (h.based (smm_present c a is))) writes.cells old
 
 -- and where the processor stays
 pub seated_stays : (p : Platform) (r : Monarch) (ws : List Write) (k : ℕ) (c d : Cpu) → Stays c d → Seated p r ws k c → Seated p r ws k d
@@ -115,40 +111,121 @@ seated_stays p r ws k c d s h =
     (subst (λ b. SeatedBy p r ws k b c.smbase c.base (smm_address c)) (sym s.present) h)))
 
 pub seated_absent : (p : Platform) (r : Monarch) (ws : List Write) (k : ℕ) → Seated p r ws k absent
-seated_absent p r ws k = record { based = λ e. absurd cc; stands = tt; saves = tt }
+seated_absent p r ws k = record { based = λ e. absurd cc; possible = λ e. absurd cc; slotted = λ e. absurd cc; stands = tt; saves = tt }
 
 pub seated_calm : (p : Platform) (r : Monarch) (ws : List Write) (k : ℕ) (c d : Cpu) → Calm c d → Seated p r ws k c → Seated p r ws k d
 seated_calm p r ws k c d calm h = elim calm [ inl s ↦ seated_stays p r ws k c d s h | inr e ↦ subst (Seated p r ws k) (sym e) (seated_absent p r ws k) ]
 
 -- outside SMM
-pub seated_outside : (p : Platform) (r : Monarch) (ws : List Write) (k : ℕ) (c : Cpu) → smm_address c ≡ None → (c.present ≡ true → is_based p k c.smbase ≡ true) → Seated p r ws k c
-seated_outside p r ws k c is based = subst (λ o. SeatedBy p r ws k c.present c.smbase c.base o) (sym is) (record { based = based; stands = tt; saves = tt })
+pub seated_outside : (p : Platform) (r : Monarch) (ws : List Write) (k : ℕ) (c : Cpu) → smm_address c ≡ None → (c.present ≡ true → is_based p k c.smbase ≡ true) → (c.present ≡ true → k < count_of p) → (c.present ≡ true → IsAtSlot p r.slots.bound (apic_of p k) c.smbase) → Seated p r ws k c
+seated_outside p r ws k c is based possible slotted =
+    subst (λ o. SeatedBy p r ws k c.present c.smbase c.base o) (sym is) (record { based = based; possible = possible; slotted = slotted; stands = tt; saves = tt })
 
--- the monarch's record is of no matter to the others
+-- slots go on: who had a place keeps it, and who was held still is
+pub record Grows (s t : Slots) : Type 0 where
+  pub still : (a : ℕ) → is_in a s.bound ≡ true → is_in a t.bound ≡ true
+  pub place : (a : ℕ) → is_in a s.bound ≡ true → place_of t.bound a ≡ place_of s.bound a
+
+pub grows_same : (s : Slots) → Grows s s
+grows_same s = record { still = λ a e. e; place = λ a e. refl }
+
+abbrev pub Holds : Slots → Slots → Type 0
+Holds s t = (a : ℕ) → s.held ≡ Some a → t.held ≡ Some a
+
+pub at_slot_grows : (p : Platform) (s t : Slots) (a b : ℕ) → Grows s t → IsAtSlot p s.bound a b → IsAtSlot p t.bound a b
+at_slot_grows p s t a b grows (inl e) = inl e
+at_slot_grows p s t a b grows (inr h) = inr (grows.still a h.0, h.1 ∙ ap (tile p) (sym (grows.place a h.0)))
+
+pub that_is : (o : Option ℕ) (a : ℕ) → is_that o a ≡ true → o ≡ Some a
+that_is None a e = absurd cc
+that_is (Some b) a e = ap Some (eqb-true b a e)
+
+pub is_that-is : (o : Option ℕ) (a : ℕ) → o ≡ Some a → is_that o a ≡ true
+is_that-is o a e = rw e (itself a)
+  where
+    itself : (n : ℕ) → (n == n) ≡ true
+    itself n = grind (arith, nat_tests)
+
+pub same_tile_held : (p : Platform) (s t : Slots) (a : ℕ) → Holding p s → Grows s t → Holds s t → s.held ≡ Some a → held_tile p t ≡ held_tile p s
+same_tile_held p s t a holding grows holds e =
+    let f = holds a e in
+    let in_s : is_in a s.bound ≡ true = holding.in_bound a e in
+    let place : place_of t.bound a ≡ place_of s.bound a = grows.place a in_s in
+    rw (e, f, place) refl
+
+-- what the first handler's labels need is there where the same APIC ID is held, and its tile is the same
+first_carried : (f g : Facts) (n : Need) → (f.held ≡ true → (g.held ≡ true) × (g.ready ≡ f.ready) × (g.tiled ≡ f.tiled) × (g.returns ≡ f.returns)) → FirstNeeds f n → FirstNeeds g n
+first_carried f g Ejecting same h = h
+first_carried f g Nothing same h = h
+first_carried f g Passing same h = let s = same h.0 in (s.0, s.1 ∙ h.1)
+first_carried f g Loaded same h = let s = same h.0 in (s.0, s.2 ∙ h.1)
+first_carried f g Saved same h = let s = same h.0 in (s.0, s.3 ∙ h.1)
+first_carried f g Adding same h = h
+first_carried f g Opening same h = h
+first_carried f g Open same h = h
+first_carried f g Looking same h = h
+first_carried f g Telling same h = h
+
+-- and by any record for whoever isn't past the gate
+first_calm : (f g : Facts) (n : Need) → is_aloft n ≡ false → FirstNeeds f n → FirstNeeds g n
+first_calm f g Ejecting calm h = h
+first_calm f g Nothing calm h = h
+first_calm f g Passing calm h = absurd cc
+first_calm f g Loaded calm h = absurd cc
+first_calm f g Saved calm h = absurd cc
+first_calm f g Adding calm h = h
+first_calm f g Opening calm h = h
+first_calm f g Open calm h = h
+first_calm f g Looking calm h = h
+first_calm f g Telling calm h = h
+
+-- what the monarch's record may become, for a processor with this instruction address: the same APIC ID is held, or it isn't past the gate
+abbrev pub Carries : Slots → Slots → Option ℕ → Type 0
+Carries s t o = (is_past o ≡ false) ⊎ Holds s t
+
+-- the monarch's record is of no matter to the others but for its slots
 due_other : (y : Layout) (r t : Monarch) (k b : ℕ) (l : Label) (q : Part) → k ≢ 0 → runs_at y q k b ≡ true → is_due r q l ≡ true → is_due t q l ≡ true
 due_other y r t k b l First other runs due = refl
 due_other y r t k b l Relocated other runs due = refl
 due_other y r t k b l Monarchs other runs due = absurd (other (eqb-true k 0 (and_parts (k == 0) (b == tile_in y 0) runs).0))
 
-needs_other : (p : Platform) (k b count : ℕ) (ready tiled : Bool) (slot other : ℕ) (q : Part) (n : Need) → k ≢ 0 → runs_at (layout_of p) q k b ≡ true → Needs count ready tiled slot q n → Needs count ready tiled other q n
-needs_other p k b count ready tiled slot other First n not runs h = h
-needs_other p k b count ready tiled slot other Relocated n not runs h = h
-needs_other p k b count ready tiled slot other Monarchs n not runs h = absurd (not (eqb-true k 0 (and_parts (k == 0) (b == tile_in (layout_of p) 0) runs).0))
+met_other : (p : Platform) (r t : Monarch) (ws : List Write) (k b base : ℕ) (l : Label) → Sound p → Holding p r.slots → Grows r.slots t.slots → k ≢ 0 → runs_at (layout_of p) (part_of l) k b ≡ true → Carries r.slots t.slots (Some (address_of_label b l)) → Needs (facts_of p r ws (apic_of p k) base) (part_of l) (need_of l) → Needs (facts_of p t ws (apic_of p k) base) (part_of l) (need_of l)
+met_other p r t ws k b base l sound holding grows other runs carries h = by_part (part_of l) runs h
+  where
+    same : Holds r.slots t.slots → is_that r.slots.held (apic_of p k) ≡ true → (is_that t.slots.held (apic_of p k) ≡ true) × (is_ready p t.slots ws ≡ is_ready p r.slots ws) × ((base == held_tile p t.slots) ≡ (base == held_tile p r.slots)) × (may_return p t.slots ws ≡ may_return p r.slots ws)
+    same holds e =
+        let is = that_is r.slots.held (apic_of p k) e in
+        let tiles = same_tile_held p r.slots t.slots (apic_of p k) holding grows holds is in
+        (is_that-is t.slots.held (apic_of p k) (holds (apic_of p k) is), rw tiles refl, rw tiles refl, rw tiles refl)
 
-stands_other : (p : Platform) (r t : Monarch) (ws : List Write) (k b base : ℕ) (o : Option ℕ) → k ≢ 0 → Stands p r ws k b base o → Stands p t ws k b base o
-stands_other p r t ws k b base None other h = tt
-stands_other p r t ws k b base (Some a) other h = (
+    by_part : (q : Part) → runs_at (layout_of p) q k b ≡ true → Needs (facts_of p r ws (apic_of p k) base) q (need_of l) → Needs (facts_of p t ws (apic_of p k) base) q (need_of l)
+    by_part First on f = elim carries [
+      | inl calm ↦ first_calm (facts_of p r ws (apic_of p k) base) (facts_of p t ws (apic_of p k) base) (need_of l) (sym (aloft_past p k b l sound runs) ∙ calm) f
+      | inr holds ↦ first_carried (facts_of p r ws (apic_of p k) base) (facts_of p t ws (apic_of p k) base) (need_of l) (same holds) f
+    ]
+    by_part Relocated on f = f
+    by_part Monarchs on f = absurd (other (eqb-true k 0 (and_parts (k == 0) (b == tile_in (layout_of p) 0) on).0))
+
+stands_other : (p : Platform) (r t : Monarch) (ws : List Write) (k b base : ℕ) (o : Option ℕ) → Sound p → Holding p r.slots → Grows r.slots t.slots → k ≢ 0 → Carries r.slots t.slots o → Stands p r ws k b base o → Stands p t ws k b base o
+stands_other p r t ws k b base None sound holding grows other carries h = tt
+stands_other p r t ws k b base (Some a) sound holding grows other carries h = (
   h.0,
   record {
     runs = h.1.runs;
     due = due_other (layout_of p) r t k b h.0 (part_of h.0) other h.1.runs h.1.due;
     here = h.1.here;
-    met = needs_other p k b (count_of p) (is_ready p ws) (is_other_tile (layout_of p) base) r.add.slot t.add.slot (part_of h.0) (need_of h.0) other h.1.runs h.1.met;
+    met = met_other p r t ws k b base h.0 sound holding grows other h.1.runs (subst (λ x. Carries r.slots t.slots (Some x)) h.1.here carries) h.1.met;
   },
 )
 
-pub seated_other : (p : Platform) (r t : Monarch) (ws : List Write) (k : ℕ) (c : Cpu) → k ≢ 0 → Seated p r ws k c → Seated p t ws k c
-seated_other p r t ws k c other h = record { based = h.based; stands = stands_other p r t ws k c.smbase c.base (smm_address c) other h.stands; saves = h.saves }
+pub seated_other : (p : Platform) (r t : Monarch) (ws : List Write) (k : ℕ) (c : Cpu) → Sound p → Holding p r.slots → Grows r.slots t.slots → k ≢ 0 → Carries r.slots t.slots (smm_address c) → Seated p r ws k c → Seated p t ws k c
+seated_other p r t ws k c sound holding grows other carries h = record {
+  based = h.based;
+  possible = h.possible;
+  slotted = λ e. at_slot_grows p r.slots t.slots (apic_of p k) c.smbase grows (h.slotted e);
+  stands = stands_other p r t ws k c.smbase c.base (smm_address c) sound holding grows other carries h.stands;
+  saves = h.saves;
+}
 
 -- one change of one place
 pub same_or : (k i : ℕ) → (k ≡ i) ⊎ (k ≢ i)
@@ -198,6 +275,10 @@ row_stands p m s k l sound h e = by_address (smm_address (at s k)) refl (h.stand
         let same : l0 ≡ l = same_Some l0 l (sym (row_here p m s k a l0 sound h is stands.1) ∙ e) in
         record { address = a; is = is; cell = subst (AtCell p s.monarch s.writes k (at s k).smbase (at s k).base a) same stands.1 }
 
+-- at the monarch's rows it is processor 0
+pub row_first : (p : Platform) (s : State) (k : ℕ) (l : Label) → AtRow p s k l → part_of l ≡ Monarchs → k ≡ 0
+row_first p s k l here mine = eqb-true k 0 (and_parts (k == 0) ((at s k).smbase == tile_in (layout_of p) 0) (subst (λ q. runs_at (layout_of p) q k (at s k).smbase ≡ true) mine here.cell.runs)).0
+
 -- the monarch's label is the one whose row is due
 pub due_label_is : (r : Monarch) (l : Label) → is_due r (part_of l) l ≡ true → part_of l ≡ Monarchs → r.label ≡ l
 due_label_is r l due is = by_mark (subst (λ q. is_due r q l ≡ true) is due)
@@ -207,23 +288,24 @@ due_label_is r l due is = by_mark (subst (λ q. is_due r q l ≡ true) is due)
 
 -- a processor's share of the parts
 pub seated : (p : Platform) (m : List Write) (s : State) (k : ℕ) → Invariant p m s → Seated p s.monarch s.writes k (at s k)
-seated p m s k h = record { based = h.slots.based k; stands = h.stand.each k; saves = h.slots.saved k }
+seated p m s k h = record { based = h.slots.based k; possible = h.slots.possible k; slotted = h.slots.slotted k; stands = h.stand.each k; saves = h.slots.saved k }
 
 -- the parts of a state from those of each processor
-pub gathered : (p : Platform) (m : List Write) (s : State) → is_handed s.stage ≡ true → IsLocked p m s → ((k : ℕ) → Seated p s.monarch s.writes k (at s k)) → (at s 0).present ≡ true → IsGated p s.writes → Recorded p s.monarch → Invariant p m s
-gathered p m s handed locked each first gated recorded = record {
+pub gathered : (p : Platform) (m : List Write) (s : State) → is_handed s.stage ≡ true → IsLocked p m s → ((k : ℕ) → Seated p s.monarch s.writes k (at s k)) → (at s 0).present ≡ true → IsGated p s.monarch s.writes → Rests s → Recorded p s.monarch → Holding p s.monarch.slots → Settled p s → Invariant p m s
+gathered p m s handed locked each first gated rests recorded holding settled = record {
   handed = handed;
   locked = locked;
   stand = record { each = λ k. (each k).stands };
-  slots = record { first = first; based = λ k. (each k).based; saved = λ k. (each k).saves };
+  slots = record { first = first; based = λ k. (each k).based; possible = λ k. (each k).possible; slotted = λ k. (each k).slotted; saved = λ k. (each k).saves };
   gated = gated;
+  rests = rests;
   recorded = recorded;
+  holding = holding;
+  settled = settled;
 }
 
 -- the parts speak of no more than stage, locks, memory, processors and the monarch's record
-pub unmoved : (p : Platform) (m : List Write) (s t : State) → is_handed t.stage ≡ true → t.locks ≡ s.locks → t.writes ≡ s.writes → t.cpus ≡ s.cpus → t.monarch ≡ s.monarch → Invariant p m s → Invariant p m t
-unmoved p m s t handed l w c r h =
-    gathered p m t handed (record { marks = h.locked.marks; registers = subst (Locked p) (sym l) h.locked.registers; kept = λ x g. subst (IsLeft x m) (sym w) (h.locked.kept x g) })
-    (λ k. subst (λ u. Seated p u t.writes k (at t k)) (sym r)
-    (subst (λ ws. Seated p s.monarch ws k (at t k)) (sym w) (subst (λ cs. Seated p s.monarch s.writes k (cpu_at cs k)) (sym c) (seated p m s k h))))
-    (subst (λ cs. (cpu_at cs 0).present ≡ true) (sym c) h.slots.first) (subst (IsGated p) (sym w) h.gated) (subst (Recorded p) (sym r) h.recorded)
+pub unmoved : (p : Platform) (m : List Write) (s : State) (b : Block) (i : Ich9) (f : FwCfg) (g : Stage) (d : Bool) → is_handed g ≡ true → Invariant p m s → Invariant p m (record s { block = b; ich9 = i; fw_cfg = f; stage = g; disturbed = d })
+unmoved p m s b i f g d handed h =
+    gathered p m (record s { block = b; ich9 = i; fw_cfg = f; stage = g; disturbed = d }) handed (record { marks = h.locked.marks; registers = h.locked.registers; kept = h.locked.kept })
+    (λ k. seated p m s k h) h.slots.first h.gated h.rests h.recorded h.holding h.settled

@@ -7,7 +7,7 @@ use Rattle.hp_model.specs.declared.entries.Event.TheVariants.{Insert, Remove, Do
 use Rattle.hp_model.specs.declared.labels.Label.{Label}
 use Rattle.hp_model.specs.declared.processors.Mode.{Mode}
 use Rattle.hp_model.specs.declared.processors.Mode.TheVariants.{Wait, Running, Halted, Smm}
-use Rattle.hp_model.specs.Platform.{IsFit, count_of}
+use Rattle.hp_model.specs.Platform.{IsFit, apic_of}
 use Rattle.hp_model.specs.Memory.{Write}
 use Rattle.hp_model.specs.Cpu.{is_in_smm, smm_address}
 use Rattle.hp_model.specs.Labels.{part_of}
@@ -18,10 +18,10 @@ use Rattle.hp_model.specs.Step.{State, at, seat, wanted, start}
 use Rattle.hp_model.specs.Runs.{run, run_from, address_of}
 use Rattle.hp_model.specs.Safety.{IsLockedBefore, is_astray, wants_none}
 use Rattle.hp_sealed.specs.Left.{Sound, is_kept}
-use Rattle.hp_sealed.specs.Sealed.{is_other_tile, IsOutside}
+use Rattle.hp_sealed.specs.Sealed.{IsOutside}
 use Rattle.hp_sealed.proofs.Places.{guarded_locked, kept_guarded, kept_cell}
 use Rattle.hp_sealed.proofs.Starts.{sound, starts}
-use Rattle.hp_safety.proofs.Invariant.{is_ready, Met, Stands}
+use Rattle.hp_safety.proofs.Invariant.{facts_of, Met, Stands}
 use Rattle.hp_safety.proofs.EachRow.{row_of_each}
 use Rattle.hp_safety.proofs.Keeps.{row_here}
 use Rattle.hp_sealed.proofs.Runs.{made, run_rest, first_step}
@@ -69,9 +69,9 @@ at_entry p t s es before rest e a fit good is whole here place =
     let who = actor_stands s e.event a ((made p s e one.0 one.1).place ∙ place) in
     kept_here p s who.0 a fit (runs_go p (start p) s before fit good here).0 who.1
 
--- nobody is astray: each row that is reached wants something
-row_wants : (p : Platform) (q : Seat) (r : Monarch) (ws : List Write) (base : ℕ) (l : Label) → Met p r ws base l → wants_none (want_at (layout_of p) q r l) ≡ false
-row_wants p q r ws base l met = row_of_each (λ l. wants_none (want_at (layout_of p) q r l) ≡ false) (record { f1 = refl; f2 = refl; f3 = refl; f4 = refl; f5 = refl; f6 = refl; r1 = refl; r2 = refl; r3 = refl; r4 = refl; r5 = refl; r6 = refl; s0 = refl; s1 = refl; s2 = refl; s3 = refl; s4 = refl; c1 = refl; c2 = refl; c3 = refl; c4 = refl; c5 = refl; c6 = refl; nb = refl; n0 = refl; n1 = refl; n2 = refl; n3 = refl; n4 = refl; n5 = refl; n6 = refl; n7 = refl; n8a = refl; n8b = refl; n9 = refl; n10 = refl; n11 = refl; t = refl; e5 = refl; e6 = refl; e7 = refl }) (count_of p) (is_ready p ws) (is_other_tile (layout_of p) base) r.add.slot l met
+-- nobody is astray: each row wants something
+row_wants : (p : Platform) (q : Seat) (r : Monarch) (ws : List Write) (apic base : ℕ) (l : Label) → Met p r ws apic base l → wants_none (want_at (layout_of p) q r l) ≡ false
+row_wants p q r ws apic base l met = row_of_each (λ l. wants_none (want_at (layout_of p) q r l) ≡ false) (record { f1 = refl; f2 = refl; f3 = refl; f4 = refl; f5 = refl; f6 = refl; r1 = refl; r2 = refl; r3 = refl; r4 = refl; r5 = refl; r6 = refl; s0 = refl; s1 = refl; s2 = refl; s3 = refl; s4 = refl; c1 = refl; c2 = refl; c3 = refl; c4 = refl; c5 = refl; c6 = refl; nb = refl; n0 = refl; n1 = refl; n2 = refl; n3 = refl; n4 = refl; n5 = refl; n6 = refl; n7 = refl; n8a = refl; n8b = refl; n9 = refl; n10 = refl; n11 = refl; e0 = refl; e1 = refl; e2 = refl; e3 = refl; e4a = refl; e4b = refl; e4c = refl; e4d = refl; e4e = refl; e4f = refl; e4g = refl; e4h = refl; t = refl; e5 = refl; e6 = refl; e7 = refl }) (facts_of p r ws apic base) l met
 
 not_astray : (p : Platform) (s : State) (k : ℕ) → Sound p → IsGood p s → is_astray p s k ≡ false
 not_astray p s k fit good = by_place (at s k).present (at s k).mode refl refl
@@ -80,7 +80,7 @@ not_astray p s k fit good = by_place (at s k).present (at s k).mode refl refl
     with_row a is =
         let h = stands_handed p s k a good is in
         let c = stands_there p s k a h is in
-        rw (row_here p s.writes s k a c.0 fit h is c.1) (row_wants p (seat p s k) s.monarch s.writes (at s k).base c.0 c.1.met)
+        rw (row_here p s.writes s k a c.0 fit h is c.1) (row_wants p (seat p s k) s.monarch s.writes (apic_of p k) (at s k).base c.0 c.1.met)
 
     by_place : (b : Bool) (m : Mode) → (at s k).present ≡ b → (at s k).mode ≡ m → ((b && is_in_smm m) && wants_none (wanted p s k)) ≡ false
     by_place false m here there = refl

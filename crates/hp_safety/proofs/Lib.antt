@@ -1,11 +1,13 @@
 pub mod Needs
 pub mod EachRow
 pub mod Pigeons
-pub mod Placing
 pub mod Invariant
 pub mod Saves
 pub mod Writes
+pub mod Aloft
+pub mod Ties
 pub mod Keeps
+pub mod Placing
 pub mod Rows
 pub mod Leading
 pub mod RowLeads

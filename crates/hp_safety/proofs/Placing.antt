@@ -1,20 +1,22 @@
 -- Slots stay distinct and possible when an APIC ID is bound, and a new processor's isn't slot 0.
-use Rattle.std.proofs.Common.{ℕ, zero, suc, ◌≡◌, ◌+◌, ◌<◌, ◌≤◌, ◌==◌, Bool, true, false, cond, not, ◌&&◌, ◌||◌, List, [], ◌∷◌, ◌++◌, length, slice_set, Some, refl, sym, ap, ◌∙◌, arith}
+use Rattle.std.proofs.Common.{ℕ, zero, suc, ◌≡◌, ◌+◌, ◌<◌, ◌≤◌, ◌==◌, Bool, true, false, cond, not, ◌&&◌, ◌||◌, List, [], ◌∷◌, ◌++◌, length, slice_set, Some, refl, sym, ap, subst, ◌∙◌, arith}
 use Rattle.std.specs.Prelude.{slice_get, slice_index_or}
 use Rattle.std.specs.List.{list_all, list_any}
 use Rattle.std.proofs.lemmas.Bool.{and_parts, eqb-true}
 use Rattle.std.proofs.lemmas.Bool.Decides.{nat_tests}
+use Rattle.std.proofs.lemmas.Option.{same_Some}
 use Rattle.hp_model.specs.declared.platforms.Platform.{Platform}
-use Rattle.hp_model.specs.Platform.{all_distinct, count_of}
+use Rattle.hp_model.specs.Platform.{all_distinct, count_of, apic_of}
 use Rattle.hp_model.specs.Block.{is_in}
-use Rattle.hp_model.specs.Slots.{Slots, place_of, bind, completed}
+use Rattle.hp_model.specs.Slots.{Slots, place_of, bind, completed, forgotten}
 use Rattle.hp_model.specs.Collection.{Report}
 use Rattle.hp_model.specs.Monarch.{is_that, is_own}
-use Rattle.hp_model.specs.Step.{apic_of}
 use Rattle.hp_sealed.specs.Left.{Sound}
 use Rattle.hp_sealed.specs.Sealed.{Placed}
 use Rattle.hp_sealed.proofs.Left.{pick_by}
 use Rattle.hp_safety.proofs.Needs.{IsSlot}
+use Rattle.hp_safety.proofs.Invariant.{Holding}
+use Rattle.hp_safety.proofs.Keeps.{Grows}
 use Rattle.hp_safety.proofs.Pigeons.{pigeons}
 
 same : (n : ℕ) → (n == n) ≡ true
@@ -25,7 +27,7 @@ pub bound_few : (p : Platform) (s : Slots) → Placed p s → length s.bound ≤
 bound_few p s h = pigeons s.bound p.apic h.distinct h.possible
 
 -- one more at the end
-in_end : (a : ℕ) (bs : List ℕ) → is_in a (bs ++ a ∷ []) ≡ true
+pub in_end : (a : ℕ) (bs : List ℕ) → is_in a (bs ++ a ∷ []) ≡ true
 in_end a [] = let s = same a in rw s refl
 in_end a (b ∷ bs) = more (b == a) (is_in a (bs ++ a ∷ [])) (in_end a bs)
   where
@@ -92,6 +94,9 @@ length-set (x ∷ xs) (suc k) b = ap suc (length-set xs k b)
 pub placed_completed : (p : Platform) (s : Slots) (a : ℕ) → Placed p s → Placed p (completed a s)
 placed_completed p s a h = record { first = h.first; distinct = h.distinct; possible = h.possible; known = length-set s.known (place_of s.bound a) true ∙ h.known }
 
+pub placed_forgotten : (p : Platform) (s : Slots) (a : ℕ) → Placed p s → Placed p (forgotten a s)
+placed_forgotten p s a h = record { first = h.first; distinct = h.distinct; possible = h.possible; known = length-set s.known (place_of s.bound a) false ∙ h.known }
+
 -- the place of one that is bound, and isn't processor 0's
 place_below : (bs : List ℕ) (a : ℕ) → is_in a bs ≡ true → place_of bs a < length bs
 place_below [] a e = absurd cc
@@ -111,6 +116,76 @@ place_bound p s a h possible other =
     let few = bound_few p (bind a s) t in
     let below = place_below (bind a s).bound a (is_in_bind s a) in
     (place_some (bind a s).bound (apic_of p 0) a t.first other, omega (arith, few, below))
+
+-- whoever has a place keeps it
+pub in_more : (x a : ℕ) (bs : List ℕ) → is_in x bs ≡ true → is_in x (bs ++ a ∷ []) ≡ true
+in_more x a [] e = absurd cc
+in_more x a (b ∷ bs) e = by_head (b == x) e (λ f. in_more x a bs f)
+  where
+    by_head : (c : Bool) → (c || is_in x bs) ≡ true → (is_in x bs ≡ true → is_in x (bs ++ a ∷ []) ≡ true) → (c || is_in x (bs ++ a ∷ [])) ≡ true
+    by_head true e more = refl
+    by_head false e more = more e
+
+pub place_more : (bs : List ℕ) (x a : ℕ) → is_in x bs ≡ true → place_of (bs ++ a ∷ []) x ≡ place_of bs x
+place_more [] x a e = absurd cc
+place_more (b ∷ bs) x a e = by_head (b == x) e (λ f. place_more bs x a f)
+  where
+    by_head : (c : Bool) → (c || is_in x bs) ≡ true → (is_in x bs ≡ true → place_of (bs ++ a ∷ []) x ≡ place_of bs x) → cond c 0 (place_of (bs ++ a ∷ []) x + 1) ≡ cond c 0 (place_of bs x + 1)
+    by_head true e more = refl
+    by_head false e more = ap (λ n. n + 1) (more e)
+
+pub grows_end : (s t : Slots) (a : ℕ) → t.bound ≡ s.bound ++ a ∷ [] → Grows s t
+grows_end s t a e = record {
+  still = λ x f. subst (λ bs. is_in x bs ≡ true) (sym e) (in_more x a s.bound f);
+  place = λ x f. ap (λ bs. place_of bs x) e ∙ place_more s.bound x a f;
+}
+
+pub grows_then : (s t u : Slots) → Grows s t → Grows t u → Grows s u
+grows_then s t u h g = record { still = λ a e. g.still a (h.still a e); place = λ a e. g.place a (h.still a e) ∙ h.place a e }
+
+pub grows_bind : (s : Slots) (a : ℕ) → Grows s (bind a s)
+grows_bind s a =
+    pick_by (λ (t : Slots). Grows s (record t { held = Some a })) (is_in a s.bound) s (record s { bound = s.bound ++ a ∷ []; known = s.known ++ false ∷ [] })
+    (λ e. record { still = λ x f. f; place = λ x f. refl })
+    (λ e. grows_end s (record s { bound = s.bound ++ a ∷ []; known = s.known ++ false ∷ []; held = Some a }) a refl)
+
+-- two places, two APIC IDs
+pub place_same : (bs : List ℕ) (a b : ℕ) → is_in a bs ≡ true → is_in b bs ≡ true → place_of bs a ≡ place_of bs b → a ≡ b
+place_same [] a b e f g = absurd cc
+place_same (x ∷ xs) a b e f g = by_head (x == a) refl (x == b) refl e f g (λ h i j. place_same xs a b h i j)
+  where
+    by_head : (c : Bool) → (x == a) ≡ c → (d : Bool) → (x == b) ≡ d → (c || is_in a xs) ≡ true → (d || is_in b xs) ≡ true → cond c 0 (place_of xs a + 1) ≡ cond d 0 (place_of xs b + 1) → (is_in a xs ≡ true → is_in b xs ≡ true → place_of xs a ≡ place_of xs b → a ≡ b) → a ≡ b
+    by_head true u true v e f g more = grind (arith, nat_tests)
+    by_head true u false v e f g more = absurd (omega (arith, g))
+    by_head false u true v e f g more = absurd (omega (arith, g))
+    by_head false u false v e f g more = more e f (omega (arith, g))
+
+-- the one that is bound is held, in a slot that isn't slot 0
+pub holding_bind : (p : Platform) (s : Slots) (a : ℕ) → Placed p s → is_in a p.apic ≡ true → (apic_of p 0 == a) ≡ false → Holding p (bind a s)
+holding_bind p s a h possible other = record {
+  in_bound = λ b e. subst (λ x. is_in x (bind a s).bound ≡ true) (same_Some a b e) (is_in_bind s a);
+  slot = λ b e. subst (λ x. IsSlot (count_of p) (place_of (bind a s).bound x)) (same_Some a b e) (place_bound p s a h possible other);
+}
+
+-- a bound APIC ID is a possible one, and so a small number
+at_of : (as' : List ℕ) (a : ℕ) → is_in a as' ≡ true → (k : ℕ) × (slice_index_or as' k 0xffffffff ≡ a)
+at_of [] a e = absurd cc
+at_of (x ∷ xs) a e = by_head (x == a) refl e (λ f. at_of xs a f)
+  where
+    by_head : (c : Bool) → (x == a) ≡ c → (c || is_in a xs) ≡ true → (is_in a xs ≡ true → (k : ℕ) × (slice_index_or xs k 0xffffffff ≡ a)) → (k : ℕ) × (slice_index_or (x ∷ xs) k 0xffffffff ≡ a)
+    by_head true u e more = (0, eqb-true x a u)
+    by_head false u e more = let i = more e in (suc i.0, i.1)
+
+all_of : (ys bs : List ℕ) (a : ℕ) → list_all (λ b. is_in b ys) bs ≡ true → is_in a bs ≡ true → is_in a ys ≡ true
+all_of ys [] a all e = absurd cc
+all_of ys (b ∷ bs) a all e = let parts = and_parts (is_in b ys) (list_all (λ b. is_in b ys) bs) all in by_head (b == a) refl e parts.0 (λ f. all_of ys bs a parts.1 f)
+  where
+    by_head : (c : Bool) → (b == a) ≡ c → (c || is_in a bs) ≡ true → is_in b ys ≡ true → (is_in a bs ≡ true → is_in a ys ≡ true) → is_in a ys ≡ true
+    by_head true u e here more = subst (λ x. is_in x ys ≡ true) (eqb-true b a u) here
+    by_head false u e here more = more e
+
+pub bound_id : (p : Platform) (s : Slots) (a : ℕ) → Sound p → Placed p s → is_in a s.bound ≡ true → a ≤ 0xffffffff
+bound_id p s a sound h e = let there = at_of p.apic a (all_of p.apic s.bound a h.possible e) in subst (λ x. x ≤ 0xffffffff) there.1 (sound.ids there.0)
 
 -- a report of another processor's own APIC ID: it is possible, and isn't processor 0's
 is_in_at : (as' : List ℕ) (k a : ℕ) → is_that (slice_get as' k) a ≡ true → is_in a as' ≡ true
@@ -144,7 +219,7 @@ own_other p t sound e =
     none_first true d e = absurd cc
     none_first false d e = refl
 
-    by_ids : (as' : List ℕ) (k : ℕ) → all_distinct as' ≡ true → not (k == 0) ≡ true → is_that (slice_get as' k) t.apic ≡ true → (slice_index_or as' 0 255 == t.apic) ≡ false
+    by_ids : (as' : List ℕ) (k : ℕ) → all_distinct as' ≡ true → not (k == 0) ≡ true → is_that (slice_get as' k) t.apic ≡ true → (slice_index_or as' 0 0xffffffff == t.apic) ≡ false
     by_ids [] k d z f = absurd cc
     by_ids (x ∷ xs) zero d z f = absurd cc
     by_ids (x ∷ xs) (suc k) d z f = none_in x t.apic xs (none_first (list_any (λ y. y == x) xs) (all_distinct xs) d) (is_in_at xs k t.apic f)

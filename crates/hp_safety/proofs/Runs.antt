@@ -1,22 +1,25 @@
 -- What every state of a run has, and what its steps leave of it.
-use Rattle.std.proofs.Common.{◌≡◌, ◌⊎◌, inl, inr, List, [], ◌∷◌, Some, refl, subst, ◌∙◌}
+use Rattle.std.proofs.Common.{◌≡◌, ◌⊎◌, inl, inr, List, [], ◌∷◌, Some, refl, sym, ap, subst, ◌∙◌}
 use Rattle.std.proofs.lemmas.Option.{same_Some}
 use Rattle.hp_model.specs.declared.platforms.Platform.{Platform}
 use Rattle.hp_model.specs.declared.entries.Entry.{Entry}
 use Rattle.hp_model.specs.declared.entries.Event.{Event}
+use Rattle.hp_model.specs.Platform.{apic_of}
 use Rattle.hp_model.specs.Memory.{Write}
 use Rattle.hp_model.specs.Labels.{part_of}
+use Rattle.hp_model.specs.Monarch.{Monarch}
 use Rattle.hp_model.specs.Step.{State, After, at, step}
 use Rattle.hp_model.specs.Runs.{run_from}
-use Rattle.hp_sealed.specs.Left.{Sound, IsSafe}
-use Rattle.hp_sealed.specs.Sealed.{IsSealed}
+use Rattle.hp_sealed.specs.Left.{Sound, LeavesKept}
+use Rattle.hp_sealed.specs.Sealed.{IsSealed, IsAtSlot}
 use Rattle.hp_sealed.specs.Booting.{IsBooting, IsRefused, IsBooted}
 use Rattle.hp_sealed.proofs.Left.{left_same, left_then}
 use Rattle.hp_sealed.proofs.Values.{value_left}
 use Rattle.hp_sealed.proofs.Places.{guarded_locked, kept_guarded, kept_cell}
 use Rattle.hp_sealed.proofs.Goes.{boot_goes, refused_goes}
 use Rattle.hp_sealed.proofs.Runs.{made, first_step}
-use Rattle.hp_safety.proofs.Invariant.{Invariant}
+use Rattle.hp_safety.proofs.Needs.{need_of}
+use Rattle.hp_safety.proofs.Invariant.{Holding, is_past, Invariant}
 use Rattle.hp_safety.proofs.Keeps.{gathered, seated_outside}
 use Rattle.hp_safety.proofs.Events.{keeps}
 
@@ -29,7 +32,7 @@ abbrev pub IsGood : Platform → State → Type 0
 IsGood p s = IsBooting p s ⊎ (IsRefused p s ⊎ IsHanded p s)
 
 abbrev pub Goes : Platform → State → State → Type 0
-Goes p s t = IsGood p t × IsSafe p s t
+Goes p s t = IsGood p t × LeavesKept p s t
 
 -- any memory after the hand-over may stand for the one at it
 rebase : (p : Platform) (m : List Write) (s : State) → Sound p → Invariant p m s → IsHanded p s
@@ -43,14 +46,20 @@ rebase p m s fit h = record {
   stand = h.stand;
   slots = h.slots;
   gated = h.gated;
+  rests = h.rests;
   recorded = h.recorded;
+  holding = h.holding;
+  settled = h.settled;
 }
 
 -- what the boot has sealed has all parts
 sealed_handed : (p : Platform) (s : State) → IsSealed p s → IsHanded p s
 sealed_handed p s h =
     gathered p s.writes s h.stage (record { marks = h.holds.cells; registers = h.locks; kept = λ x e. left_same x s.writes })
-    (λ k. seated_outside p s.monarch s.writes k (at s k) (h.cpus.outside k) (h.cpus.based k)) h.cpus.first (inl h.holds.gate) h.cpus.recorded
+    (λ k. seated_outside p s.monarch s.writes k (at s k) (h.cpus.outside k) (h.cpus.based k) (h.cpus.possible k) (λ e. subst (λ (r : Monarch). IsAtSlot p r.slots.bound (apic_of p k) (at s k).smbase) (sym h.cpus.begun) (h.cpus.slotted k e))) h.cpus.first
+    (inl h.holds.gate) (λ e. ap (λ (r : Monarch). need_of r.label) h.cpus.begun) h.cpus.recorded
+    (subst (λ (r : Monarch). Holding p r.slots) (sym h.cpus.begun) (record { in_bound = λ a e. absurd cc; slot = λ a e. absurd cc }))
+    (λ e k. ap is_past (h.cpus.outside k))
 
 handed_goes : (p : Platform) (s : State) (e : Event) (t : After) → Sound p → IsHanded p s → step p s e ≡ Some t → Goes p s t.state
 handed_goes p s e t fit h is =

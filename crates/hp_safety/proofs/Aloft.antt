@@ -1,0 +1,110 @@
+-- Who is past the gate, by the label where it stands and by its instruction address.
+use Rattle.std.proofs.Common.{ℕ, ◌≡◌, ◌+◌, ◌*◌, ◌≤◌, ◌==◌, Bool, true, false, not, ◌&&◌, nat_lt, Some, refl, sym, ◌∙◌, arith}
+use Rattle.std.proofs.lemmas.Bool.{and_parts, eqb-true}
+use Rattle.std.proofs.lemmas.Bool.Decides.{nat_tests}
+use Rattle.hp_model.specs.declared.platforms.Platform.{Platform}
+use Rattle.hp_model.specs.declared.labels.Label.{Label}
+use Rattle.hp_model.specs.declared.labels.Label.TheVariants.{F1, F2, F3, F4, F5, F6, R1, R2, R3, R4, R5, R6, S0, S1, S2, S3, S4, C1, C2, C3, C4, C5, C6, NB, N0, N1, N2, N3, N4, N5, N6, N7, N8a, N8b, N9, N10, N11, E0, E1, E2, E3, E4a, E4b, E4c, E4d, E4e, E4f, E4g, E4h, T, E5, E6, E7}
+use Rattle.hp_model.specs.Platform.{tseg, tile}
+use Rattle.hp_model.specs.Labels.{Part, First, Relocated, Monarch, part_of, index_of}
+use Rattle.hp_model.specs.SharedBytes.{layout_of}
+use Rattle.hp_model.specs.Handlers.{runs_at, address_of_label}
+use Rattle.hp_sealed.specs.Left.{Sound}
+use Rattle.hp_sealed.specs.Sealed.{is_other_tile}
+use Rattle.hp_sealed.proofs.Labels.{index_first}
+use Rattle.hp_sealed.proofs.Places.{slot_of}
+use Rattle.hp_safety.proofs.Needs.{need_of, is_aloft}
+use Rattle.hp_safety.proofs.Invariant.{is_past}
+
+abbrev is_first : Part → Bool
+is_first First = true
+is_first Relocated = false
+is_first Monarch = false
+
+-- at the first handler's labels but for the first of them
+aloft_by : (l : Label) → is_aloft (need_of l) ≡ (is_first (part_of l) && nat_lt 0 (index_of l))
+aloft_by F1 = refl
+aloft_by F2 = refl
+aloft_by F3 = refl
+aloft_by F4 = refl
+aloft_by F5 = refl
+aloft_by F6 = refl
+aloft_by R1 = refl
+aloft_by R2 = refl
+aloft_by R3 = refl
+aloft_by R4 = refl
+aloft_by R5 = refl
+aloft_by R6 = refl
+aloft_by S0 = refl
+aloft_by S1 = refl
+aloft_by S2 = refl
+aloft_by S3 = refl
+aloft_by S4 = refl
+aloft_by C1 = refl
+aloft_by C2 = refl
+aloft_by C3 = refl
+aloft_by C4 = refl
+aloft_by C5 = refl
+aloft_by C6 = refl
+aloft_by NB = refl
+aloft_by N0 = refl
+aloft_by N1 = refl
+aloft_by N2 = refl
+aloft_by N3 = refl
+aloft_by N4 = refl
+aloft_by N5 = refl
+aloft_by N6 = refl
+aloft_by N7 = refl
+aloft_by N8a = refl
+aloft_by N8b = refl
+aloft_by N9 = refl
+aloft_by N10 = refl
+aloft_by N11 = refl
+aloft_by E0 = refl
+aloft_by E1 = refl
+aloft_by E2 = refl
+aloft_by E3 = refl
+aloft_by E4a = refl
+aloft_by E4b = refl
+aloft_by E4c = refl
+aloft_by E4d = refl
+aloft_by E4e = refl
+aloft_by E4f = refl
+aloft_by E4g = refl
+aloft_by E4h = refl
+aloft_by T = refl
+aloft_by E5 = refl
+aloft_by E6 = refl
+aloft_by E7 = refl
+
+pub aloft_first : (l : Label) → is_aloft (need_of l) ≡ true → part_of l ≡ First
+aloft_first l e = by_part (part_of l) (sym (aloft_by l) ∙ e)
+  where
+    by_part : (q : Part) → (is_first q && nat_lt 0 (index_of l)) ≡ true → q ≡ First
+    by_part First f = refl
+    by_part Relocated f = absurd cc
+    by_part Monarch f = absurd cc
+
+past_first : (b i : ℕ) → b ≡ 0x30000 → i ≤ 5 → is_past (Some (b + 0x8000 + 4 * i)) ≡ nat_lt 0 i
+past_first b i e small = by_some (nat_lt 0 i) refl
+  where
+    by_some : (c : Bool) → nat_lt 0 i ≡ c → is_past (Some (b + 0x8000 + 4 * i)) ≡ c
+    by_some true f = grind (arith, nat_tests)
+    by_some false f = grind (arith, nat_tests)
+
+past_tile : (base b i : ℕ) → 0x800000 ≤ base → base ≤ b → is_past (Some (b + 0x8000 + 4 * i)) ≡ false
+past_tile base b i above low = grind (arith, nat_tests)
+
+-- whoever is at a label's cell is past the gate where the label is
+pub aloft_past : (p : Platform) (k b : ℕ) (l : Label) → Sound p → runs_at (layout_of p) (part_of l) k b ≡ true → is_past (Some (address_of_label b l)) ≡ is_aloft (need_of l)
+aloft_past p k b l sound runs = by_part (part_of l) refl runs ∙ sym (aloft_by l)
+  where
+    by_part : (q : Part) → part_of l ≡ q → runs_at (layout_of p) q k b ≡ true → is_past (Some (b + 0x8000 + 4 * index_of l)) ≡ (is_first q && nat_lt 0 (index_of l))
+    by_part First side e = past_first b (index_of l) (eqb-true b 0x30000 (and_parts (not (k == 0)) (b == 0x30000) e).1) (index_first l side)
+    by_part Relocated side e =
+        let t = slot_of p b (and_parts (not (k == 0)) (is_other_tile (layout_of p) b) e).1 in
+        let is = t.is in
+        past_tile (tseg p) b (index_of l) sound.above (omega (arith, is))
+    by_part Monarch side e =
+        let is = eqb-true b (tile p 0) (and_parts (k == 0) (b == tile p 0) e).1 in
+        past_tile (tseg p) b (index_of l) sound.above (omega (arith, is))
