@@ -6,6 +6,7 @@ pub mod Saves
 pub mod Writes
 pub mod Aloft
 pub mod Ties
+pub mod Backward
 pub mod Keeps
 pub mod Placing
 pub mod Rows
@@ -14,5 +15,10 @@ pub mod RowLeads
 pub mod Accesses
 pub mod Entering
 pub mod Events
+pub mod Tying
+pub mod Marked
+pub mod Moves
+pub mod Accounting
 pub mod Runs
 pub mod Law
+pub mod Named

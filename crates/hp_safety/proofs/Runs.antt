@@ -35,7 +35,7 @@ abbrev pub Goes : Platform → State → State → Type 0
 Goes p s t = IsGood p t × LeavesKept p s t
 
 -- any memory after the hand-over may stand for the one at it
-rebase : (p : Platform) (m : List Write) (s : State) → Sound p → Invariant p m s → IsHanded p s
+pub rebase : (p : Platform) (m : List Write) (s : State) → Sound p → Invariant p m s → IsHanded p s
 rebase p m s fit h = record {
   handed = h.handed;
   locked = record {
@@ -53,7 +53,7 @@ rebase p m s fit h = record {
 }
 
 -- what the boot has sealed has all parts
-sealed_handed : (p : Platform) (s : State) → IsSealed p s → IsHanded p s
+pub sealed_handed : (p : Platform) (s : State) → IsSealed p s → IsHanded p s
 sealed_handed p s h =
     gathered p s.writes s h.stage (record { marks = h.holds.cells; registers = h.locks; kept = λ x e. left_same x s.writes })
     (λ k. seated_outside p s.monarch s.writes k (at s k) (h.cpus.outside k) (h.cpus.based k) (h.cpus.possible k) (λ e. subst (λ (r : Monarch). IsAtSlot p r.slots.bound (apic_of p k) (at s k).smbase) (sym h.cpus.begun) (h.cpus.slotted k e))) h.cpus.first

@@ -82,9 +82,15 @@ pub record Session : Type 0 where
   pub status : ℕ
   pub reports : List Report
 
--- the session that the newest of these entries lies in
+abbrev pub session_in : Platform → List Entry → Session
+session_in p es = record { cpu = last_value p C3 es; status = last_value p C4 es; reports = triples p es }
+
+-- the one that the newest of these entries lies in
 abbrev pub session_of : Platform → List Entry → Session
-session_of p es = record { cpu = last_value p C3 (session es); status = last_value p C4 (session es); reports = triples p (session es) }
+session_of p es = session_in p (session es)
+
+abbrev pub no_session : Session
+no_session = record { cpu = 0; status = 0; reports = [] }
 
 -- one entry more
 abbrev pub read_at : Bool → ℕ → ℕ → ℕ
@@ -95,7 +101,7 @@ reports_at there t ts = if there then ts ++ t ∷ [] else ts
 
 abbrev pub session_more : Platform → Session → Entry → Session
 session_more p s e =
-    if bounds_session e then record { cpu = 0; status = 0; reports = [] }
+    if bounds_session e then no_session
     else record {
       cpu = read_at (is_at p C3 e) (value_in e.answer) s.cpu;
       status = read_at (is_at p C4 e) (value_in e.answer) s.status;

@@ -3,13 +3,13 @@ use Rattle.std.proofs.Common.{ℕ, ◌≡◌, ◌≢◌, ◌+◌, ◌<◌, ◌�
 use Rattle.std.proofs.lemmas.Bool.Decides.{nat_tests}
 use Rattle.hp_model.specs.declared.platforms.Platform.{Platform}
 use Rattle.hp_model.specs.Platform.{tseg}
-use Rattle.hp_model.specs.Memory.{Write, byte_at, value_from}
+use Rattle.hp_model.specs.Memory.{Write, byte_at, value_from, touched}
 use Rattle.hp_model.specs.View.{Locks, is_hole, stored}
 use Rattle.hp_model.specs.SharedBytes.{gate, new_smbase, flag, default_smbase_field}
 use Rattle.hp_model.specs.Slots.{Slots}
 use Rattle.hp_model.specs.Monarch.{Monarch}
 use Rattle.hp_sealed.specs.Left.{IsLeft, Sound, Locked, is_guarded, guarded_by}
-use Rattle.hp_sealed.proofs.Left.{left_same, left_store}
+use Rattle.hp_sealed.proofs.Left.{left_same, left_store, length-bytes_of}
 use Rattle.hp_sealed.proofs.Values.{value_left, value_written, value_eight, value_one}
 use Rattle.hp_safety.proofs.Invariant.{held_tile, is_ready, may_return, IsShut, IsGated}
 use Rattle.hp_safety.proofs.Saves.{in_reach}
@@ -171,6 +171,13 @@ pub gate_stored : (p : Platform) (l : Locks) (ws : List Write) (v : ℕ) → Sou
 gate_stored p l ws v sound locks small =
     let reach = reach_low p l 8 gate sound locks (omega arith) in
     rw reach (value_eight gate v ws small)
+
+-- such a store covers it once more
+pub gate_written : (p : Platform) (l : Locks) (ws : List Write) (v : ℕ) → Sound p → Locked p l → touched (stored l true gate 8 v ws) gate ≡ touched ws gate + 1
+gate_written p l ws v sound locks =
+    let reach = reach_low p l 8 gate sound locks (omega arith) in
+    let size = length-bytes_of 8 v in
+    rw (reach, size) refl
 
 pub reach_arrived : (p : Platform) (l : Locks) (x : ℕ) → Sound p → Locked p l → x ≤ 512 → is_hole l true (tseg p + x) 1 ≡ false
 reach_arrived p l x sound locks few = let top = sound.top in let room = sound.room in let same = locks.low_memory in in_reach 1 (tseg p + x) l (omega (arith, top, room, same, few))

@@ -6,10 +6,26 @@ ghost use Rattle.hp_model.specs.declared.entries.Entry.{Entry};
 ghost use Rattle.hp_model.specs.Platform.{IsFit};
 ghost use Rattle.hp_model.specs.Step.{State};
 ghost use Rattle.hp_model.specs.Runs.{run};
+ghost use Rattle.hp_model.specs.Smbases.{IsDistinct, IsNamed};
 ghost use Rattle.hp_model.specs.Safety.{IsLockedBefore};
 
 /// Every instruction executed in SMM lies in four bytes of SMRAM that were locked before it, and no write has covered them since; and
 /// nobody in SMM is without a row of its handler. So in each run of each platform that fits, whatever the agents and the host do.
 pub fn locked_before()
     ensures { (p : Platform) (es : List Entry) (s : State) → IsFit p → run p es ≡ Some s → IsLockedBefore p es }
+{}
+
+/// In each state each present processor has the default SMBASE, or that of its own slot: the tile at the place of its APIC ID among
+/// those that the run has given a slot, the boot processors' first and then each that an entry at N7 has stored. No two present
+/// processors have the same one, but for the default.
+pub fn no_two_smbases()
+    ensures { (p : Platform) (es : List Entry) (s : State) → IsFit p → run p es ≡ Some s → IsDistinct p es }
+{}
+
+/// Each entry that changes the SMBASE of a processor that is present before and after it is that processor's RSM at F6. Since its
+/// last SMI entry the processor found its own APIC ID in the gate, at F1; the last entry before that which wrote the gate stored this
+/// APIC ID there, at N7; and by then the monarch's session had a report of this APIC ID, enabled, with an insert event and no eject
+/// handed to the firmware.
+pub fn smbase_changes_past_the_gate()
+    ensures { (p : Platform) (es : List Entry) (s : State) → IsFit p → run p es ≡ Some s → IsNamed p es }
 {}

@@ -3,4 +3,4 @@
 
 mod laws;
 
-pub use laws::locked_before;
+pub use laws::{locked_before, no_two_smbases, smbase_changes_past_the_gate};

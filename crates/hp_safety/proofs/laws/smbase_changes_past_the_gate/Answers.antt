@@ -1,0 +1,5 @@
+use Rattle.hp_safety.proofs.Named.{named_law}
+use Rattle.hp_safety.proofs.laws.smbase_changes_past_the_gate.Goals as goal
+
+pub returns : goal.returns
+returns c = λ p es s fits is. named_law p es fits
