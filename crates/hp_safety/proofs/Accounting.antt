@@ -130,7 +130,7 @@ session_still p S e h f = let a = h.c3 in let b = h.c4 in let c = h.c6 in rw (f,
 still : (p : Platform) (B : List ℕ) (S : Session) (r : Monarch) (e : Entry) → AtNone p e → bounds_session e ≡ false → Tied B S r → Tied (bound_more p B e) (session_more p S e) r
 still p B S r e h f tied = subst (λ b. Tied b (session_more p S e) r) (sym (bound_still p B e h)) (subst (λ x. Tied B x r) (sym (session_still p S e h f)) tied)
 
-outside_none : (c : Cpu) → is_in_smm c.mode ≡ false → smm_address c ≡ None
+pub outside_none : (c : Cpu) → is_in_smm c.mode ≡ false → smm_address c ≡ None
 outside_none c e = by_parts c.present c.mode e
   where
     by_parts : (b : Bool) (m : Mode) → is_in_smm m ≡ false → cond b (address_in m) None ≡ None
@@ -140,7 +140,7 @@ outside_none c e = by_parts c.present c.mode e
     by_parts true (Smm a) e = absurd cc
     by_parts false m e = refl
 
-init_outside : (c : Cpu) → may_take_init c ≡ true → smm_address c ≡ None
+pub init_outside : (c : Cpu) → may_take_init c ≡ true → smm_address c ≡ None
 init_outside c e = by_parts c.present c.smi c.init c.mode e
   where
     by_parts : (b i n : Bool) (m : Mode) → (b && (not i && (n && is_outside m))) ≡ true → cond b (address_in m) None ≡ None

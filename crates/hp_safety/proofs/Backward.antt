@@ -30,6 +30,14 @@ pub older_other : {A : Type 0} (kind : A → Bool) (x : A) (xs : List A) → kin
 unfolding older_than
 older_other kind x xs e = rw (e, older_than) refl
 
+pub since_it : {A : Type 0} (kind : A → Bool) (x : A) (xs : List A) → kind x ≡ true → since kind (x ∷ xs) ≡ []
+unfolding since
+since_it kind x xs e = rw (e, since) refl
+
+pub since_other : {A : Type 0} (kind : A → Bool) (x : A) (xs : List A) → kind x ≡ false → since kind (x ∷ xs) ≡ x ∷ since kind xs
+unfolding since
+since_other kind x xs e = rw (e, since) refl
+
 -- lists of places
 pub all_places : (f : ℕ → Bool) (n : ℕ) → ((k : ℕ) → f k ≡ true) → list_all f (places n) ≡ true
 unfolding places
@@ -81,7 +89,7 @@ value_more kind e xs = by_test (kind e) refl
     by_test true is = rw (newest_it kind e xs is) refl
     by_test false is = rw (newest_other kind e xs is) refl
 
-triples_more : (p : Platform) (e : Entry) (xs : List Entry) → triples p (e ∷ xs) ≡ reports_at (is_at p C6 e) (triple_by p xs e) (triples p xs)
+pub triples_more : (p : Platform) (e : Entry) (xs : List Entry) → triples p (e ∷ xs) ≡ reports_at (is_at p C6 e) (triple_by p xs e) (triples p xs)
 unfolding triples
 triples_more p e xs = by_test (is_at p C6 e) refl
   where

@@ -7,6 +7,7 @@ pub mod Writes
 pub mod Aloft
 pub mod Ties
 pub mod Backward
+pub mod Tallies
 pub mod Keeps
 pub mod Placing
 pub mod Rows
@@ -22,3 +23,7 @@ pub mod Accounting
 pub mod Runs
 pub mod Law
 pub mod Named
+pub mod MonarchSteps
+pub mod Tallying
+pub mod Held
+pub mod Answered

@@ -223,7 +223,7 @@ module _ (p : Platform) (past : List Transition) (s t : State) (e : Entry) (fit 
   ]
 
 -- each step after the hand-over
-accounted_on : (p : Platform) (past : List Transition) (s t : State) (e : Entry) → Sound p → IsHanded p s → run_on p s e ≡ Some t → Accounted p past s → Accounted p (step_made s e t ∷ past) t
+pub accounted_on : (p : Platform) (past : List Transition) (s t : State) (e : Entry) → Sound p → IsHanded p s → run_on p s e ≡ Some t → Accounted p past s → Accounted p (step_made s e t ∷ past) t
 accounted_on p past s t e fit h on acc =
     let m = made p s e t on in
     let step_is = stepped p s e.event m.after m.step in
@@ -243,7 +243,7 @@ accounted_on p past s t e fit h on acc =
 abbrev pub Told : Platform → List Transition → State → Type 0
 Told p past s = (IsBefore p s × (bound p (entries_of past) ≡ boot_ids p)) ⊎ (IsHanded p s × Accounted p past s)
 
-outside_address : (p : Platform) (s : State) (v : Event) → IsOutside p s → address_of s v ≡ None
+pub outside_address : (p : Platform) (s : State) (v : Event) → IsOutside p s → address_of s v ≡ None
 outside_address p s (Insert k) h = refl
 outside_address p s (Remove k) h = refl
 outside_address p s (Do k a) h = h.outside k
@@ -252,7 +252,7 @@ outside_address p s (TakeInit k) h = h.outside k
 outside_address p s (Resume k) h = h.outside k
 outside_address p s (Tell o) h = h.outside 0
 
-sealed_accounted : (p : Platform) (past : List Transition) (s : State) → bound p (entries_of past) ≡ boot_ids p → IsSealed p s → Accounted p past s
+pub sealed_accounted : (p : Platform) (past : List Transition) (s : State) → bound p (entries_of past) ≡ boot_ids p → IsSealed p s → Accounted p past s
 sealed_accounted p past s same h = record {
   tied = subst (Tied (bound p (entries_of past)) (session_of p (entries_of past))) (sym h.cpus.begun) (sym same);
   out = λ k there relocated. elim (h.cpus.slotted k there) [ inl e ↦ absurd (relocated e) | inr own ↦ subst (λ b. is_in (apic_of p k) b ≡ true) (sym same) own.0 ];
@@ -268,12 +268,14 @@ module _ (p : Platform) (fits : IsFit p) where
   unfolding bound
   told_first = inl (inl (starts p fits), refl)
 
-  told_before : (past : List Transition) (s t : State) (e : Entry) → IsBefore p s → bound p (entries_of past) ≡ boot_ids p → run_on p s e ≡ Some t → Told p (step_made s e t ∷ past) t
-  told_before past s t e before same on =
+  pub bound_before : (past : List Transition) (s t : State) (e : Entry) → IsBefore p s → bound p (entries_of past) ≡ boot_ids p → run_on p s e ≡ Some t → bound p (e ∷ entries_of past) ≡ boot_ids p
+  bound_before past s t e before same on =
       let m = made p s e t on in
       let none : is_at p N7 e ≡ false = at_none p N7 e (sym m.place ∙ outside_address p s e.event (before_outside p s before)) in
-      let bound_is : bound p (e ∷ entries_of past) ≡ boot_ids p = bound_step p (entries_of past) e ∙ (rw none refl ∙ same) in
-      by_before m before bound_is
+      bound_step p (entries_of past) e ∙ (rw none refl ∙ same)
+
+  told_before : (past : List Transition) (s t : State) (e : Entry) → IsBefore p s → bound p (entries_of past) ≡ boot_ids p → run_on p s e ≡ Some t → Told p (step_made s e t ∷ past) t
+  told_before past s t e before same on = by_before (made p s e t on) before (bound_before past s t e before same on)
     where
       next_told : (u : State) → bound p (e ∷ entries_of past) ≡ boot_ids p → IsBooted p u → Told p (step_made s e u ∷ past) u
       next_told u is (inl b) = inl (inl b, is)

@@ -1,12 +1,14 @@
 //! Laws over definitions: public functions with empty bodies, whose clauses are what is proved.
 
-ghost use Rattle.std.specs.Prelude.{◌≡◌, List, Some};
+ghost use Rattle.std.specs.Prelude.{◌≡◌, true, List, Some};
 ghost use Rattle.hp_model.specs.declared.platforms.Platform.{Platform};
 ghost use Rattle.hp_model.specs.declared.entries.Entry.{Entry};
 ghost use Rattle.hp_model.specs.Platform.{IsFit};
 ghost use Rattle.hp_model.specs.Step.{State};
 ghost use Rattle.hp_model.specs.Runs.{run};
+ghost use Rattle.hp_model.specs.Transitions.{transitions, at_each};
 ghost use Rattle.hp_model.specs.Smbases.{IsDistinct, IsNamed};
+ghost use Rattle.hp_model.specs.Exact.{moves_held, answers_all};
 ghost use Rattle.hp_model.specs.Safety.{IsLockedBefore};
 
 /// Every instruction executed in SMM lies in four bytes of SMRAM that were locked before it, and no write has covered them since; and
@@ -28,4 +30,15 @@ pub fn no_two_smbases()
 /// handed to the firmware.
 pub fn smbase_changes_past_the_gate()
     ensures { (p : Platform) (es : List Entry) (s : State) → IsFit p → run p es ≡ Some s → IsNamed p es }
+{}
+
+/// Each SMBASE that changes is of the processor whose APIC ID is held just before, as the entries say: that of the running add, or
+/// else the one that the last add to fail has left.
+pub fn smbase_changes_while_held()
+    ensures { (p : Platform) (es : List Entry) (s : State) → IsFit p → run p es ≡ Some s → at_each (moves_held p) (transitions p es) ≡ true }
+{}
+
+/// A session that comes to E5, where the monarch lets everybody go, has told as many outcomes as it has made reports.
+pub fn sessions_answer_all()
+    ensures { (p : Platform) (es : List Entry) (s : State) → IsFit p → run p es ≡ Some s → at_each (answers_all p) (transitions p es) ≡ true }
 {}

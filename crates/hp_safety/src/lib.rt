@@ -3,4 +3,7 @@
 
 mod laws;
 
-pub use laws::{locked_before, no_two_smbases, smbase_changes_past_the_gate};
+pub use laws::{
+    locked_before, no_two_smbases, sessions_answer_all, smbase_changes_past_the_gate,
+    smbase_changes_while_held,
+};

@@ -43,7 +43,7 @@ stepped p s e t is =
     opened false x e = absurd cc
 
 -- a boot's only event is its next access
-boots_event : (mib done supported : ℕ) (e : Event) → is_boots mib done supported e ≡ true → e ≡ Do 0 (boot_access mib supported done)
+pub boots_event : (mib done supported : ℕ) (e : Event) → is_boots mib done supported e ≡ true → e ≡ Do 0 (boot_access mib supported done)
 boots_event mib done supported (Insert k) is = absurd cc
 boots_event mib done supported (Remove k) is = absurd cc
 boots_event mib done supported (Do k a) is =

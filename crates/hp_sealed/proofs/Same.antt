@@ -1,11 +1,14 @@
--- Two accesses with the same numbers are one.
+-- Two accesses with the same numbers are one, and so are two outcomes.
 use Rattle.std.proofs.Common.{ℕ, ◌≡◌, ◌==◌, true, List, [], ◌∷◌, refl, sym, ap, ◌∙◌, if◌then◌else◌}
 use Rattle.std.specs.Prelude.{slice_index_or}
 use Rattle.std.specs.Str.{bytes_eq}
 use Rattle.std.proofs.lemmas.Bool.{and_parts, eqb-true}
 use Rattle.hp_model.specs.declared.accesses.Access.{Access}
 use Rattle.hp_model.specs.declared.accesses.Access.TheVariants.{Load, Store, Swap, In, Out, CfgRead, CfgWrite, Icr, Halt, Nop}
-use Rattle.hp_model.specs.Step.{numbers_of, same_access}
+use Rattle.hp_model.specs.declared.outcomes.Outcome.{Outcome}
+use Rattle.hp_model.specs.declared.outcomes.Outcome.TheVariants as outcome
+use Rattle.hp_model.specs.declared.outcomes.Refusal.TheVariants as refusal
+use Rattle.hp_model.specs.Step.{numbers_of, same_access, outcome_numbers, same_outcome}
 
 -- number i of an access
 abbrev nth : List ℕ → ℕ → ℕ
@@ -53,3 +56,45 @@ same_numbers (x ∷ xs) (y ∷ ys) e =
 pub same_access-is : (a b : Access) → same_access a b ≡ true → a ≡ b
 unfolding same_access
 same_access-is a b e = sym (access_from-numbers a) ∙ (ap access_from (same_numbers (numbers_of a) (numbers_of b) e) ∙ access_from-numbers b)
+
+-- outcomes
+outcome_by : ℕ → List ℕ → Outcome
+outcome_by kind ns =
+    if kind == 0 then outcome.Added (nth ns 1) (nth ns 2) (nth ns 3)
+    else if kind == 1 then outcome.Ejected (nth ns 1) (nth ns 2) (nth ns 3)
+    else if kind == 2 then outcome.Refused (refusal.Disabled (nth ns 1) (nth ns 2))
+    else if kind == 3 then outcome.Refused (refusal.Both (nth ns 1) (nth ns 2))
+    else if kind == 4 then outcome.Refused (refusal.AlreadyKnown (nth ns 1) (nth ns 2) (nth ns 3))
+    else if kind == 5 then outcome.Refused (refusal.GateHeld (nth ns 1) (nth ns 2) (nth ns 3))
+    else if kind == 6 then outcome.Refused (refusal.NotAtGate (nth ns 1) (nth ns 2))
+    else if kind == 7 then outcome.Refused (refusal.NotCheckedIn (nth ns 1) (nth ns 2))
+    else if kind == 8 then outcome.Refused (refusal.NoUnplug (nth ns 1) (nth ns 2))
+    else if kind == 9 then outcome.Refused (refusal.NotKnown (nth ns 1) (nth ns 2))
+    else if kind == 10 then outcome.Refused (refusal.NotArrived (nth ns 1) (nth ns 2))
+    else if kind == 11 then outcome.Refused (refusal.NotParked (nth ns 1) (nth ns 2))
+    else if kind == 12 then outcome.Refused (refusal.Foreign (nth ns 1) (nth ns 2))
+    else outcome.Refused (refusal.StillPending (nth ns 1) (nth ns 2))
+
+outcome_from : List ℕ → Outcome
+outcome_from ns = outcome_by (nth ns 0) ns
+
+outcome_from-numbers : (o : Outcome) → outcome_from (outcome_numbers o) ≡ o
+unfolding outcome_from outcome_by
+outcome_from-numbers (outcome.Added a b c) = refl
+outcome_from-numbers (outcome.Ejected a b c) = refl
+outcome_from-numbers (outcome.Refused (refusal.Disabled a b)) = refl
+outcome_from-numbers (outcome.Refused (refusal.Both a b)) = refl
+outcome_from-numbers (outcome.Refused (refusal.AlreadyKnown a b c)) = refl
+outcome_from-numbers (outcome.Refused (refusal.GateHeld a b c)) = refl
+outcome_from-numbers (outcome.Refused (refusal.NotAtGate a b)) = refl
+outcome_from-numbers (outcome.Refused (refusal.NotCheckedIn a b)) = refl
+outcome_from-numbers (outcome.Refused (refusal.NoUnplug a b)) = refl
+outcome_from-numbers (outcome.Refused (refusal.NotKnown a b)) = refl
+outcome_from-numbers (outcome.Refused (refusal.NotArrived a b)) = refl
+outcome_from-numbers (outcome.Refused (refusal.NotParked a b)) = refl
+outcome_from-numbers (outcome.Refused (refusal.Foreign a b)) = refl
+outcome_from-numbers (outcome.Refused (refusal.StillPending a b)) = refl
+
+pub same_outcome-is : (o t : Outcome) → same_outcome o t ≡ true → o ≡ t
+unfolding same_outcome
+same_outcome-is o t e = sym (outcome_from-numbers o) ∙ (ap outcome_from (same_numbers (outcome_numbers o) (outcome_numbers t) e) ∙ outcome_from-numbers t)
