@@ -116,13 +116,13 @@ tally_row p es e l t o bound six begins makes says = by_told (index_of l == 34) 
         rw (session_on es e bound, triples_more p e (session es), six, by_report (index_of l == 10) refl, told_on_none (session es) e none, runs_on p es e (tells_none e none), begins, left_on es e, none) refl
 
 -- what a row tells, and that it bounds no session
-abbrev bounds_of : Event → Bool
+abbrev pub bounds_of : Event → Bool
 bounds_of v = is_entry_of 0 v || is_resume_of 0 v
 
-row_says : (p : Platform) (q : Seat) (r : Monarch) (ws : List Write) (apic base : ℕ) (v : Event) (l : Label) → Met p r ws apic base l → IsWanted (want_at (layout_of p) q r l) v → outcome_in v ≡ (if index_of l == 34 then Some r.outcome else None)
+pub row_says : (p : Platform) (q : Seat) (r : Monarch) (ws : List Write) (apic base : ℕ) (v : Event) (l : Label) → Met p r ws apic base l → IsWanted (want_at (layout_of p) q r l) v → outcome_in v ≡ (if index_of l == 34 then Some r.outcome else None)
 row_says p q r ws apic base v l met is = row_of_each (λ l. IsWanted (want_at (layout_of p) q r l) v → outcome_in v ≡ (if index_of l == 34 then Some r.outcome else None)) (record { f1 = λ w. ap outcome_in w; f2 = λ w. ap outcome_in w; f3 = λ w. ap outcome_in w; f4 = λ w. ap outcome_in w; f5 = λ w. ap outcome_in w; f6 = λ w. absurd w; r1 = λ w. ap outcome_in w; r2 = λ w. ap outcome_in w; r3 = λ w. ap outcome_in w; r4 = λ w. ap outcome_in w; r5 = λ w. absurd w; r6 = λ w. ap outcome_in w; s0 = λ w. ap outcome_in w; s1 = λ w. ap outcome_in w; s2 = λ w. ap outcome_in w; s3 = λ w. ap outcome_in w; s4 = λ w. ap outcome_in w; c1 = λ w. ap outcome_in w; c2 = λ w. ap outcome_in w; c3 = λ w. ap outcome_in w; c4 = λ w. ap outcome_in w; c5 = λ w. ap outcome_in w; c6 = λ w. ap outcome_in w; nb = λ w. ap outcome_in w; n0 = λ w. ap outcome_in w; n1 = λ w. ap outcome_in w; n2 = λ w. ap outcome_in w; n3 = λ w. ap outcome_in w; n4 = λ w. ap outcome_in w; n5 = λ w. ap outcome_in w; n6 = λ w. ap outcome_in w; n7 = λ w. ap outcome_in w; n8a = λ w. ap outcome_in w; n8b = λ w. ap outcome_in w; n9 = λ w. ap outcome_in w; n10 = λ w. ap outcome_in w; n11 = λ w. ap outcome_in w; e0 = λ w. ap outcome_in w; e1 = λ w. ap outcome_in w; e2 = λ w. ap outcome_in w; e3 = λ w. ap outcome_in w; e4a = λ w. ap outcome_in w; e4b = λ w. ap outcome_in w; e4c = λ w. ap outcome_in w; e4d = λ w. ap outcome_in w; e4e = λ w. ap outcome_in w; e4f = λ w. ap outcome_in w; e4g = λ w. ap outcome_in w; e4h = λ w. ap outcome_in w; t = λ w. ap outcome_in w; e5 = λ w. ap outcome_in w; e6 = λ w. ap outcome_in w; e7 = λ w. absurd w }) (facts_of p r ws apic base) l met is
 
-row_bounds : (p : Platform) (q : Seat) (r : Monarch) (ws : List Write) (apic base : ℕ) (v : Event) (l : Label) → Met p r ws apic base l → IsWanted (want_at (layout_of p) q r l) v → bounds_of v ≡ false
+pub row_bounds : (p : Platform) (q : Seat) (r : Monarch) (ws : List Write) (apic base : ℕ) (v : Event) (l : Label) → Met p r ws apic base l → IsWanted (want_at (layout_of p) q r l) v → bounds_of v ≡ false
 row_bounds p q r ws apic base v l met is = row_of_each (λ l. IsWanted (want_at (layout_of p) q r l) v → bounds_of v ≡ false) (record { f1 = λ w. ap bounds_of w; f2 = λ w. ap bounds_of w; f3 = λ w. ap bounds_of w; f4 = λ w. ap bounds_of w; f5 = λ w. ap bounds_of w; f6 = λ w. absurd w; r1 = λ w. ap bounds_of w; r2 = λ w. ap bounds_of w; r3 = λ w. ap bounds_of w; r4 = λ w. ap bounds_of w; r5 = λ w. absurd w; r6 = λ w. ap bounds_of w; s0 = λ w. ap bounds_of w; s1 = λ w. ap bounds_of w; s2 = λ w. ap bounds_of w; s3 = λ w. ap bounds_of w; s4 = λ w. ap bounds_of w; c1 = λ w. ap bounds_of w; c2 = λ w. ap bounds_of w; c3 = λ w. ap bounds_of w; c4 = λ w. ap bounds_of w; c5 = λ w. ap bounds_of w; c6 = λ w. ap bounds_of w; nb = λ w. ap bounds_of w; n0 = λ w. ap bounds_of w; n1 = λ w. ap bounds_of w; n2 = λ w. ap bounds_of w; n3 = λ w. ap bounds_of w; n4 = λ w. ap bounds_of w; n5 = λ w. ap bounds_of w; n6 = λ w. ap bounds_of w; n7 = λ w. ap bounds_of w; n8a = λ w. ap bounds_of w; n8b = λ w. ap bounds_of w; n9 = λ w. ap bounds_of w; n10 = λ w. ap bounds_of w; n11 = λ w. ap bounds_of w; e0 = λ w. ap bounds_of w; e1 = λ w. ap bounds_of w; e2 = λ w. ap bounds_of w; e3 = λ w. ap bounds_of w; e4a = λ w. ap bounds_of w; e4b = λ w. ap bounds_of w; e4c = λ w. ap bounds_of w; e4d = λ w. ap bounds_of w; e4e = λ w. ap bounds_of w; e4f = λ w. ap bounds_of w; e4g = λ w. ap bounds_of w; e4h = λ w. ap bounds_of w; t = λ w. ap bounds_of w; e5 = λ w. ap bounds_of w; e6 = λ w. ap bounds_of w; e7 = λ w. absurd w }) (facts_of p r ws apic base) l met is
 
 -- what the transitions of a run say of the held APIC ID after the hand-over; nobody is past the gate when an add begins and none was left

@@ -27,3 +27,6 @@ pub mod MonarchSteps
 pub mod Tallying
 pub mod Held
 pub mod Answered
+pub mod FactRows
+pub mod Facts
+pub mod Classing

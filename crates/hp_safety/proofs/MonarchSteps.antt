@@ -22,7 +22,7 @@ use Rattle.hp_model.specs.Monarch.{Monarch, restarted}
 use Rattle.hp_model.specs.Handlers.{Seat, want_at, wanted_at, next_at, runs_at, address_of_label}
 use Rattle.hp_model.specs.Step.{State, After, at, access_effect, answer_to, answer_of, is_enabled, row_at, seat, is_that_access, is_that_outcome, is_rsm, is_handlers, wanted_in, row_led, handlers_led, firmware_led, effect_of, enter_smm, with_session, step}
 use Rattle.hp_model.specs.Runs.{address_of}
-use Rattle.hp_model.specs.Events.{outcome_in, is_entry_of, is_resume_of}
+use Rattle.hp_model.specs.Events.{outcome_in, is_access_of, is_entry_of, is_resume_of}
 use Rattle.hp_model.specs.Account.{is_at}
 use Rattle.hp_model.specs.Sessions.{bounds_session}
 use Rattle.hp_sealed.specs.Left.{Sound}
@@ -56,6 +56,7 @@ pub record IsOthers (p : Platform) (s : State) (e : Entry) (r : Monarch) : Type 
   pub elsewhere : IsElsewhere p e
   pub bounds : bounds_session e ≡ false
   pub told : outcome_in e.event ≡ None
+  pub out : is_access_of 0 e.event ≡ true → smm_address (at s 0) ≡ None
   pub same : r ≡ s.monarch
 
 -- a row of the monarch's
@@ -87,8 +88,8 @@ MonarchStep p s e r = IsOthers p s e r ⊎ (IsRow p s e r ⊎ (IsBeginning p s e
 abbrev bounds : Event → Bool
 bounds v = is_entry_of 0 v || is_resume_of 0 v
 
-others_outside : (p : Platform) (s : State) (e : Entry) (r : Monarch) → e.at ≡ None → bounds_session e ≡ false → outcome_in e.event ≡ None → r ≡ s.monarch → MonarchStep p s e r
-others_outside p s e r place bound told same = inl (record { elsewhere = λ m mine. at_none p m e place; bounds = bound; told = told; same = same })
+others_outside : (p : Platform) (s : State) (e : Entry) (r : Monarch) → e.at ≡ None → bounds_session e ≡ false → outcome_in e.event ≡ None → (is_access_of 0 e.event ≡ true → smm_address (at s 0) ≡ None) → r ≡ s.monarch → MonarchStep p s e r
+others_outside p s e r place bound told out same = inl (record { elsewhere = λ m mine. at_none p m e place; bounds = bound; told = told; out = out; same = same })
 
 -- at E7 alone the monarch returns
 seven : (p : Platform) (q : Seat) (r : Monarch) (ws : List Write) (l : Label) → Met p r ws q.apic q.base l → part_of l ≡ Monarchs → is_rsm (want_at (layout_of p) q r l) ≡ true → l ≡ E7
@@ -118,6 +119,11 @@ module _ (p : Platform) (m : List Write) (s : State) (k : ℕ) (l : Label) (soun
         next = next ∙ (ap (λ x. (next_at (layout_of p) (seat p s k) s.monarch l x).monarch) (sym answer) ∙ ap (λ i. (next_at (layout_of p) (seat p s i) s.monarch l (value_in e.answer)).monarch) z);
       }))
 
+  not_zero : (q : Part) → q ≢ Monarchs → runs_at (layout_of p) q k (at s k).smbase ≡ true → k ≡ 0 → ⊥
+  not_zero First n runs z = absurd (let f : (not (0 == 0) && ((at s k).smbase == 0x30000)) ≡ true = subst (λ i. (not (i == 0) && ((at s k).smbase == 0x30000)) ≡ true) z runs in cc)
+  not_zero Relocated n runs z = absurd (let f : runs_at (layout_of p) Relocated 0 (at s k).smbase ≡ true = subst (λ i. runs_at (layout_of p) Relocated i (at s k).smbase ≡ true) z runs in cc)
+  not_zero Monarchs n runs z = absurd (n refl)
+
   steps_made : (a : Access) (w : Option Want) → e.event ≡ Do k a → e.answer ≡ answer_to true a s → want_at (layout_of p) (seat p s k) s.monarch l ≡ w → LeadsOn p k s (seat p s k) s.monarch l w → is_that_access w a ≡ true → MonarchStep p s e (row_led p s k (answer_to true a s) (Some l) (access_effect p k true a s)).monarch
   steps_made a None event answer is leads f = absurd cc
   steps_made a (Some (want.Do b)) event answer is leads f =
@@ -131,6 +137,7 @@ module _ (p : Platform) (m : List Write) (s : State) (k : ℕ) (l : Label) (soun
           elsewhere = away other;
           bounds = ap bounds event;
           told = ap outcome_in event;
+          out = λ f. absurd (not_zero (part_of l) other here.cell.runs (eqb-true k 0 (sym (ap (is_access_of 0) event) ∙ f)));
           same = subst (λ c. (next_at (layout_of p) (seat p s k) s.monarch l (value_in (answer_to true c s))).monarch ≡ s.monarch) (sym same) (leads.others other);
         })
       ]
@@ -155,7 +162,7 @@ module _ (p : Platform) (m : List Write) (s : State) (k : ℕ) (l : Label) (soun
         let z = row_first p s k l here mine in
         let is = seven p (seat p s k) s.monarch s.writes l here.cell.met mine wanted in
         inr (inr (inr (record { event = event ∙ ap Resume z; here = due_label_is s.monarch l here.cell.due mine ∙ is; place = at_tile mine ∙ ap (λ x. Some (address_of_label (tile p 0) x)) is; same = refl })))
-    | inr other ↦ inl (record { elsewhere = away other; bounds = ap bounds event ∙ not_first (part_of l) other here.cell.runs; told = ap outcome_in event; same = refl })
+    | inr other ↦ inl (record { elsewhere = away other; bounds = ap bounds event ∙ not_first (part_of l) other here.cell.runs; told = ap outcome_in event; out = λ f. absurd (let both = sym (ap (is_access_of 0) event) ∙ f in cc); same = refl })
   ]
     where
       off : (c : Bool) → not c ≡ true → c ≡ false
@@ -176,15 +183,15 @@ steps_smi p m s k e h may event place =
       rests = h.rests (subst (λ i. smm_address (at s i) ≡ None) (eqb-true k 0 z) (may_outside (at s k) may));
       next = refl;
     }))))
-    (λ z. others_outside p s e s.monarch place (ap bounds event ∙ neither (k == 0) z) (ap outcome_in event) refl)
+    (λ z. others_outside p s e s.monarch place (ap bounds event ∙ neither (k == 0) z) (ap outcome_in event) (λ f. absurd (let both = sym (ap (is_access_of 0) event) ∙ f in cc)) refl)
   where
     neither : (c : Bool) → c ≡ false → (c || false) ≡ false
     neither true f = absurd cc
     neither false f = refl
 
 steps_event : (p : Platform) (m : List Write) (s : State) (e : Entry) (v : Event) → Sound p → Invariant p m s → e.event ≡ v → address_of s v ≡ e.at → e.answer ≡ answer_of s v → is_enabled p s v ≡ true → is_handlers p s v ≡ true → MonarchStep p s e (handlers_led p s v (effect_of p s v)).monarch
-steps_event p m s e (Insert k) sound h event place answer may wanted = others_outside p s e s.monarch (sym place) (ap bounds event) (ap outcome_in event) refl
-steps_event p m s e (Remove k) sound h event place answer may wanted = others_outside p s e s.monarch (sym place) (ap bounds event) (ap outcome_in event) refl
+steps_event p m s e (Insert k) sound h event place answer may wanted = others_outside p s e s.monarch (sym place) (ap bounds event) (ap outcome_in event) (λ f. absurd (let both = sym (ap (is_access_of 0) event) ∙ f in cc)) refl
+steps_event p m s e (Remove k) sound h event place answer may wanted = others_outside p s e s.monarch (sym place) (ap bounds event) (ap outcome_in event) (λ f. absurd (let both = sym (ap (is_access_of 0) event) ∙ f in cc)) refl
 steps_event p m s e (Do k a) sound h event place answer may wanted = by_mode (is_in_smm (at s k).mode) refl wanted answer
   where
     by_mode : (b : Bool) → is_in_smm (at s k).mode ≡ b → (not b || is_that_access (wanted_at (layout_of p) s.monarch (seat p s k) (row_at p s k)) a) ≡ true → e.answer ≡ answer_to b a s → MonarchStep p s e (cond b (row_led p s k (answer_to b a s) (row_at p s k) (access_effect p k b a s)) (access_effect p k b a s)).monarch
@@ -195,9 +202,9 @@ steps_event p m s e (Do k a) sound h event place answer may wanted = by_mode (is
         by_row (Some l) is f =
             let here = row_stands p m s k l sound h is in
             steps_made p m s k l sound h here e place a (want_at (layout_of p) (seat p s k) s.monarch l) event g refl (row_next p m s k l sound h here) f
-    by_mode false mode f g = others_outside p s e _ (sym place ∙ outside_none (at s k) mode) (ap bounds event) (ap outcome_in event) (acts p k false a s).monarch
+    by_mode false mode f g = others_outside p s e _ (sym place ∙ outside_none (at s k) mode) (ap bounds event) (ap outcome_in event) (λ f. subst (λ i. smm_address (at s i) ≡ None) (eqb-true k 0 (sym (ap (is_access_of 0) event) ∙ f)) (outside_none (at s k) mode)) (acts p k false a s).monarch
 steps_event p m s e (TakeSmi k) sound h event place answer may wanted = steps_smi p m s k e h may event (sym place ∙ may_outside (at s k) may)
-steps_event p m s e (TakeInit k) sound h event place answer may wanted = others_outside p s e s.monarch (sym place ∙ init_outside (at s k) may) (ap bounds event) (ap outcome_in event) refl
+steps_event p m s e (TakeInit k) sound h event place answer may wanted = others_outside p s e s.monarch (sym place ∙ init_outside (at s k) may) (ap bounds event) (ap outcome_in event) (λ f. absurd (let both = sym (ap (is_access_of 0) event) ∙ f in cc)) refl
 steps_event p m s e (Resume k) sound h event place answer may wanted = by_row (row_at p s k) refl wanted
   where
     by_row : (o : Option Label) → row_at p s k ≡ o → is_rsm (wanted_at (layout_of p) s.monarch (seat p s k) o) ≡ true → MonarchStep p s e s.monarch

@@ -76,6 +76,7 @@ pub record Moves (p : Platform) (s : State) (e : Event) (t : State) : Type 0 whe
   pub changes : (k : ℕ) → (at s k).present ≡ true → (at t k).present ≡ true → ((at t k).smbase ≡ (at s k).smbase) ⊎ Relocates p s e k
   pub climbs : (k : ℕ) → is_past (smm_address (at t k)) ≡ true → (is_past (smm_address (at s k)) ≡ true) ⊎ Passes p s e k
   pub gates : IsShut t.writes ⊎ (((i : ℕ) → i < 8 → IsLeft (gate + i) s.writes t.writes) ⊎ Opens p s e t)
+  pub enters : smm_address (at s 0) ≡ None → (smm_address (at t 0) ≡ None) ⊎ (e ≡ TakeSmi 0)
 
 -- the gate after a row's access
 abbrev pub GateOf : Monarch → Label → List Write → List Write → Type 0
@@ -175,6 +176,10 @@ calm_past : (c d : Cpu) → Calm c d → is_past (smm_address d) ≡ true → is
 calm_past c d (inl s) f = sym (ap is_past s.address) ∙ f
 calm_past c d (inr g) f = absurd (let e : false ≡ true = sym (ap (λ (x : Cpu). is_past (smm_address x)) g) ∙ f in cc)
 
+calm_none : (c d : Cpu) → Calm c d → smm_address c ≡ None → smm_address d ≡ None
+calm_none c d (inl s) f = s.address ∙ f
+calm_none c d (inr g) f = ap smm_address g
+
 -- a row, where its answer has led it on
 moves_led : (p : Platform) (m : List Write) (s u : State) (e : Event) (k : ℕ) (l : Label) (n : Next) → Sound p → Invariant p m s → AtRow p s k l → Stays (at s k) (at u k) → ((j : ℕ) → Calm (at s j) (at u j)) → part_of n.label ≡ part_of l → (is_aloft (need_of n.label) ≡ true → (is_aloft (need_of l) ≡ true) ⊎ Passes p s e k) → IsShut u.writes ⊎ (((i : ℕ) → i < 8 → IsLeft (gate + i) s.writes u.writes) ⊎ Opens p s e u) → Moves p s e (with_next k (at s k).smbase n u)
 moves_led p m s u e k l n sound h here stays calm side climbs gates =
@@ -195,6 +200,8 @@ moves_led p m s u e k l n sound h here stays calm side climbs gates =
             | inr passes ↦ inr passes
           ]) (λ i other g. inl (calm_past (at s i) (at u i) (calm i) g)) j f;
       gates = elim gates [ inl shut ↦ inl shut | inr more ↦ elim more [ inl left ↦ inr (inl left) | inr opens ↦ inr (inr (record { event = opens.event; place = opens.place; label = opens.label; value = opens.value; written = opens.written })) ] ];
+      enters = λ none. inl (set_all (λ i c. i ≡ 0 → smm_address c ≡ None) u.cpus k (go_on b n (at u k)) (λ z. refl) (λ z. absurd (let both = sym (subst (λ i. smm_address (at s i) ≡ None) (sym z) none) ∙ here.is in cc))
+          (λ i other z. calm_none (at s i) (at u i) (calm i) (subst (λ j. smm_address (at s j) ≡ None) (sym z) none)) 0 refl);
     }
 
 -- a row's access, made: at F1 the gate may be passed, at N7 it is opened
@@ -299,14 +306,15 @@ moves_outside p m s k a sound h =
       changes = λ j f g. inl (calm_stays (at s j) (at t j) (calm j) g).smbase;
       climbs = λ j f. inl (calm_past (at s j) (at t j) (calm j) f);
       gates = inr (inl (λ i less. left_acted p k a s (gate + i) (default_locked p s.locks (gate + i) h.locked.registers (in_area i less))));
+      enters = λ none. inl (calm_none (at s 0) (at t 0) (calm 0) none);
     }
   where
     in_area : (i : ℕ) → i < 8 → (nat_le 0x30000 (0x30000 + i) && nat_lt (0x30000 + i) 0x50000) ≡ true
     in_area i less = grind (arith, nat_tests)
 
 -- one processor changes
-moves_set : (p : Platform) (s t : State) (e : Event) (k : ℕ) (d : Cpu) → t.cpus ≡ slice_set s.cpus k d → (d.present ≡ true → ((at s k).present ≡ true) ⊎ (d.smbase ≡ 0x30000)) → ((at s k).present ≡ true → d.present ≡ true → (d.smbase ≡ (at s k).smbase) ⊎ Relocates p s e k) → (is_past (smm_address d) ≡ true → is_past (smm_address (at s k)) ≡ true) → ((i : ℕ) → i < 8 → IsLeft (gate + i) s.writes t.writes) → Moves p s e t
-moves_set p s t e k d is comes changes climbs left = record {
+moves_set : (p : Platform) (s t : State) (e : Event) (k : ℕ) (d : Cpu) → t.cpus ≡ slice_set s.cpus k d → (d.present ≡ true → ((at s k).present ≡ true) ⊎ (d.smbase ≡ 0x30000)) → ((at s k).present ≡ true → d.present ≡ true → (d.smbase ≡ (at s k).smbase) ⊎ Relocates p s e k) → (is_past (smm_address d) ≡ true → is_past (smm_address (at s k)) ≡ true) → ((i : ℕ) → i < 8 → IsLeft (gate + i) s.writes t.writes) → (k ≡ 0 → smm_address (at s k) ≡ None → (smm_address d ≡ None) ⊎ (e ≡ TakeSmi 0)) → Moves p s e t
+moves_set p s t e k d is comes changes climbs left enters = record {
   comes = λ j. subst (λ cs. (cpu_at cs j).present ≡ true → ((at s j).present ≡ true) ⊎ ((cpu_at cs j).smbase ≡ 0x30000)) (sym is)
       (set_all (λ i c. c.present ≡ true → ((at s i).present ≡ true) ⊎ (c.smbase ≡ 0x30000)) s.cpus k d (λ f. absurd cc) comes (λ i other f. inl f) j);
   changes = λ j. subst (λ cs. (at s j).present ≡ true → (cpu_at cs j).present ≡ true → ((cpu_at cs j).smbase ≡ (at s j).smbase) ⊎ Relocates p s e j) (sym is)
@@ -314,6 +322,8 @@ moves_set p s t e k d is comes changes climbs left = record {
   climbs = λ j. subst (λ cs. is_past (smm_address (cpu_at cs j)) ≡ true → (is_past (smm_address (at s j)) ≡ true) ⊎ Passes p s e j) (sym is)
       (set_all (λ i c. is_past (smm_address c) ≡ true → (is_past (smm_address (at s i)) ≡ true) ⊎ Passes p s e i) s.cpus k d (λ f. absurd cc) (λ f. inl (climbs f)) (λ i other f. inl f) j);
   gates = inr (inl left);
+  enters = subst (λ cs. smm_address (at s 0) ≡ None → (smm_address (cpu_at cs 0) ≡ None) ⊎ (e ≡ TakeSmi 0)) (sym is)
+      (λ none. set_all (λ i c. i ≡ 0 → (smm_address c ≡ None) ⊎ (e ≡ TakeSmi 0)) s.cpus k d (λ z. inl refl) (λ z. enters z (subst (λ i. smm_address (at s i) ≡ None) (sym z) none)) (λ i other z. inl (subst (λ j. smm_address (at s j) ≡ None) (sym z) none)) 0 refl);
 }
 
 -- nothing but the rest of the state changes
@@ -323,6 +333,7 @@ moves_still p s t e is same = record {
   changes = λ j. subst (λ cs. (at s j).present ≡ true → (cpu_at cs j).present ≡ true → ((cpu_at cs j).smbase ≡ (at s j).smbase) ⊎ Relocates p s e j) (sym is) (λ f g. inl refl);
   climbs = λ j. subst (λ cs. is_past (smm_address (cpu_at cs j)) ≡ true → (is_past (smm_address (at s j)) ≡ true) ⊎ Passes p s e j) (sym is) (λ f. inl f);
   gates = inr (inl (λ i less. subst (IsLeft (gate + i) s.writes) (sym same) (left_same (gate + i) s.writes)));
+  enters = subst (λ cs. smm_address (at s 0) ≡ None → (smm_address (cpu_at cs 0) ≡ None) ⊎ (e ≡ TakeSmi 0)) (sym is) (λ none. inl none);
 }
 
 moves_smi : (p : Platform) (m : List Write) (s : State) (k : ℕ) → Sound p → Invariant p m s → may_take_smi (at s k) ≡ true → Moves p s (TakeSmi k) (with_session k (enter_smm k s))
@@ -350,7 +361,7 @@ moves_smi p m s k sound h may =
     to t is same =
         moves_set p s t (TakeSmi k) k (take_smi (at s k)) is (λ f. inl present) (λ f g. inl refl)
         (λ f. absurd (let lands : smm_address (take_smi (at s k)) ≡ Some ((at s k).smbase + 0x8000) = rw present refl in let g = sym (ap is_past lands ∙ first_cell (at s k).smbase base.unit base.whole) ∙ f in cc))
-        (λ i less. subst (IsLeft (gate + i) s.writes) (sym same) (left_saved s.locks (at s k) s.writes (gate + i) base.unit base.whole (low i less)))
+        (λ i less. subst (IsLeft (gate + i) s.writes) (sym same) (left_saved s.locks (at s k) s.writes (gate + i) base.unit base.whole (low i less))) (λ z none. inr (ap TakeSmi z))
 
 -- RSM: a tile's own stays
 moves_rsm : (p : Platform) (m : List Write) (s : State) (k : ℕ) (l : Label) → Sound p → Invariant p m s → AtRow p s k l → is_rsm (want_at (layout_of p) (seat p s k) s.monarch l) ≡ true → Moves p s (Resume k) (leave_smm k s)
@@ -360,7 +371,7 @@ moves_rsm p m s k l sound h here wanted =
     let to = resumed (saved_smbase s.locks s.writes c) (saved_rip s.locks s.writes c) c in
     let present = smm_present c here.address here.is in
     moves_set p s (leave_smm k s) (Resume k) k to refl (λ f. inl present) (λ f g. changes returns (returns_to p m s k l sound h here returns)) (λ f. absurd (let g = sym (ap is_past (none_if c.present None)) ∙ f in cc))
-    (λ i less. left_same (gate + i) s.writes)
+    (λ i less. left_same (gate + i) s.writes) (λ z none. inl (none_if c.present None))
   where
     none_if : (b : Bool) (o : Option ℕ) → cond b o o ≡ o
     none_if true o = refl
@@ -380,7 +391,7 @@ moves_rsm p m s k l sound h here wanted =
     changes (inr n) read = inl (read ∙ reads_tile p m s k l sound h here n.0)
 
 moves_event : (p : Platform) (m : List Write) (s : State) (e : Event) → Sound p → Invariant p m s → is_enabled p s e ≡ true → is_handlers p s e ≡ true → Moves p s e (handlers_led p s e (effect_of p s e))
-moves_event p m s (Insert k) sound h may wanted = moves_set p s (insert k s) (Insert k) k inserted refl (λ f. inr refl) (λ f g. absurd (gone (at s k).present (and_parts (nat_lt k (count_of p)) (not (at s k).present) may).1 f)) (λ f. absurd cc) (λ i less. left_same (gate + i) s.writes)
+moves_event p m s (Insert k) sound h may wanted = moves_set p s (insert k s) (Insert k) k inserted refl (λ f. inr refl) (λ f g. absurd (gone (at s k).present (and_parts (nat_lt k (count_of p)) (not (at s k).present) may).1 f)) (λ f. absurd cc) (λ i less. left_same (gate + i) s.writes) (λ z none. inl refl)
   where
     gone : (b : Bool) → not b ≡ true → b ≡ true → ⊥
     gone true e f = cc
@@ -394,7 +405,7 @@ moves_event p m s (Do k a) sound h may wanted = by_mode (is_in_smm (at s k).mode
 moves_event p m s (TakeSmi k) sound h may wanted = moves_smi p m s k sound h may
 moves_event p m s (TakeInit k) sound h may wanted =
     let stays : Stays (at s k) (take_init (at s k)) = stays_init (at s k) may in
-    moves_set p s (set_cpu k (take_init (at s k)) s) (TakeInit k) k (take_init (at s k)) refl (λ f. inl f) (λ f g. inl refl) (λ f. sym (ap is_past stays.address) ∙ f) (λ i less. left_same (gate + i) s.writes)
+    moves_set p s (set_cpu k (take_init (at s k)) s) (TakeInit k) k (take_init (at s k)) refl (λ f. inl f) (λ f g. inl refl) (λ f. sym (ap is_past stays.address) ∙ f) (λ i less. left_same (gate + i) s.writes) (λ z none. inl (stays.address ∙ none))
 moves_event p m s (Resume k) sound h may wanted = by_row (row_at p s k) refl wanted
   where
     by_row : (o : Option Label) → row_at p s k ≡ o → is_rsm (wanted_at (layout_of p) s.monarch (seat p s k) o) ≡ true → Moves p s (Resume k) (leave_smm k s)
@@ -418,4 +429,5 @@ moves p m s e t sound h is =
       changes = done.changes;
       climbs = done.climbs;
       gates = elim done.gates [ inl shut ↦ inl shut | inr more ↦ elim more [ inl left ↦ inr (inl left) | inr opens ↦ inr (inr (record { event = opens.event; place = opens.place; label = opens.label; value = opens.value; written = opens.written })) ] ];
+      enters = done.enters;
     })

@@ -98,7 +98,7 @@ pub placed_forgotten : (p : Platform) (s : Slots) (a : ℕ) → Placed p s → P
 placed_forgotten p s a h = record { first = h.first; distinct = h.distinct; possible = h.possible; known = length-set s.known (place_of s.bound a) false ∙ h.known }
 
 -- the place of one that is bound, and isn't processor 0's
-place_below : (bs : List ℕ) (a : ℕ) → is_in a bs ≡ true → place_of bs a < length bs
+pub place_below : (bs : List ℕ) (a : ℕ) → is_in a bs ≡ true → place_of bs a < length bs
 place_below [] a e = absurd cc
 place_below (b ∷ bs) a e = by_head (b == a) e (λ f. place_below bs a f)
   where

@@ -2,6 +2,7 @@
 use Rattle.std.specs.Prelude.{ℕ, ◌≡◌, ◌⊎◌, Bool, true, false, ◌+◌, ◌==◌, ◌||◌, List, [], length, Option, Some, None, slice_get, if◌then◌else◌}
 use Rattle.hp_model.specs.declared.platforms.Platform.{Platform}
 use Rattle.hp_model.specs.declared.outcomes.Outcome.{Outcome}
+use Rattle.hp_model.specs.declared.outcomes.Outcome.TheVariants.{Added, Ejected, Refused}
 use Rattle.hp_model.specs.declared.entries.Entry.{Entry}
 use Rattle.hp_model.specs.declared.labels.Label.{Label}
 use Rattle.hp_model.specs.declared.labels.Label.TheVariants.{F1, F2, F3, F4, F5, F6, R1, R2, R3, R4, R5, R6, S0, S1, S2, S3, S4, C1, C2, C3, C4, C5, C6, NB, N0, N1, N2, N3, N4, N5, N6, N7, N8a, N8b, N9, N10, N11, E0, E1, E2, E3, E4a, E4b, E4c, E4d, E4e, E4f, E4g, E4h, T, E5, E6, E7}
@@ -129,12 +130,19 @@ pub record Answers (a : Tally) (reports : List Report) (taken : ℕ) (by_cpu by_
 abbrev pub Holds : Tally → Option ℕ → ℕ → Type 0
 Holds a held apic = (held ≡ Some apic) × ((a.left ≡ None) ⊎ (a.left ≡ Some apic))
 
+-- who is told as added is held
+abbrev pub IsHeldBy : Outcome → Option ℕ → Type 0
+IsHeldBy (Added cpu apic slot) held = held ≡ Some apic
+IsHeldBy (Ejected cpu apic slot) held = Unit {0}
+IsHeldBy (Refused why) held = Unit {0}
+
 -- what is held, and will be once this outcome is told
 pub record Says (a : Tally) (reports : List Report) (taken : ℕ) (now after : Option ℕ) (o : Outcome) : Type 0 where
   pub report : Report
   pub is : IsOpen a reports taken report
   pub held : held_in a ≡ now
   pub left : told_held a.left o ≡ after
+  pub added : IsHeldBy o now
 
 abbrev pub TallyAt : Tally → Monarch → Turn → Type 0
 TallyAt a r Waiting = (a.reports ≡ []) × (a.told ≡ 0) × IsIdle a r

@@ -18,8 +18,9 @@ use Rattle.hp_model.specs.Handlers.{Seat, next_at}
 use Rattle.hp_sealed.proofs.Left.{pick}
 use Rattle.hp_safety.proofs.Needs.{Nothing, need_of, Facts, Needs}
 use Rattle.hp_safety.proofs.EachRow.{row_of_each}
+use Rattle.hp_safety.proofs.Invariant.{is_added}
 use Rattle.hp_safety.proofs.Leading.{Says as ClassSays, class_says}
-use Rattle.hp_safety.proofs.Tallies.{Tally, held_in, tally_told, tally_after, Turn, Waiting, Collecting, Beginning, Running, Parting, Telling, Ending, Over, turn_of, IsIdle, IsOpen, Answers, Says, TallyAt, Tallied}
+use Rattle.hp_safety.proofs.Tallies.{Tally, held_in, tally_told, tally_after, Turn, Waiting, Collecting, Beginning, Running, Parting, Telling, Ending, Over, turn_of, IsIdle, IsHeldBy, IsOpen, Answers, Says, TallyAt, Tallied}
 
 -- what is told of a report at once changes nothing of what is held
 abbrev pub IsMere : Outcome → Type 0
@@ -48,7 +49,7 @@ class_mere f t =
     (pick TellsMere (f.look == 0) (refuses (NotArrived t.cpu t.apic)) Ejects ((λ x. refl), λ r. refl) tt))))))
 
 -- the next report of a list
-first_dropped : (n : ℕ) (ts : List Report) (t : Report) (us : List Report) → drop n ts ≡ t ∷ us → slice_get ts n ≡ Some t
+pub first_dropped : (n : ℕ) (ts : List Report) (t : Report) (us : List Report) → drop n ts ≡ t ∷ us → slice_get ts n ≡ Some t
 first_dropped zero [] t us e = absurd cc
 first_dropped zero (x ∷ xs) t us e = ap first e
   where
@@ -76,6 +77,11 @@ held_idle A held runs left = rw runs left
 held_running : (A : Tally) (reports : List Report) (taken cpu apic : ℕ) (held : Option ℕ) → Answers A reports taken cpu apic → A.runs ≡ true → held ≡ Some apic → held_in A ≡ held
 held_running A reports taken cpu apic held h runs is = let first = h.is.unanswered in rw (runs, first) (ap Some h.apic ∙ sym is)
 
+not_added : (o : Outcome) (held : Option ℕ) → is_added o ≡ false → IsHeldBy o held
+not_added (outcome.Added cpu apic slot) held e = absurd cc
+not_added (outcome.Ejected cpu apic slot) held e = tt
+not_added (outcome.Refused why) held e = tt
+
 -- the next report is taken up
 tally_answered : (ids : List ℕ) (A : Tally) (r : Monarch) (t : Report) → A.reports ≡ r.collection.reports → A.told ≡ r.taken → IsIdle A r → slice_get A.reports A.told ≡ Some t → Tallied A (answered (class (facts_by ids r t) t) t (took r))
 tally_answered ids A r t reports taken idle first = by_class (class (facts_by ids r t) t) (class_mere (facts_by ids r t) t) (class_says ids r t)
@@ -90,6 +96,7 @@ tally_answered ids A r t reports taken idle first = by_class (class (facts_by id
       is = record { reported = reports; taken_up = ap (λ n. n + 1) taken; unanswered = first };
       held = held_idle A r.slots.held idle.0 idle.1;
       left = mere.0 A.left ∙ (idle.1 ∙ sym (mere.1 (tells o (took r))));
+      added = not_added o r.slots.held says;
     }
     by_class Adds mere says = (
       record { report = t; is = record { reported = reports; taken_up = ap (λ n. n + 1) taken; unanswered = first }; cpu = refl; apic = refl },
@@ -164,11 +171,11 @@ tally_reported ids count v A r h =
     tally_processor ids count (record r.collection { reports = r.collection.reports ++ t ∷ [] }) (record { reports = A.reports ++ t ∷ []; told = A.told; runs = A.runs; left = A.left }) r (ap (λ ts. ts ++ t ∷ []) h.0) h.1 h.2 h.3
 
 -- an add
-tally_ends : (why : Outcome) (A : Tally) (r : Monarch) → TallyAt A r Running → told_held A.left why ≡ (told why (tells why r)).slots.held → Tallied A (led (Ends why) r)
-tally_ends why A r h left = record { report = h.0.report; is = h.0.is; held = held_running A r.collection.reports r.taken r.add.cpu r.add.apic r.slots.held h.0 h.1 h.2.0; left = left }
+tally_ends : (why : Outcome) (A : Tally) (r : Monarch) → TallyAt A r Running → told_held A.left why ≡ (told why (tells why r)).slots.held → IsHeldBy why r.slots.held → Tallied A (led (Ends why) r)
+tally_ends why A r h left added = record { report = h.0.report; is = h.0.is; held = held_running A r.collection.reports r.taken r.add.cpu r.add.apic r.slots.held h.0 h.1 h.2.0; left = left; added = added }
 
-tally_failed : (why : Outcome) (A : Tally) (r : Monarch) → TallyAt A r Running → told_held A.left why ≡ (told why (tells why r)).slots.held → Tallied A (led (failed why r.add) r)
-tally_failed why A r h left = pick (λ x. Tallied A (led x r)) (nat_lt r.add.attempt 3) (AddsAt N0 (record r.add { attempt = r.add.attempt + 1 })) (Ends why) h (tally_ends why A r h left)
+tally_failed : (why : Outcome) (A : Tally) (r : Monarch) → TallyAt A r Running → told_held A.left why ≡ (told why (tells why r)).slots.held → IsHeldBy why r.slots.held → Tallied A (led (failed why r.add) r)
+tally_failed why A r h left added = pick (λ x. Tallied A (led x r)) (nat_lt r.add.attempt 3) (AddsAt N0 (record r.add { attempt = r.add.attempt + 1 })) (Ends why) h (tally_ends why A r h left added)
 
 tally_flag : (v : ℕ) (A : Tally) (r : Monarch) → TallyAt A r Running → Tallied A (led (saw_flag v r.add) r)
 tally_flag v A r h = pick (λ x. Tallied A (led x r)) (v == 1) (AddsAt N9 (record r.add { seen = true })) (AddsAt N8b r.add) h h
@@ -180,7 +187,7 @@ tally_pair v A r h =
 
 tally_shut : (A : Tally) (r : Monarch) → TallyAt A r Running → Tallied A (led (shut r.add) r)
 tally_shut A r h =
-    pick (λ x. Tallied A (led x r)) r.add.seen (AddsAt N10 r.add) (failed (outcome.Refused (NotAtGate r.add.cpu r.add.apic)) r.add) h (tally_failed (outcome.Refused (NotAtGate r.add.cpu r.add.apic)) A r h (sym h.2.0))
+    pick (λ x. Tallied A (led x r)) r.add.seen (AddsAt N10 r.add) (failed (outcome.Refused (NotAtGate r.add.cpu r.add.apic)) r.add) h (tally_failed (outcome.Refused (NotAtGate r.add.cpu r.add.apic)) A r h (sym h.2.0) tt)
 
 added_left : (left : Option ℕ) (cpu apic slot : ℕ) → (left ≡ None) ⊎ (left ≡ Some apic) → told_held left (outcome.Added cpu apic slot) ≡ None
 added_left left cpu apic slot (inl none) = rw none refl
@@ -191,9 +198,9 @@ added_left left cpu apic slot (inr it) = let same = itself apic in rw (it, same)
 
 tally_arrival : (v : ℕ) (A : Tally) (r : Monarch) → TallyAt A r Running → Tallied A (led (saw_arrival v r.add) r)
 tally_arrival v A r h =
-    pick (λ x. Tallied A (led x r)) (v == 1) (Ends (outcome.Added r.add.cpu r.add.apic r.add.slot)) _ (tally_ends (outcome.Added r.add.cpu r.add.apic r.add.slot) A r h (added_left A.left r.add.cpu r.add.apic r.add.slot h.2.1))
+    pick (λ x. Tallied A (led x r)) (v == 1) (Ends (outcome.Added r.add.cpu r.add.apic r.add.slot)) _ (tally_ends (outcome.Added r.add.cpu r.add.apic r.add.slot) A r h (added_left A.left r.add.cpu r.add.apic r.add.slot h.2.1) h.2.0)
     (pick (λ x. Tallied A (led x r)) (is_last_look r.add) (failed (outcome.Refused (NotCheckedIn r.add.cpu r.add.apic)) r.add) (looks N11 (r.add.polls - 1) r.add)
-    (tally_failed (outcome.Refused (NotCheckedIn r.add.cpu r.add.apic)) A r h (sym h.2.0)) h)
+    (tally_failed (outcome.Refused (NotCheckedIn r.add.cpu r.add.apic)) A r h (sym h.2.0) tt) h)
 
 -- an eject
 tally_parked : (v : ℕ) (A : Tally) (r : Monarch) → TallyAt A r Parting → Tallied A (eject_led (saw_parked v r.eject) r)
@@ -207,8 +214,8 @@ tally_status v A r h = pick (λ x. Tallied A (eject_led x r)) (bit_and v 0x10 ==
 tally_handed : (late : Bool) (A : Tally) (r : Monarch) → TallyAt A r Parting → Tallied A (at_label (handed_to_block late) r)
 tally_handed late A r h = pick (λ l. Tallied A (at_label l r)) late E4f E4c h h
 
-tally_ended : (o : Outcome) (A : Tally) (r : Monarch) → TallyAt A r Parting → IsMere o → (told o (tells o r)).slots.held ≡ r.slots.held → Tallied A (eject_led (EjectEnds o) r)
-tally_ended o A r h mere same = record { report = h.0.report; is = h.0.is; held = held_idle A r.slots.held h.1.0 h.1.1; left = mere A.left ∙ (h.1.1 ∙ sym same) }
+tally_ended : (o : Outcome) (A : Tally) (r : Monarch) → TallyAt A r Parting → IsMere o → (told o (tells o r)).slots.held ≡ r.slots.held → IsHeldBy o r.slots.held → Tallied A (eject_led (EjectEnds o) r)
+tally_ended o A r h mere same added = record { report = h.0.report; is = h.0.is; held = held_idle A r.slots.held h.1.0 h.1.1; left = mere A.left ∙ (h.1.1 ∙ sym same); added = added }
 
 -- an outcome is told
 tally_said : (ids : List ℕ) (o : Outcome) (A : Tally) (r u : Monarch) (t : Report) → u.collection ≡ r.collection → u.taken ≡ r.taken → told_held A.left o ≡ u.slots.held → IsOpen A r.collection.reports r.taken t → Tallied (tally_told o A) (next_report ids u)
@@ -267,15 +274,15 @@ row_tally A y q r v f l mine is met tally =
       e0 = λ g e h. h;
       e1 = λ g e h. h;
       e2 = λ g e h. tally_parked v A r h;
-      e3 = λ g e h. tally_ended (outcome.Refused (NotParked r.eject.cpu r.eject.apic)) A r h (λ x. refl) refl;
+      e3 = λ g e h. tally_ended (outcome.Refused (NotParked r.eject.cpu r.eject.apic)) A r h (λ x. refl) refl tt;
       e4a = λ g e h. h;
       e4b = λ g e h. tally_handed y.late A r h;
       e4c = λ g e h. h;
       e4d = λ g e h. h;
-      e4e = λ g e h. tally_ended (outcome.Ejected r.eject.cpu r.eject.apic r.eject.slot) A r h (λ x. refl) refl;
+      e4e = λ g e h. tally_ended (outcome.Ejected r.eject.cpu r.eject.apic r.eject.slot) A r h (λ x. refl) refl tt;
       e4f = λ g e h. h;
       e4g = λ g e h. tally_status v A r h;
-      e4h = λ g e h. tally_ended (outcome.Refused (StillPending r.eject.cpu r.eject.status)) A r h (λ x. refl) refl;
+      e4h = λ g e h. tally_ended (outcome.Refused (StillPending r.eject.cpu r.eject.status)) A r h (λ x. refl) refl tt;
       t = λ g e h. tally_told_on y.apics r.outcome A r h;
       e5 = λ g e h. tally_over E6 E7 A r refl refl h.1;
       e6 = λ g e h. tally_over_next E6 E7 A r refl refl h;

@@ -1,0 +1,262 @@
+-- What an outcome says follows from the class of its report.
+use Rattle.std.specs.Prelude.{if◌then◌else◌}
+use Rattle.std.proofs.Common.{ℕ, zero, suc, ◌≡◌, ◌+◌, ◌-◌, ◌≤◌, ◌==◌, Bool, true, false, not, ◌&&◌, ◌||◌, nat_lt, nat_le, List, [], ◌∷◌, length, drop, Option, Some, None, slice_get, bit_and, refl, sym, ap, subst, ◌∙◌, arith}
+use Rattle.std.specs.Str.{bytes_eq}
+use Rattle.std.proofs.lemmas.Bool.Decides.{nat_tests}
+use Rattle.hp_model.specs.declared.platforms.Platform.{Platform}
+use Rattle.hp_model.specs.declared.outcomes.Outcome.{Outcome}
+use Rattle.hp_model.specs.declared.outcomes.Outcome.TheVariants as outcome
+use Rattle.hp_model.specs.declared.outcomes.Refusal.TheVariants.{NotAtGate, NotCheckedIn, NotParked, StillPending}
+use Rattle.hp_model.specs.declared.labels.Label.{Label}
+use Rattle.hp_model.specs.declared.labels.Label.TheVariants.{F1, F2, F3, F4, F5, F6, R1, R2, R3, R4, R5, R6, S0, S1, S2, S3, S4, C1, C2, C3, C4, C5, C6, NB, N0, N1, N2, N3, N4, N5, N6, N7, N8a, N8b, N9, N10, N11, E0, E1, E2, E3, E4a, E4b, E4c, E4d, E4e, E4f, E4g, E4h, T, E5, E6, E7}
+use Rattle.hp_model.specs.Labels.{Monarch as Monarchs, part_of}
+use Rattle.hp_model.specs.SharedBytes.{Layout}
+use Rattle.hp_model.specs.Slots.{known_from}
+use Rattle.hp_model.specs.Collection.{Report, collection_start}
+use Rattle.hp_model.specs.Add.{Add, AddsAt, Ends, failed, looks, is_last_look, saw_flag, saw_pair, shut, saw_arrival}
+use Rattle.hp_model.specs.Eject.{EjectsAt, EjectEnds, awaits, saw_parked, handed_to_block, saw_status}
+use Rattle.hp_model.specs.Monarch.{Monarch, at_label, first_slot, next_slot, look_at, looked, noted, commanded, Class, Tells, Adds, Ejects, class, facts_of as facts_by, tells, took, answered, taken_up, next_report, led, eject_led}
+use Rattle.hp_model.specs.Handlers.{Seat, next_at}
+use Rattle.hp_model.specs.Step.{outcome_numbers, same_outcome}
+use Rattle.hp_model.specs.Outcomes.{ends_add, ends_eject, follows, answers_by}
+use Rattle.hp_sealed.proofs.Left.{pick}
+use Rattle.hp_safety.proofs.Needs.{need_of, Facts, Needs}
+use Rattle.hp_safety.proofs.EachRow.{row_of_each}
+use Rattle.hp_safety.proofs.Tallies.{Turn, Waiting, Collecting, Beginning, Running, Parting, Telling, Ending, Over, turn_of}
+use Rattle.hp_safety.proofs.Tallying.{first_dropped}
+
+-- this class, of this report, is the one by which the record acts
+pub record Names (o : Option Report) (by_cpu by_apic : ℕ) : Type 0 where
+  pub report : Report
+  pub is : o ≡ Some report
+  pub cpu : report.cpu ≡ by_cpu
+  pub apic : report.apic ≡ by_apic
+
+abbrev pub ClassAt : Class → Option Report → Monarch → Turn → Type 0
+ClassAt c o r Waiting = Unit {0}
+ClassAt c o r Collecting = Unit {0}
+ClassAt c o r Beginning = (c ≡ Adds) × Names o r.add.cpu r.add.apic
+ClassAt c o r Running = (c ≡ Adds) × Names o r.add.cpu r.add.apic
+ClassAt c o r Parting = (c ≡ Ejects) × Names o r.eject.cpu r.eject.apic
+ClassAt c o r Telling = answers_by c r.outcome o ≡ true
+ClassAt c o r Ending = Unit {0}
+ClassAt c o r Over = Unit {0}
+
+abbrev pub Classed : Class → Option Report → Monarch → Type 0
+Classed c o r = ClassAt c o r (turn_of r.label)
+
+itself : (n : ℕ) → (n == n) ≡ true
+itself n = grind (arith, nat_tests)
+
+-- nothing is asked where no report is answered
+abbrev IsFree : Turn → Type 0
+IsFree x = (c : Class) (o : Option Report) (r : Monarch) → ClassAt c o r x
+
+same_numbers : (ns : List ℕ) → bytes_eq ns ns ≡ true
+same_numbers [] = refl
+same_numbers (n ∷ ns) = rw (itself n) (same_numbers ns)
+
+told_same : (o : Outcome) → same_outcome o o ≡ true
+unfolding same_outcome
+told_same o = same_numbers (outcome_numbers o)
+
+-- the next report is taken up by its class
+class_answered : (c : Class) (t : Report) (r : Monarch) → Classed c (Some t) (answered c t (took r))
+class_answered (Tells o) t r = told_same o
+class_answered Adds t r = (refl, record { report = t; is = refl; cpu = refl; apic = refl })
+class_answered Ejects t r = (refl, record { report = t; is = refl; cpu = refl; apic = refl })
+
+pub class_report : (ids : List ℕ) (o : Option Report) (told : ℕ) (reports : List Report) (c : Report → Class) (r : Monarch) → o ≡ slice_get reports told → reports ≡ r.collection.reports → told ≡ r.taken → ((t : Report) → c t ≡ class (facts_by ids r t) t) → (k : Class) → ((t : Report) → o ≡ Some t → k ≡ c t) → Classed k o (next_report ids r)
+class_report ids o n reports c r is same taken judged k by_report = by_rest (drop r.taken r.collection.reports) refl
+  where
+    by_rest : (ts : List Report) → drop r.taken r.collection.reports ≡ ts → Classed k o (taken_up ids ts r)
+    by_rest [] e = tt
+    by_rest (t ∷ ts) e =
+        let first : o ≡ Some t = is ∙ (ap (λ xs. slice_get xs n) same ∙ (ap (slice_get r.collection.reports) taken ∙ first_dropped r.taken r.collection.reports t ts e)) in
+        subst (λ x. Classed x o (answered (class (facts_by ids r t) t) t (took r))) (sym (by_report t first ∙ judged t))
+        (subst (λ x. Classed (class (facts_by ids r t) t) x (answered (class (facts_by ids r t) t) t (took r))) (sym first) (class_answered (class (facts_by ids r t) t) t r))
+
+-- where nothing is asked
+class_first : (l n : Label) (c : Class) (o : Option Report) (r : Monarch) → IsFree (turn_of l) → IsFree (turn_of n) → Classed c o (first_slot l n r)
+class_first l n c o r free also = pick (Classed c o) (nat_lt 1 (length r.slots.bound)) (record r { label = l; slot = 1 }) (at_label n r) (free c o (record r { label = l; slot = 1 })) (also c o (at_label n r))
+
+class_next : (l n : Label) (c : Class) (o : Option Report) (r : Monarch) → IsFree (turn_of l) → IsFree (turn_of n) → Classed c o (next_slot l n r)
+class_next l n c o r free also = pick (Classed c o) (nat_lt (r.slot + 1) (length r.slots.bound)) (record r { label = l; slot = r.slot + 1 }) (at_label n r) (free c o (record r { label = l; slot = r.slot + 1 })) (also c o (at_label n r))
+
+class_known : (polls : ℕ) (k : Option ℕ) (c : Class) (o : Option Report) (r : Monarch) → Classed c o (look_at polls k r)
+class_known polls None c o r = tt
+class_known polls (Some k) c o r = tt
+
+class_looked : (polls v : ℕ) (c : Class) (o : Option Report) (r : Monarch) → r.label ≡ S3 → Classed c o (looked polls v r)
+class_looked polls v c o r is =
+    pick (Classed c o) ((v == 1) || nat_le r.polls 1) (look_at polls (known_from r.slots (r.slot + 1)) r) (record r { polls = r.polls - 1 }) (class_known polls (known_from r.slots (r.slot + 1)) c o r)
+    (subst (λ l. ClassAt c o (record r { polls = r.polls - 1 }) (turn_of l)) (sym is) tt)
+
+class_commanded : (v : ℕ) (c : Class) (o : Option Report) (r : Monarch) → Classed c o (commanded v r)
+class_commanded v c o r = pick (Classed c o) (v == 4) (record r { label = C1; collection = collection_start; taken = 0 }) (at_label E5 r) tt tt
+
+-- an add ends as adds do
+both : {a b x y : ℕ} → x ≡ a → y ≡ b → ((a == x) && (b == y)) ≡ true
+both {a = a} {b = b} e f = let i = itself a in let j = itself b in rw (e, f, i, j) refl
+
+one : {a x : ℕ} → x ≡ a → (a == x) ≡ true
+one {a = a} e = let i = itself a in rw (e, i) refl
+
+class_ends : (why : Outcome) (c : Class) (o : Option Report) (r : Monarch) → ClassAt c o r Running → ((t : Report) → t.cpu ≡ r.add.cpu → t.apic ≡ r.add.apic → ends_add t why ≡ true) → Classed c o (led (Ends why) r)
+class_ends why c o r h ends = let n = h.1 in rw (h.0, n.is) (ends n.report n.cpu n.apic)
+
+class_failed : (why : Outcome) (c : Class) (o : Option Report) (r : Monarch) → ClassAt c o r Running → ((t : Report) → t.cpu ≡ r.add.cpu → t.apic ≡ r.add.apic → ends_add t why ≡ true) → Classed c o (led (failed why r.add) r)
+class_failed why c o r h ends = pick (λ x. Classed c o (led x r)) (nat_lt r.add.attempt 3) (AddsAt N0 (record r.add { attempt = r.add.attempt + 1 })) (Ends why) h (class_ends why c o r h ends)
+
+class_flag : (v : ℕ) (c : Class) (o : Option Report) (r : Monarch) → ClassAt c o r Running → Classed c o (led (saw_flag v r.add) r)
+class_flag v c o r h = pick (λ x. Classed c o (led x r)) (v == 1) (AddsAt N9 (record r.add { seen = true })) (AddsAt N8b r.add) h h
+
+class_pair : (v : ℕ) (c : Class) (o : Option Report) (r : Monarch) → ClassAt c o r Running → Classed c o (led (saw_pair v r.add) r)
+class_pair v c o r h =
+    pick (λ x. Classed c o (led x r)) (v == 1) (AddsAt N9 (record r.add { seen = true })) _ h
+    (pick (λ x. Classed c o (led x r)) (is_last_look r.add) (AddsAt N9 (record r.add { seen = false })) (looks N8a (r.add.polls - 1) r.add) h h)
+
+class_shut : (c : Class) (o : Option Report) (r : Monarch) → ClassAt c o r Running → Classed c o (led (shut r.add) r)
+class_shut c o r h =
+    pick (λ x. Classed c o (led x r)) r.add.seen (AddsAt N10 r.add) (failed (outcome.Refused (NotAtGate r.add.cpu r.add.apic)) r.add) h
+    (class_failed (outcome.Refused (NotAtGate r.add.cpu r.add.apic)) c o r h (λ t cpu apic. both cpu apic))
+
+class_arrival : (v : ℕ) (c : Class) (o : Option Report) (r : Monarch) → ClassAt c o r Running → Classed c o (led (saw_arrival v r.add) r)
+class_arrival v c o r h =
+    pick (λ x. Classed c o (led x r)) (v == 1) (Ends (outcome.Added r.add.cpu r.add.apic r.add.slot)) _ (class_ends (outcome.Added r.add.cpu r.add.apic r.add.slot) c o r h (λ t cpu apic. both cpu apic))
+    (pick (λ x. Classed c o (led x r)) (is_last_look r.add) (failed (outcome.Refused (NotCheckedIn r.add.cpu r.add.apic)) r.add) (looks N11 (r.add.polls - 1) r.add)
+    (class_failed (outcome.Refused (NotCheckedIn r.add.cpu r.add.apic)) c o r h (λ t cpu apic. both cpu apic)) h)
+
+-- and an eject as ejects do
+class_parked : (v : ℕ) (c : Class) (o : Option Report) (r : Monarch) → ClassAt c o r Parting → Classed c o (eject_led (saw_parked v r.eject) r)
+class_parked v c o r h =
+    pick (λ x. Classed c o (eject_led x r)) (v == 1) (EjectsAt E4a r.eject) _ h
+    (pick (λ x. Classed c o (eject_led x r)) (nat_le r.eject.polls 1) (EjectsAt E3 r.eject) (awaits (r.eject.polls - 1) r.eject) h h)
+
+class_status : (v : ℕ) (c : Class) (o : Option Report) (r : Monarch) → ClassAt c o r Parting → Classed c o (eject_led (saw_status v r.eject) r)
+class_status v c o r h = pick (λ x. Classed c o (eject_led x r)) (bit_and v 0x10 == 0x10) (EjectsAt E4h (record r.eject { status = v })) (EjectsAt E4c r.eject) h h
+
+class_handed : (late : Bool) (c : Class) (o : Option Report) (r : Monarch) → ClassAt c o r Parting → Classed c o (at_label (handed_to_block late) r)
+class_handed late c o r h = pick (λ l. Classed c o (at_label l r)) late E4f E4c h h
+
+class_ended : (why : Outcome) (c : Class) (o : Option Report) (r : Monarch) → ClassAt c o r Parting → ((t : Report) → t.cpu ≡ r.eject.cpu → t.apic ≡ r.eject.apic → ends_eject t why ≡ true) → Classed c o (eject_led (EjectEnds why) r)
+class_ended why c o r h ends = let n = h.1 in rw (h.0, n.is) (ends n.report n.cpu n.apic)
+
+-- rows after which a report may be taken up
+abbrev pub takes_up : Label → Bool
+takes_up F1 = false
+takes_up F2 = false
+takes_up F3 = false
+takes_up F4 = false
+takes_up F5 = false
+takes_up F6 = false
+takes_up R1 = false
+takes_up R2 = false
+takes_up R3 = false
+takes_up R4 = false
+takes_up R5 = false
+takes_up R6 = false
+takes_up S0 = false
+takes_up S1 = false
+takes_up S2 = false
+takes_up S3 = false
+takes_up S4 = false
+takes_up C1 = false
+takes_up C2 = false
+takes_up C3 = true
+takes_up C4 = true
+takes_up C5 = false
+takes_up C6 = true
+takes_up NB = false
+takes_up N0 = false
+takes_up N1 = false
+takes_up N2 = false
+takes_up N3 = false
+takes_up N4 = false
+takes_up N5 = false
+takes_up N6 = false
+takes_up N7 = false
+takes_up N8a = false
+takes_up N8b = false
+takes_up N9 = false
+takes_up N10 = false
+takes_up N11 = false
+takes_up E0 = false
+takes_up E1 = false
+takes_up E2 = false
+takes_up E3 = false
+takes_up E4a = false
+takes_up E4b = false
+takes_up E4c = false
+takes_up E4d = false
+takes_up E4e = false
+takes_up E4f = false
+takes_up E4g = false
+takes_up E4h = false
+takes_up T = true
+takes_up E5 = false
+takes_up E6 = false
+takes_up E7 = false
+
+abbrev RowAt : Class → Option Report → Monarch → Monarch → Bool → Type 0
+RowAt c o r n true = Unit {0}
+RowAt c o r n false = Classed c o n
+
+pub row_class : (c : Class) (o : Option Report) (y : Layout) (q : Seat) (r : Monarch) (v : ℕ) (f : Facts) (l : Label) → part_of l ≡ Monarchs → (part_of l ≡ Monarchs → r.label ≡ l) → Needs f (part_of l) (need_of l) → ClassAt c o r (turn_of l) → takes_up l ≡ false → Classed c o (next_at y q r l v).monarch
+row_class c o y q r v f l mine is met h not =
+    subst (RowAt c o r (next_at y q r l v).monarch) not
+    (row_of_each (λ l. part_of l ≡ Monarchs → (part_of l ≡ Monarchs → r.label ≡ l) → ClassAt c o r (turn_of l) → RowAt c o r (next_at y q r l v).monarch (takes_up l)) (record {
+      f1 = λ g e h. absurd cc;
+      f2 = λ g e h. absurd cc;
+      f3 = λ g e h. absurd cc;
+      f4 = λ g e h. absurd cc;
+      f5 = λ g e h. absurd cc;
+      f6 = λ g e h. absurd cc;
+      r1 = λ g e h. absurd cc;
+      r2 = λ g e h. absurd cc;
+      r3 = λ g e h. absurd cc;
+      r4 = λ g e h. absurd cc;
+      r5 = λ g e h. absurd cc;
+      r6 = λ g e h. absurd cc;
+      s0 = λ g e h. class_first S1 S2 c o r (λ a b d. tt) (λ a b d. tt);
+      s1 = λ g e h. class_next S1 S2 c o r (λ a b d. tt) (λ a b d. tt);
+      s2 = λ g e h. class_known y.polls (known_from r.slots 1) c o r;
+      s3 = λ g e h. class_looked y.polls v c o (noted r.slot v r) (e refl);
+      s4 = λ g e h. class_commanded v c o r;
+      c1 = λ g e h. tt;
+      c2 = λ g e h. tt;
+      c3 = λ g e h. tt;
+      c4 = λ g e h. tt;
+      c5 = λ g e h. tt;
+      c6 = λ g e h. tt;
+      nb = λ g e h. h;
+      n0 = λ g e h. h;
+      n1 = λ g e h. h;
+      n2 = λ g e h. h;
+      n3 = λ g e h. h;
+      n4 = λ g e h. h;
+      n5 = λ g e h. h;
+      n6 = λ g e h. h;
+      n7 = λ g e h. h;
+      n8a = λ g e h. class_flag v c o r h;
+      n8b = λ g e h. class_pair v c o (noted r.add.slot v r) h;
+      n9 = λ g e h. class_shut c o r h;
+      n10 = λ g e h. h;
+      n11 = λ g e h. class_arrival v c o (noted r.add.slot v r) h;
+      e0 = λ g e h. h;
+      e1 = λ g e h. h;
+      e2 = λ g e h. class_parked v c o r h;
+      e3 = λ g e h. class_ended (outcome.Refused (NotParked r.eject.cpu r.eject.apic)) c o r h (λ t cpu apic. both cpu apic);
+      e4a = λ g e h. h;
+      e4b = λ g e h. class_handed y.late c o r h;
+      e4c = λ g e h. h;
+      e4d = λ g e h. h;
+      e4e = λ g e h. class_ended (outcome.Ejected r.eject.cpu r.eject.apic r.eject.slot) c o r h (λ t cpu apic. both cpu apic);
+      e4f = λ g e h. h;
+      e4g = λ g e h. class_status v c o r h;
+      e4h = λ g e h. class_ended (outcome.Refused (StillPending r.eject.cpu r.eject.status)) c o r h (λ t cpu apic. one cpu);
+      t = λ g e h. tt;
+      e5 = λ g e h. class_first E6 E7 c o r (λ a b d. tt) (λ a b d. tt);
+      e6 = λ g e h. class_next E6 E7 c o r (λ a b d. tt) (λ a b d. tt);
+      e7 = λ g e h. subst (λ x. ClassAt c o r (turn_of x)) (sym (e refl)) tt;
+    }) f l met mine is h)
