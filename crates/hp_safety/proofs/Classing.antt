@@ -1,6 +1,6 @@
 -- What an outcome says follows from the class of its report.
 use Rattle.std.specs.Prelude.{if◌then◌else◌}
-use Rattle.std.proofs.Common.{ℕ, zero, suc, ◌≡◌, ◌+◌, ◌-◌, ◌≤◌, ◌==◌, Bool, true, false, not, ◌&&◌, ◌||◌, nat_lt, nat_le, List, [], ◌∷◌, length, drop, Option, Some, None, slice_get, bit_and, refl, sym, ap, subst, ◌∙◌, arith}
+use Rattle.std.proofs.Common.{ℕ, zero, suc, ◌≡◌, ◌+◌, ◌-◌, ◌≤◌, ◌==◌, Bool, true, false, not, ◌&&◌, ◌||◌, nat_lt, nat_le, List, [], ◌∷◌, ◌++◌, length, drop, Option, Some, None, slice_get, bit_and, refl, sym, ap, subst, ◌∙◌, arith}
 use Rattle.std.specs.Str.{bytes_eq}
 use Rattle.std.proofs.lemmas.Bool.Decides.{nat_tests}
 use Rattle.hp_model.specs.declared.platforms.Platform.{Platform}
@@ -9,13 +9,13 @@ use Rattle.hp_model.specs.declared.outcomes.Outcome.TheVariants as outcome
 use Rattle.hp_model.specs.declared.outcomes.Refusal.TheVariants.{NotAtGate, NotCheckedIn, NotParked, StillPending}
 use Rattle.hp_model.specs.declared.labels.Label.{Label}
 use Rattle.hp_model.specs.declared.labels.Label.TheVariants.{F1, F2, F3, F4, F5, F6, R1, R2, R3, R4, R5, R6, S0, S1, S2, S3, S4, C1, C2, C3, C4, C5, C6, NB, N0, N1, N2, N3, N4, N5, N6, N7, N8a, N8b, N9, N10, N11, E0, E1, E2, E3, E4a, E4b, E4c, E4d, E4e, E4f, E4g, E4h, T, E5, E6, E7}
-use Rattle.hp_model.specs.Labels.{Monarch as Monarchs, part_of}
+use Rattle.hp_model.specs.Labels.{Monarch as Monarchs, part_of, index_of}
 use Rattle.hp_model.specs.SharedBytes.{Layout}
 use Rattle.hp_model.specs.Slots.{known_from}
-use Rattle.hp_model.specs.Collection.{Report, collection_start}
+use Rattle.hp_model.specs.Collection.{Report, Collection, CollectsAt, CollectedAll, next_processor, found, judged, reported, collection_start}
 use Rattle.hp_model.specs.Add.{Add, AddsAt, Ends, failed, looks, is_last_look, saw_flag, saw_pair, shut, saw_arrival}
 use Rattle.hp_model.specs.Eject.{EjectsAt, EjectEnds, awaits, saw_parked, handed_to_block, saw_status}
-use Rattle.hp_model.specs.Monarch.{Monarch, at_label, first_slot, next_slot, look_at, looked, noted, commanded, Class, Tells, Adds, Ejects, class, facts_of as facts_by, tells, took, answered, taken_up, next_report, led, eject_led}
+use Rattle.hp_model.specs.Monarch.{Monarch, at_label, first_slot, next_slot, look_at, looked, noted, commanded, Class, Tells, Adds, Ejects, class, facts_of as facts_by, tells, took, answered, taken_up, next_report, collected, led, eject_led}
 use Rattle.hp_model.specs.Handlers.{Seat, next_at}
 use Rattle.hp_model.specs.Step.{outcome_numbers, same_outcome}
 use Rattle.hp_model.specs.Outcomes.{ends_add, ends_eject, follows, answers_by}
@@ -260,3 +260,194 @@ row_class c o y q r v f l mine is met h not =
       e6 = λ g e h. class_next E6 E7 c o r (λ a b d. tt) (λ a b d. tt);
       e7 = λ g e h. subst (λ x. ClassAt c o r (turn_of x)) (sym (e refl)) tt;
     }) f l met mine is h)
+
+-- the collection's rows, where the next report may be taken up
+module _ (k : Class) (o : Option Report) (ids : List ℕ) (r : Monarch) (reports : List Report) (taken : (c : Collection) → c.reports ≡ reports → Classed k o (next_report ids (record r { collection = c }))) where
+  class_processor : (count : ℕ) (c : Collection) → c.reports ≡ reports → Classed k o (collected ids (next_processor count c) r)
+  class_processor count c e = pick (λ x. Classed k o (collected ids x r)) (nat_lt (c.cpu + 1) count) (CollectsAt C1 (record c { cpu = c.cpu + 1 })) (CollectedAll (record c { cpu = c.cpu + 1 })) tt (taken (record c { cpu = c.cpu + 1 }) e)
+
+  pub class_found : (count v : ℕ) → r.collection.reports ≡ reports → Classed k o (collected ids (found count v r.collection) r)
+  class_found count v e = pick (λ x. Classed k o (collected ids x r)) (nat_lt v r.collection.cpu || not (nat_lt v count)) (CollectedAll r.collection) (CollectsAt C4 (record r.collection { cpu = v })) (taken r.collection e) tt
+
+  pub class_judged : (count v : ℕ) → r.collection.reports ≡ reports → Classed k o (collected ids (judged count v r.collection) r)
+  class_judged count v e = pick (λ x. Classed k o (collected ids x r)) (bit_and v 0x12 == 0) (next_processor count r.collection) (CollectsAt C5 (record r.collection { status = v })) (class_processor count r.collection e) tt
+
+  pub class_reported : (count v : ℕ) → r.collection.reports ++ record { cpu = r.collection.cpu; status = r.collection.status; apic = v } ∷ [] ≡ reports → Classed k o (collected ids (reported count v r.collection) r)
+  class_reported count v e = class_processor count (record r.collection { reports = r.collection.reports ++ record { cpu = r.collection.cpu; status = r.collection.status; apic = v } ∷ [] }) e
+
+-- rows of an add or an eject neither report nor tell
+abbrev pub is_busy : Turn → Bool
+is_busy Waiting = false
+is_busy Collecting = false
+is_busy Beginning = true
+is_busy Running = true
+is_busy Parting = true
+is_busy Telling = false
+is_busy Ending = false
+is_busy Over = false
+
+pub busy_index : (l : Label) → is_busy (turn_of l) ≡ true → (nat_le 11 (index_of l) && not (index_of l == 34)) ≡ true
+busy_index F1 e = absurd cc
+busy_index F2 e = absurd cc
+busy_index F3 e = absurd cc
+busy_index F4 e = absurd cc
+busy_index F5 e = absurd cc
+busy_index F6 e = absurd cc
+busy_index R1 e = absurd cc
+busy_index R2 e = absurd cc
+busy_index R3 e = absurd cc
+busy_index R4 e = absurd cc
+busy_index R5 e = absurd cc
+busy_index R6 e = absurd cc
+busy_index S0 e = absurd cc
+busy_index S1 e = absurd cc
+busy_index S2 e = absurd cc
+busy_index S3 e = absurd cc
+busy_index S4 e = absurd cc
+busy_index C1 e = absurd cc
+busy_index C2 e = absurd cc
+busy_index C3 e = absurd cc
+busy_index C4 e = absurd cc
+busy_index C5 e = absurd cc
+busy_index C6 e = absurd cc
+busy_index NB e = refl
+busy_index N0 e = refl
+busy_index N1 e = refl
+busy_index N2 e = refl
+busy_index N3 e = refl
+busy_index N4 e = refl
+busy_index N5 e = refl
+busy_index N6 e = refl
+busy_index N7 e = refl
+busy_index N8a e = refl
+busy_index N8b e = refl
+busy_index N9 e = refl
+busy_index N10 e = refl
+busy_index N11 e = refl
+busy_index E0 e = refl
+busy_index E1 e = refl
+busy_index E2 e = refl
+busy_index E3 e = refl
+busy_index E4a e = refl
+busy_index E4b e = refl
+busy_index E4c e = refl
+busy_index E4d e = refl
+busy_index E4e e = refl
+busy_index E4f e = refl
+busy_index E4g e = refl
+busy_index E4h e = refl
+busy_index T e = absurd cc
+busy_index E5 e = absurd cc
+busy_index E6 e = absurd cc
+busy_index E7 e = absurd cc
+
+pub telling_takes : (l : Label) → turn_of l ≡ Telling → takes_up l ≡ true
+telling_takes F1 e = absurd cc
+telling_takes F2 e = absurd cc
+telling_takes F3 e = absurd cc
+telling_takes F4 e = absurd cc
+telling_takes F5 e = absurd cc
+telling_takes F6 e = absurd cc
+telling_takes R1 e = absurd cc
+telling_takes R2 e = absurd cc
+telling_takes R3 e = absurd cc
+telling_takes R4 e = absurd cc
+telling_takes R5 e = absurd cc
+telling_takes R6 e = absurd cc
+telling_takes S0 e = absurd cc
+telling_takes S1 e = absurd cc
+telling_takes S2 e = absurd cc
+telling_takes S3 e = absurd cc
+telling_takes S4 e = absurd cc
+telling_takes C1 e = absurd cc
+telling_takes C2 e = absurd cc
+telling_takes C3 e = absurd cc
+telling_takes C4 e = absurd cc
+telling_takes C5 e = absurd cc
+telling_takes C6 e = absurd cc
+telling_takes NB e = absurd cc
+telling_takes N0 e = absurd cc
+telling_takes N1 e = absurd cc
+telling_takes N2 e = absurd cc
+telling_takes N3 e = absurd cc
+telling_takes N4 e = absurd cc
+telling_takes N5 e = absurd cc
+telling_takes N6 e = absurd cc
+telling_takes N7 e = absurd cc
+telling_takes N8a e = absurd cc
+telling_takes N8b e = absurd cc
+telling_takes N9 e = absurd cc
+telling_takes N10 e = absurd cc
+telling_takes N11 e = absurd cc
+telling_takes E0 e = absurd cc
+telling_takes E1 e = absurd cc
+telling_takes E2 e = absurd cc
+telling_takes E3 e = absurd cc
+telling_takes E4a e = absurd cc
+telling_takes E4b e = absurd cc
+telling_takes E4c e = absurd cc
+telling_takes E4d e = absurd cc
+telling_takes E4e e = absurd cc
+telling_takes E4f e = absurd cc
+telling_takes E4g e = absurd cc
+telling_takes E4h e = absurd cc
+telling_takes T e = refl
+telling_takes E5 e = absurd cc
+telling_takes E6 e = absurd cc
+telling_takes E7 e = absurd cc
+
+-- the rows after which a report may be taken up, one by one
+pub taking : (P : Label → Type 0) → P C3 → P C4 → P C6 → P T → (l : Label) → takes_up l ≡ true → P l
+taking P c3 c4 c6 t F1 e = absurd cc
+taking P c3 c4 c6 t F2 e = absurd cc
+taking P c3 c4 c6 t F3 e = absurd cc
+taking P c3 c4 c6 t F4 e = absurd cc
+taking P c3 c4 c6 t F5 e = absurd cc
+taking P c3 c4 c6 t F6 e = absurd cc
+taking P c3 c4 c6 t R1 e = absurd cc
+taking P c3 c4 c6 t R2 e = absurd cc
+taking P c3 c4 c6 t R3 e = absurd cc
+taking P c3 c4 c6 t R4 e = absurd cc
+taking P c3 c4 c6 t R5 e = absurd cc
+taking P c3 c4 c6 t R6 e = absurd cc
+taking P c3 c4 c6 t S0 e = absurd cc
+taking P c3 c4 c6 t S1 e = absurd cc
+taking P c3 c4 c6 t S2 e = absurd cc
+taking P c3 c4 c6 t S3 e = absurd cc
+taking P c3 c4 c6 t S4 e = absurd cc
+taking P c3 c4 c6 t C1 e = absurd cc
+taking P c3 c4 c6 t C2 e = absurd cc
+taking P c3 c4 c6 t C3 e = c3
+taking P c3 c4 c6 t C4 e = c4
+taking P c3 c4 c6 t C5 e = absurd cc
+taking P c3 c4 c6 t C6 e = c6
+taking P c3 c4 c6 t NB e = absurd cc
+taking P c3 c4 c6 t N0 e = absurd cc
+taking P c3 c4 c6 t N1 e = absurd cc
+taking P c3 c4 c6 t N2 e = absurd cc
+taking P c3 c4 c6 t N3 e = absurd cc
+taking P c3 c4 c6 t N4 e = absurd cc
+taking P c3 c4 c6 t N5 e = absurd cc
+taking P c3 c4 c6 t N6 e = absurd cc
+taking P c3 c4 c6 t N7 e = absurd cc
+taking P c3 c4 c6 t N8a e = absurd cc
+taking P c3 c4 c6 t N8b e = absurd cc
+taking P c3 c4 c6 t N9 e = absurd cc
+taking P c3 c4 c6 t N10 e = absurd cc
+taking P c3 c4 c6 t N11 e = absurd cc
+taking P c3 c4 c6 t E0 e = absurd cc
+taking P c3 c4 c6 t E1 e = absurd cc
+taking P c3 c4 c6 t E2 e = absurd cc
+taking P c3 c4 c6 t E3 e = absurd cc
+taking P c3 c4 c6 t E4a e = absurd cc
+taking P c3 c4 c6 t E4b e = absurd cc
+taking P c3 c4 c6 t E4c e = absurd cc
+taking P c3 c4 c6 t E4d e = absurd cc
+taking P c3 c4 c6 t E4e e = absurd cc
+taking P c3 c4 c6 t E4f e = absurd cc
+taking P c3 c4 c6 t E4g e = absurd cc
+taking P c3 c4 c6 t E4h e = absurd cc
+taking P c3 c4 c6 t T e = t
+taking P c3 c4 c6 t E5 e = absurd cc
+taking P c3 c4 c6 t E6 e = absurd cc
+taking P c3 c4 c6 t E7 e = absurd cc

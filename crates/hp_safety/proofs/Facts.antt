@@ -224,7 +224,7 @@ told_last (outcome.Added cpu apic slot) r = refl
 told_last (outcome.Ejected cpu apic slot) r = refl
 told_last (outcome.Refused why) r = refl
 
-told_size : (o : Outcome) (r : Monarch) → (told o r).slots.bound ≡ r.slots.bound
+pub told_size : (o : Outcome) (r : Monarch) → (told o r).slots.bound ≡ r.slots.bound
 told_size (outcome.Added cpu apic slot) r = refl
 told_size (outcome.Ejected cpu apic slot) r = refl
 told_size (outcome.Refused why) r = refl

@@ -83,7 +83,7 @@ tells_none : (e : Entry) → outcome_in e.event ≡ None → tells e ≡ false
 tells_none e none = rw none refl
 
 -- an entry that neither reports nor tells
-tally_still : (p : Platform) (es : List Entry) (e : Entry) → IsElsewhere p e → bounds_session e ≡ false → outcome_in e.event ≡ None → tally_of p (e ∷ es) ≡ tally_of p es
+pub tally_still : (p : Platform) (es : List Entry) (e : Entry) → IsElsewhere p e → bounds_session e ≡ false → outcome_in e.event ≡ None → tally_of p (e ∷ es) ≡ tally_of p es
 tally_still p es e away bound none =
     let six = away C6 refl in
     let begins = away NB refl in
@@ -134,7 +134,7 @@ module _ (p : Platform) (past : List Transition) (s t : State) (e : Entry) (fit 
   abbrev es : List Entry
   es = entries_of past
 
-  after_row : (r : Monarch) → (w : IsRow p s e r) → tally_of p (e ∷ es) ≡ tally_after w.label (record { cpu = s.monarch.collection.cpu; status = s.monarch.collection.status; apic = value_in e.answer }) s.monarch.outcome (tally_of p es)
+  pub after_row : (r : Monarch) → (w : IsRow p s e r) → tally_of p (e ∷ es) ≡ tally_after w.label (record { cpu = s.monarch.collection.cpu; status = s.monarch.collection.status; apic = value_in e.answer }) s.monarch.outcome (tally_of p es)
   after_row r w =
       tally_row p es e w.label (record { cpu = s.monarch.collection.cpu; status = s.monarch.collection.status; apic = value_in e.answer }) s.monarch.outcome
       (row_bounds p (seat p s 0) s.monarch s.writes (apic_of p 0) (at s 0).base e.event w.label w.met w.wanted)

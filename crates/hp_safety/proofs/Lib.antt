@@ -30,3 +30,4 @@ pub mod Answered
 pub mod FactRows
 pub mod Facts
 pub mod Classing
+pub mod Outcoming
