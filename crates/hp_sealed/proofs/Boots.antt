@@ -49,16 +49,16 @@ pub record Passes (p : Platform) (n : ℕ) (b : Access) : Type 0 where
   pub on : (s : State) → Booting p n s → boot_refusal p.tseg_mib n (value_in (answer_to false b s)) ≡ None → Booting p (n + 1) (access_effect p 0 false b s)
 
 -- a fact of each element of a list and its place
-abbrev Each : (ℕ → Access → Type 0) → ℕ → List Access → Type 0
+abbrev pub Each : (ℕ → Access → Type 0) → ℕ → List Access → Type 0
 Each P k [] = Unit {0}
 Each P k (a ∷ as') = P k a × Each P (suc k) as'
 
-each_at : (P : ℕ → Access → Type 0) (k n : ℕ) (as' : List Access) → n < length as' → Each P k as' → P (k + n) (slice_index_or as' n Nop)
+pub each_at : (P : ℕ → Access → Type 0) (k n : ℕ) (as' : List Access) → n < length as' → Each P k as' → P (k + n) (slice_index_or as' n Nop)
 each_at P k n [] less h = absurd (omega (arith, less))
 each_at P k zero (a ∷ as') less h = let e : k ≡ k + zero = omega arith in subst (λ i. P i a) e h.0
 each_at P k (suc n) (a ∷ as') less h = let e : suc k + n ≡ k + suc n = omega arith in subst (λ i. P i (slice_index_or as' n Nop)) e (each_at P (suc k) n as' (omega (arith, less)) h.1)
 
-each_append : (P : ℕ → Access → Type 0) (k : ℕ) (as' bs : List Access) → Each P k as' → Each P (k + length as') bs → Each P k (as' ++ bs)
+pub each_append : (P : ℕ → Access → Type 0) (k : ℕ) (as' bs : List Access) → Each P k as' → Each P (k + length as') bs → Each P k (as' ++ bs)
 each_append P k [] bs h g = let e : k + 0 ≡ k = omega arith in subst (λ i. Each P i bs) e g
 each_append P k (a ∷ as') bs h g = let e : k + suc (length as') ≡ suc k + length as' = omega arith in (h.0, each_append P (suc k) as' bs h.1 (subst (λ i. Each P i bs) e g))
 
@@ -343,14 +343,14 @@ locks_tseg p = record {
       };
 }
 
-ext_length : (mib : ℕ) → length (ext_accesses mib) ≡ ext_count mib
+pub ext_length : (mib : ℕ) → length (ext_accesses mib) ≡ ext_count mib
 ext_length mib = by_size (mib == 48)
   where
     by_size : (b : Bool) → length (if b then CfgWrite 0x50 0xff ∷ CfgRead 0x50 ∷ [] else []) ≡ (if b then 2 else 0)
     by_size true = refl
     by_size false = refl
 
-boot_length : (mib supported : ℕ) → length (boot_accesses mib supported) ≡ 27 + ext_count mib
+pub boot_length : (mib supported : ℕ) → length (boot_accesses mib supported) ≡ 27 + ext_count mib
 unfolding boot_accesses
 boot_length mib supported = by_size (mib == 48) refl
   where

@@ -22,7 +22,9 @@ use Rattle.hp_sealed.specs.Booting.{Booting, IsBooting, IsRefused, IsBooted, Goe
 use Rattle.hp_sealed.proofs.Left.{pick_by}
 use Rattle.hp_sealed.proofs.Same.{same_access-is}
 use Rattle.hp_sealed.proofs.Outside.{Calm, acts, left_acted}
+use Rattle.hp_sealed.specs.Features.{Agreeing}
 use Rattle.hp_sealed.proofs.Boots.{Passes, passes, outside_acts, locked_by}
+use Rattle.hp_sealed.proofs.Features.{Agrees, agree, agrees_still}
 use Rattle.hp_sealed.proofs.Image.{holds_sealed}
 
 -- a step is enabled and wanted, and is what `after` says
@@ -96,12 +98,16 @@ booting_agreed p n u g d h = record {
   kept = h.kept;
 }
 
-handed_over : (p : Platform) (u : State) (requested : ℕ) (d : Bool) → Sound p → Booting p (27 + ext_count p.tseg_mib) u → IsSealed p (record (with_agreed u) { stage = Handed requested; disturbed = d })
-handed_over p u requested d fit h = record {
+agreeing_agreed : (p : Platform) (n v : ℕ) (u : State) (g : Stage) (d : Bool) → Agreeing p n v u → Agreeing p n v (record (with_agreed u) { stage = g; disturbed = d })
+agreeing_agreed p n v u g d h = record { before = h.before; after = λ i is. agrees_still i p.features v u (with_features (unwrap_or u.fw_cfg.negotiated 0) u.monarch) g d (h.after i is) }
+
+handed_over : (p : Platform) (u : State) (requested : ℕ) (d : Bool) → Sound p → Booting p (27 + ext_count p.tseg_mib) u → u.fw_cfg.negotiated ≡ Some p.features → IsSealed p (record (with_agreed u) { stage = Handed requested; disturbed = d })
+handed_over p u requested d fit h agreed = record {
   stage = refl;
   locks = locked_by p (27 + ext_count p.tseg_mib) u (omega arith) h;
   holds = holds_sealed p u.writes fit (h.kept (omega arith));
   cpus = outside_agreed p u (Handed requested) d h.cpus;
+  features = ap (λ o. unwrap_or o 0) agreed;
 }
 
 last_of : (more n : ℕ) → (n == 26 + more) ≡ true → n + 1 ≡ 27 + more
@@ -111,16 +117,17 @@ more_of : (more n : ℕ) → (n == 26 + more) ≡ false → n < 27 + more → n 
 more_of more n e less = grind (arith, nat_tests)
 
 -- where an access leads, by what it is refused for
-staged : (p : Platform) (n v : ℕ) (b : Access) (s : State) (d : Bool) → Sound p → n < 27 + ext_count p.tseg_mib → Booting p n s → Passes p n b → (o : Option BootFact) → boot_refusal p.tseg_mib n (value_in (answer_to false b s)) ≡ o → IsBooted p (record (with_agreed (access_effect p 0 false b s)) { stage = stage_by p.tseg_mib o n v (value_in (answer_to false b s)); disturbed = d })
-staged p n v b s d fit less h pass (Some fact) is =
+staged : (p : Platform) (n v : ℕ) (b : Access) (s : State) (d : Bool) → Sound p → n < 27 + ext_count p.tseg_mib → Booting p n s → Agreeing p n v s → Passes p n b → Agrees p v n b → (o : Option BootFact) → boot_refusal p.tseg_mib n (value_in (answer_to false b s)) ≡ o → IsBooted p (record (with_agreed (access_effect p 0 false b s)) { stage = stage_by p.tseg_mib o n v (value_in (answer_to false b s)); disturbed = d })
+staged p n v b s d fit less h agreeing pass agree_on (Some fact) is =
     inr (inl (record { fact = fact; stage = refl; cpus = outside_agreed p (access_effect p 0 false b s) (Refused fact) d (outside_acts p s (access_effect p 0 false b s) (acts p 0 false b s) h.cpus) }))
-staged p n v b s d fit less h pass None is =
+staged p n v b s d fit less h agreeing pass agree_on None is =
     let u = access_effect p 0 false b s in
     let next : Booting p (n + 1) u = pass.on s h is in
     let read = value_in (answer_to false b s) in
+    let agrees = agree_on.on s h agreeing is in
     pick_by (λ g. IsBooted p (record (with_agreed u) { stage = g; disturbed = d })) (n == 26 + ext_count p.tseg_mib) (Handed (v % 8)) (Boots (n + 1) (if n == 20 + ext_count p.tseg_mib then read else v))
-    (λ e. inr (inr (handed_over p u (v % 8) d fit (subst (λ i. Booting p i u) (last_of (ext_count p.tseg_mib) n e) next))))
-    (λ e. inl (record { done = n + 1; supported = if n == 20 + ext_count p.tseg_mib then read else v; stage = refl; going = more_of (ext_count p.tseg_mib) n e less; holds = booting_agreed p (n + 1) u (Boots (n + 1) (if n == 20 + ext_count p.tseg_mib then read else v)) d next }))
+    (λ e. inr (inr (handed_over p u (v % 8) d fit (subst (λ i. Booting p i u) (last_of (ext_count p.tseg_mib) n e) next) (agrees.after 10 (let last = last_of (ext_count p.tseg_mib) n e in omega (arith, last))))))
+    (λ e. inl (record { done = n + 1; supported = if n == 20 + ext_count p.tseg_mib then read else v; stage = refl; going = more_of (ext_count p.tseg_mib) n e less; holds = booting_agreed p (n + 1) u (Boots (n + 1) (if n == 20 + ext_count p.tseg_mib then read else v)) d next; agreeing = agreeing_agreed p (n + 1) (if n == 20 + ext_count p.tseg_mib then read else v) u (Boots (n + 1) (if n == 20 + ext_count p.tseg_mib then read else v)) d agrees }))
 
 -- the boot's access, and the state that it leads to
 record BootStep (p : Platform) (s : State) (t : State) : Type 0 where
@@ -128,6 +135,7 @@ record BootStep (p : Platform) (s : State) (t : State) : Type 0 where
   supported : ℕ
   going : done < 27 + ext_count p.tseg_mib
   holds : Booting p done s
+  agreeing : Agreeing p done supported s
   is : reached p s done supported (boot_access p.tseg_mib supported done) ≡ t
 
 boot_step : (p : Platform) (s : State) (e : Event) (t : After) → IsBooting p s → step p s e ≡ Some t → BootStep p s t.state
@@ -142,6 +150,7 @@ boot_step p s e t h is =
       supported = h.supported;
       going = h.going;
       holds = h.holds;
+      agreeing = h.agreeing;
       is = sym (after_boots p s h.done h.supported b h.stage mode) ∙ (ap (λ e. (after p s e).state) (sym event) ∙ ap (λ (a : After). a.state) made.is);
     }
 
@@ -157,7 +166,7 @@ boot_goes p s e t fit h is =
     let b = boot_step p s e t h is in
     let access = boot_access p.tseg_mib b.supported b.done in
     let leaves = boot_leaves p s e t h is in (
-      subst (IsBooted p) b.is (staged p b.done b.supported access s (is_disturbed_by s (Do 0 access)) fit b.going b.holds (passes p fit b.supported b.done b.going) (boot_refusal p.tseg_mib b.done (value_in (answer_to false access s))) refl),
+      subst (IsBooted p) b.is (staged p b.done b.supported access s (is_disturbed_by s (Do 0 access)) fit b.going b.holds b.agreeing (passes p fit b.supported b.done b.going) (agree p fit b.supported b.done b.going) (boot_refusal p.tseg_mib b.done (value_in (answer_to false access s))) refl),
       record { left = λ x k l. leaves.left x l; locked = λ x k l. leaves.locked x l },
     )
 

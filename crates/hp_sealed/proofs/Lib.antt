@@ -10,6 +10,7 @@ pub mod Image
 pub mod BootSlots
 pub mod Starts
 pub mod Boots
+pub mod Features
 pub mod Goes
 pub mod Runs
 pub mod HandOver

@@ -15,7 +15,7 @@ use Rattle.hp_sealed.specs.Sealed.{is_other_tile, is_based}
 use Rattle.hp_sealed.specs.Booting.{is_set_up}
 use Rattle.hp_sealed.proofs.Labels.{index_small, index_first}
 
-from_size : (p : Platform) (ext : ℕ) → Sound p → (p.tseg_mib ≡ 48 → ext ≡ 0x30) → p.low_memory - tseg_size ext (tseg_enabled p.tseg_mib) * 0x100000 ≡ tseg p
+pub from_size : (p : Platform) (ext : ℕ) → Sound p → (p.tseg_mib ≡ 48 → ext ≡ 0x30) → p.low_memory - tseg_size ext (tseg_enabled p.tseg_mib) * 0x100000 ≡ tseg p
 from_size p ext sound asked = by_size sound.size
   where
     by_size : (p.tseg_mib ≡ 1) ⊎ ((p.tseg_mib ≡ 2) ⊎ ((p.tseg_mib ≡ 8) ⊎ (p.tseg_mib ≡ 48))) → p.low_memory - tseg_size ext (tseg_enabled p.tseg_mib) * 0x100000 ≡ p.low_memory - p.tseg_mib * 0x100000

@@ -6,7 +6,7 @@ use Rattle.std.proofs.lemmas.Bool.{and_parts, eqb-true, ltb-true, cases_eq}
 use Rattle.std.proofs.lemmas.Bool.Decides.{nat_tests}
 use Rattle.hp_model.specs.declared.platforms.Platform.{Platform}
 use Rattle.hp_model.specs.declared.processors.Cpu.{Cpu}
-use Rattle.hp_model.specs.Platform.{IsFit, counts_fit, ids_fit, boot_fits, memory_fits, tseg_fits, tiles_fit, ascends_from, ascends_from_zero, all_distinct, tseg, tile, count_of, apic_of, greatest_id, most_tiles, has_room}
+use Rattle.hp_model.specs.Platform.{IsFit, counts_fit, ids_fit, boot_fits, memory_fits, tseg_fits, tiles_fit, features_fit, ascends_from, ascends_from_zero, all_distinct, tseg, tile, count_of, apic_of, greatest_id, most_tiles, has_room}
 use Rattle.hp_model.specs.Cpu.{absent, booted, boot_cpus, cpus_start, cpu_at, smm_address}
 use Rattle.hp_model.specs.Block.{is_in}
 use Rattle.hp_model.specs.SharedBytes.{layout_of}
@@ -67,7 +67,7 @@ boot_list p e = by_list p.boot refl e
 sizes : (m : ℕ) → ((m == 1) || ((m == 2) || ((m == 8) || (m == 48)))) ≡ true → (m ≡ 1) ⊎ ((m ≡ 2) ⊎ ((m ≡ 8) ⊎ (m ≡ 48)))
 sizes m e = grind (arith, nat_tests)
 
--- rules 2 to 7
+-- rules 2 to 8
 record Fits (p : Platform) : Type 0 where
   counts : counts_fit p ≡ true
   ids : ids_fit p ≡ true
@@ -75,6 +75,7 @@ record Fits (p : Platform) : Type 0 where
   memory : memory_fits p ≡ true
   size : tseg_fits p ≡ true
   tiles : tiles_fit p ≡ true
+  features : features_fit p ≡ true
 
 fits : (p : Platform) → IsFit p → Fits p
 fits p e =
@@ -84,7 +85,8 @@ fits p e =
     let d = passed (memory_fits p) 5 _ c.1 in
     let f = passed (tseg_fits p) 6 _ d.1 in
     let g = passed (tiles_fit p) 7 _ f.1 in
-    record { counts = a.0; ids = b.0; boot = c.0; memory = d.0; size = f.0; tiles = g.0 }
+    let k = passed (features_fit p) 8 _ g.1 in
+    record { counts = a.0; ids = b.0; boot = c.0; memory = d.0; size = f.0; tiles = g.0; features = k.0 }
 
 pub sound : (p : Platform) → IsFit p → Sound p
 sound p e =
@@ -109,8 +111,12 @@ sound p e =
       boots = let n = length_ascends 0 (count_of p) list.rest list.ascends list.low some in let i : length p.boot ≡ suc (length list.rest) = ap length list.is in omega (arith, n, i, few);
       ids = λ k. ids_small (greatest_id p) p.apic k (greatest_small p.x2apic) (and_parts (list_all (λ x. nat_le x (greatest_id p)) p.apic) (all_distinct p.apic) f.ids).0;
       distinct = (and_parts (list_all (λ x. nat_le x (greatest_id p)) p.apic) (all_distinct p.apic) f.ids).1;
+      features = features_low p.features f.features;
     }
   where
+    features_low : (f : ℕ) → nat_le f 7 ≡ true → f ≤ 7
+    features_low f e = grind (arith, nat_tests)
+
     memory_low : (m : ℕ) → ((m % 0x100000 == 0) && (nat_le 0x1000000 m && nat_le m 0x80000000)) ≡ true → (m % 0x100000 ≡ 0) × (0x1000000 ≤ m) × (m ≤ 0x80000000)
     memory_low m e = (grind (arith, nat_tests), grind (arith, nat_tests), grind (arith, nat_tests))
 
@@ -284,4 +290,5 @@ starts p e =
         memory = λ e. refl;
         kept = λ e. absurd (omega (arith, e));
       };
+      agreeing = record { before = λ low. refl; after = λ i is. absurd (omega (arith, is)) };
     }

@@ -8,6 +8,7 @@ use Rattle.hp_model.specs.Boot.{Boots, Refused, tseg_enabled, ext_count}
 use Rattle.hp_model.specs.Step.{State}
 use Rattle.hp_sealed.specs.Left.{is_gate, is_kept, LeavesKept}
 use Rattle.hp_sealed.specs.Sealed.{IsOutside, IsSealed}
+use Rattle.hp_sealed.specs.Features.{Agreeing}
 
 -- registers 9c, 9d and 9e after n accesses, of which `more` ask for 48 MiB; after 5 register 9c isn't known until it is read
 abbrev pub f_smbase_after : ℕ → ℕ
@@ -53,6 +54,7 @@ pub record IsBooting (p : Platform) (s : State) : Type 0 where
   pub stage : s.stage ≡ Boots done supported
   pub going : done < 27 + ext_count p.tseg_mib
   pub holds : Booting p done s
+  pub agreeing : Agreeing p done supported s
 
 -- the boot was refused: nothing steps from there on
 pub record IsRefused (p : Platform) (s : State) : Type 0 where

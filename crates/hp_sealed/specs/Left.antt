@@ -34,6 +34,7 @@ pub record Sound (p : Platform) : Type 0 where
   pub boots : length p.boot ≤ 512
   pub ids : (k : ℕ) → apic_of p k ≤ 0xffffffff
   pub distinct : all_distinct p.apic ≡ true
+  pub features : p.features ≤ 7
 
 -- the gate's 8 bytes
 abbrev pub is_gate : ℕ → Bool

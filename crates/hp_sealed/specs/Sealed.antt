@@ -54,9 +54,10 @@ pub record Holds (p : Platform) (ws : List Write) : Type 0 where
   pub cells : (l : Label) (k smbase : ℕ) → runs_at (layout_of p) (part_of l) k smbase ≡ true → value_from (byte_at ws) (address_of_label smbase l) 4 ≡ mark_of l
   pub gate : value_from (byte_at ws) gate 8 ≡ closed
 
--- handed over with SMRAM locked, the handlers in it, the gate closed, and everybody outside
+-- handed over with SMRAM locked, the handlers in it, the gate closed, everybody outside, and all features of the platform agreed on
 pub record IsSealed (p : Platform) (s : State) : Type 0 where
   pub stage : is_handed s.stage ≡ true
   pub locks : Locked p s.locks
   pub holds : Holds p s.writes
   pub cpus : IsOutside p s
+  pub features : s.monarch.features ≡ p.features
