@@ -1,13 +1,13 @@
 -- What each row of the monarch makes of what reports are judged by: which APIC IDs are known, and what was last read of arrived bytes.
 use Rattle.std.specs.Prelude.{slice_index_or, if◌then◌else◌}
-use Rattle.std.proofs.Common.{ℕ, zero, suc, ◌≡◌, ◌+◌, ◌-◌, ◌<◌, ◌≤◌, ◌==◌, Bool, true, false, not, ◌||◌, nat_lt, nat_le, List, [], ◌∷◌, ◌++◌, length, drop, slice_set, Option, Some, None, bit_and, refl, sym, ap, subst, ◌∙◌, arith, length-drop}
+use Rattle.std.proofs.Common.{ℕ, zero, suc, ◌≡◌, ◌+◌, ◌-◌, ◌<◌, ◌≤◌, ◌==◌, Bool, true, false, not, ◌||◌, nat_lt, nat_le, List, [], ◌∷◌, ◌++◌, length, drop, Option, Some, None, bit_and, refl, sym, ap, ◌∙◌, arith, length-drop}
 use Rattle.std.proofs.lemmas.Option.{same_Some}
 use Rattle.hp_model.specs.declared.platforms.Platform.{Platform}
 use Rattle.hp_model.specs.declared.outcomes.Outcome.{Outcome}
 use Rattle.hp_model.specs.declared.outcomes.Outcome.TheVariants as outcome
 use Rattle.hp_model.specs.declared.outcomes.Refusal.TheVariants.{NotAtGate, NotCheckedIn}
 use Rattle.hp_model.specs.declared.labels.Label.{Label}
-use Rattle.hp_model.specs.declared.labels.Label.TheVariants.{F1, F2, F3, F4, F5, F6, R1, R2, R3, R4, R5, R6, S0, S1, S2, S3, S4, C1, C2, C3, C4, C5, C6, NB, N0, N1, N2, N3, N4, N5, N6, N7, N8a, N8b, N9, N10, N11, E0, E1, E2, E3, E4a, E4b, E4c, E4d, E4e, E4f, E4g, E4h, T, E5, E6, E7}
+use Rattle.hp_model.specs.declared.labels.Label.TheVariants.{S1, S2, S3, S4, C1, C4, C5, N0, N8a, N8b, N9, N10, N11, E3, E4a, E4c, E4f, E4h, E5, E6, E7}
 use Rattle.hp_model.specs.Block.{is_in}
 use Rattle.hp_model.specs.Labels.{Monarch as Monarchs, part_of, index_of}
 use Rattle.hp_model.specs.SharedBytes.{Layout}
@@ -15,7 +15,7 @@ use Rattle.hp_model.specs.Slots.{Slots, first_true, known_from, is_known, place_
 use Rattle.hp_model.specs.Collection.{Report, Collection, CollectsAt, CollectedAll, next_processor, found, judged, reported, collection_start}
 use Rattle.hp_model.specs.Add.{Add, AddsAt, Ends, failed, looks, is_last_look, saw_flag, saw_pair, shut, saw_arrival}
 use Rattle.hp_model.specs.Eject.{EjectsAt, awaits, saw_parked, handed_to_block, saw_status}
-use Rattle.hp_model.specs.Monarch.{Monarch, at_label, first_slot, next_slot, look_at, looked, noted, commanded, Class, Tells, Adds, Ejects, class, facts_of as facts_by, with_byte, tells, adds, took, answered, taken_up, next_report, collected, led, eject_led, told}
+use Rattle.hp_model.specs.Monarch.{Monarch, at_label, first_slot, next_slot, look_at, looked, noted, commanded, Class, Tells, Adds, Ejects, class, facts_of as facts_by, tells, took, answered, taken_up, next_report, collected, led, eject_led, told}
 use Rattle.hp_model.specs.Handlers.{Seat, next_at}
 use Rattle.hp_sealed.specs.Sealed.{Placed}
 use Rattle.hp_sealed.proofs.Left.{pick, pick_by}
@@ -220,60 +220,60 @@ module _ (p : Platform) where
 
   pub row_facts : (y : Layout) (q : Seat) (r : Monarch) (v : ℕ) (f : Facts) (l : Label) → Placed p r.slots → part_of l ≡ Monarchs → (part_of l ≡ Monarchs → r.label ≡ l) → (r.label ≡ S3 → r.slot < length r.slots.bound) → Needs f (part_of l) (need_of l) → SameFacts (noted_at l v r) (next_at y q r l v).monarch
   row_facts y q r v f l placed mine is seen met = row_of_each (λ l. part_of l ≡ Monarchs → (part_of l ≡ Monarchs → r.label ≡ l) → SameFacts (noted_at l v r) (next_at y q r l v).monarch) (record {
-      f1 = λ g e. absurd cc;
-      f2 = λ g e. absurd cc;
-      f3 = λ g e. absurd cc;
-      f4 = λ g e. absurd cc;
-      f5 = λ g e. absurd cc;
-      f6 = λ g e. absurd cc;
-      r1 = λ g e. absurd cc;
-      r2 = λ g e. absurd cc;
-      r3 = λ g e. absurd cc;
-      r4 = λ g e. absurd cc;
-      r5 = λ g e. absurd cc;
-      r6 = λ g e. absurd cc;
-      s0 = λ g e. facts_first S1 S2 (λ f. cc) (λ f. cc) r;
-      s1 = λ g e. facts_next S1 S2 (λ f. cc) (λ f. cc) r;
-      s2 = λ g e. facts_known y.polls 1 r placed;
-      s3 = λ g e. facts_looked y.polls v (noted r.slot v r) placed (e refl) (seen (e refl));
-      s4 = λ g e. facts_commanded v r;
-      c1 = λ g e. same_facts r _ refl refl refl (λ f. absurd cc);
-      c2 = λ g e. same_facts r _ refl refl refl (λ f. absurd cc);
-      c3 = λ g e. facts_found y.apics y.count v r placed;
-      c4 = λ g e. facts_judged y.apics y.count v r placed;
-      c5 = λ g e. same_facts r _ refl refl refl (λ f. absurd cc);
-      c6 = λ g e. facts_reported y.apics y.count v r placed;
-      nb = λ g e. same_facts r _ refl refl refl (λ f. absurd cc);
-      n0 = λ g e. same_facts r _ refl refl refl (λ f. absurd cc);
-      n1 = λ g e. same_facts r _ refl refl refl (λ f. absurd cc);
-      n2 = λ g e. same_facts r _ refl refl refl (λ f. absurd cc);
-      n3 = λ g e. same_facts r _ refl refl refl (λ f. absurd cc);
-      n4 = λ g e. same_facts r _ refl refl refl (λ f. absurd cc);
-      n5 = λ g e. same_facts r _ refl refl refl (λ f. absurd cc);
-      n6 = λ g e. same_facts r _ refl refl refl (λ f. absurd cc);
-      n7 = λ g e. same_facts r _ refl refl refl (λ f. absurd cc);
-      n8a = λ g e. facts_flag v r;
-      n8b = λ g e. facts_pair v (noted r.add.slot v r);
-      n9 = λ g e. facts_shut r;
-      n10 = λ g e. same_facts r _ refl refl refl (λ f. absurd cc);
-      n11 = λ g e. facts_arrival v (noted r.add.slot v r);
-      e0 = λ g e. same_facts r _ refl refl refl (λ f. absurd cc);
-      e1 = λ g e. same_facts r _ refl refl refl (λ f. absurd cc);
-      e2 = λ g e. facts_parked v r;
-      e3 = λ g e. same_facts r _ refl refl refl (λ f. absurd cc);
-      e4a = λ g e. same_facts r _ refl refl refl (λ f. absurd cc);
-      e4b = λ g e. facts_handed y.late r;
-      e4c = λ g e. same_facts r _ refl refl refl (λ f. absurd cc);
-      e4d = λ g e. same_facts r _ refl refl refl (λ f. absurd cc);
-      e4e = λ g e. same_facts r _ refl refl refl (λ f. absurd cc);
-      e4f = λ g e. same_facts r _ refl refl refl (λ f. absurd cc);
-      e4g = λ g e. facts_status v r;
-      e4h = λ g e. same_facts r _ refl refl refl (λ f. absurd cc);
-      t = λ g e. facts_report y.apics (told r.outcome r) (placed_told r.outcome r placed);
-      e5 = λ g e. facts_first E6 E7 (λ f. cc) (λ f. cc) r;
-      e6 = λ g e. facts_next E6 E7 (λ f. cc) (λ f. cc) r;
-      e7 = λ g e. same_facts r r refl refl refl (λ f. absurd (let both = sym (e refl) ∙ f in cc));
-      }) f l met mine is
+    f1 = λ g e. absurd cc;
+    f2 = λ g e. absurd cc;
+    f3 = λ g e. absurd cc;
+    f4 = λ g e. absurd cc;
+    f5 = λ g e. absurd cc;
+    f6 = λ g e. absurd cc;
+    r1 = λ g e. absurd cc;
+    r2 = λ g e. absurd cc;
+    r3 = λ g e. absurd cc;
+    r4 = λ g e. absurd cc;
+    r5 = λ g e. absurd cc;
+    r6 = λ g e. absurd cc;
+    s0 = λ g e. facts_first S1 S2 (λ f. cc) (λ f. cc) r;
+    s1 = λ g e. facts_next S1 S2 (λ f. cc) (λ f. cc) r;
+    s2 = λ g e. facts_known y.polls 1 r placed;
+    s3 = λ g e. facts_looked y.polls v (noted r.slot v r) placed (e refl) (seen (e refl));
+    s4 = λ g e. facts_commanded v r;
+    c1 = λ g e. same_facts r _ refl refl refl (λ f. absurd cc);
+    c2 = λ g e. same_facts r _ refl refl refl (λ f. absurd cc);
+    c3 = λ g e. facts_found y.apics y.count v r placed;
+    c4 = λ g e. facts_judged y.apics y.count v r placed;
+    c5 = λ g e. same_facts r _ refl refl refl (λ f. absurd cc);
+    c6 = λ g e. facts_reported y.apics y.count v r placed;
+    nb = λ g e. same_facts r _ refl refl refl (λ f. absurd cc);
+    n0 = λ g e. same_facts r _ refl refl refl (λ f. absurd cc);
+    n1 = λ g e. same_facts r _ refl refl refl (λ f. absurd cc);
+    n2 = λ g e. same_facts r _ refl refl refl (λ f. absurd cc);
+    n3 = λ g e. same_facts r _ refl refl refl (λ f. absurd cc);
+    n4 = λ g e. same_facts r _ refl refl refl (λ f. absurd cc);
+    n5 = λ g e. same_facts r _ refl refl refl (λ f. absurd cc);
+    n6 = λ g e. same_facts r _ refl refl refl (λ f. absurd cc);
+    n7 = λ g e. same_facts r _ refl refl refl (λ f. absurd cc);
+    n8a = λ g e. facts_flag v r;
+    n8b = λ g e. facts_pair v (noted r.add.slot v r);
+    n9 = λ g e. facts_shut r;
+    n10 = λ g e. same_facts r _ refl refl refl (λ f. absurd cc);
+    n11 = λ g e. facts_arrival v (noted r.add.slot v r);
+    e0 = λ g e. same_facts r _ refl refl refl (λ f. absurd cc);
+    e1 = λ g e. same_facts r _ refl refl refl (λ f. absurd cc);
+    e2 = λ g e. facts_parked v r;
+    e3 = λ g e. same_facts r _ refl refl refl (λ f. absurd cc);
+    e4a = λ g e. same_facts r _ refl refl refl (λ f. absurd cc);
+    e4b = λ g e. facts_handed y.late r;
+    e4c = λ g e. same_facts r _ refl refl refl (λ f. absurd cc);
+    e4d = λ g e. same_facts r _ refl refl refl (λ f. absurd cc);
+    e4e = λ g e. same_facts r _ refl refl refl (λ f. absurd cc);
+    e4f = λ g e. same_facts r _ refl refl refl (λ f. absurd cc);
+    e4g = λ g e. facts_status v r;
+    e4h = λ g e. same_facts r _ refl refl refl (λ f. absurd cc);
+    t = λ g e. facts_report y.apics (told r.outcome r) (placed_told r.outcome r placed);
+    e5 = λ g e. facts_first E6 E7 (λ f. cc) (λ f. cc) r;
+    e6 = λ g e. facts_next E6 E7 (λ f. cc) (λ f. cc) r;
+    e7 = λ g e. same_facts r r refl refl refl (λ f. absurd (let both = sym (e refl) ∙ f in cc));
+  }) f l met mine is
 
   pub noted_slots : (l : Label) (v : ℕ) (r : Monarch) → (index_of l == 34) ≡ false → (noted_at l v r).slots ≡ r.slots
   noted_slots l v r not = rw not

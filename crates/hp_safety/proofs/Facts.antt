@@ -1,19 +1,18 @@
 -- What reports are judged by, as the entries say and as the monarch's record has it.
 use Rattle.std.specs.Prelude.{slice_index_or, if◌then◌else◌}
 use Rattle.std.specs.Option.{unwrap_or}
-use Rattle.std.proofs.Common.{ℕ, zero, suc, ◌≡◌, ◌≢◌, ◌+◌, ◌*◌, ◌<◌, ◌≤◌, ◌==◌, ◌⊎◌, inl, inr, Bool, true, false, cond, not, ◌&&◌, ◌||◌, nat_lt, List, [], ◌∷◌, ◌++◌, length, replicate, slice_set, Option, Some, None, option_map, option_and_then, refl, sym, ap, subst, ◌∙◌, arith, get_or-set_other}
+use Rattle.std.proofs.Common.{ℕ, zero, suc, ◌≡◌, ◌≢◌, ◌+◌, ◌<◌, ◌≤◌, ◌==◌, inl, inr, Bool, true, false, cond, ◌&&◌, ◌||◌, List, [], ◌∷◌, length, replicate, slice_set, Option, Some, None, option_map, option_and_then, refl, sym, ap, subst, ◌∙◌, arith, get_or-set_other}
 use Rattle.std.specs.Str.{bytes_eq}
 use Rattle.std.proofs.lemmas.Bool.{and_parts, eqb-true}
 use Rattle.std.proofs.lemmas.Bool.Decides.{nat_tests}
 use Rattle.hp_model.specs.declared.platforms.Platform.{Platform}
-use Rattle.hp_model.specs.declared.accesses.Access.{Access}
 use Rattle.hp_model.specs.declared.accesses.Access.TheVariants.{Load}
 use Rattle.hp_model.specs.declared.outcomes.Outcome.{Outcome}
 use Rattle.hp_model.specs.declared.outcomes.Outcome.TheVariants as outcome
 use Rattle.hp_model.specs.declared.labels.Label.{Label}
 use Rattle.hp_model.specs.declared.labels.Label.TheVariants.{S3, N8b, N11, T}
 use Rattle.hp_model.specs.declared.entries.Event.{Event}
-use Rattle.hp_model.specs.declared.entries.Event.TheVariants.{TakeSmi, Resume}
+use Rattle.hp_model.specs.declared.entries.Event.TheVariants.{Resume}
 use Rattle.hp_model.specs.declared.entries.Entry.{Entry}
 use Rattle.hp_model.specs.Platform.{tseg, apic_of}
 use Rattle.hp_model.specs.Memory.{Write}
@@ -24,14 +23,14 @@ use Rattle.hp_model.specs.Labels.{Monarch as Monarchs, part_of, index_of}
 use Rattle.hp_model.specs.SharedBytes.{layout_of, arrived_byte}
 use Rattle.hp_model.specs.SaveArea.{saved_smbase, saved_rip}
 use Rattle.hp_model.specs.Slots.{Slots, is_known as known_in, place_of, completed, forgotten}
-use Rattle.hp_model.specs.Monarch.{Monarch, is_that, noted, restarted, told}
+use Rattle.hp_model.specs.Monarch.{Monarch, is_that, noted, told}
 use Rattle.hp_model.specs.Handlers.{Seat, want_at, next_at}
-use Rattle.hp_model.specs.Step.{State, After, at, seat, same_access, wanted_in, handlers_led, firmware_led, effect_of, leave_smm, after, step}
+use Rattle.hp_model.specs.Step.{State, After, at, seat, same_access, wanted_in, firmware_led, effect_of, step}
 use Rattle.hp_model.specs.Runs.{run_on}
-use Rattle.hp_model.specs.Events.{access_in, outcome_in, is_access_of, is_entry_of, is_resume_of}
+use Rattle.hp_model.specs.Events.{access_in, outcome_in, is_access_of}
 use Rattle.hp_model.specs.Transitions.{Transition, entries_of, newest}
 use Rattle.hp_model.specs.Account.{told_known, is_known as known_by}
-use Rattle.hp_model.specs.Sessions.{bounds_session, session, monarch_makes, look_by, last_look}
+use Rattle.hp_model.specs.Sessions.{bounds_session, session, monarch_makes, last_look}
 use Rattle.hp_model.proofs.AtEach.{made as step_made}
 use Rattle.hp_sealed.specs.Left.{Sound}
 use Rattle.hp_sealed.specs.Sealed.{Placed}
@@ -39,7 +38,6 @@ use Rattle.hp_sealed.proofs.Left.{pick}
 use Rattle.hp_sealed.proofs.Goes.{stepped}
 use Rattle.hp_sealed.proofs.Starts.{set_all}
 use Rattle.hp_sealed.proofs.Runs.{made}
-use Rattle.hp_safety.proofs.Needs.{need_of}
 use Rattle.hp_safety.proofs.EachRow.{row_of_each}
 use Rattle.hp_safety.proofs.Invariant.{is_adding, facts_of, Met, Holding}
 use Rattle.hp_safety.proofs.Backward.{newest_it, newest_other, session_on, session_none}
@@ -48,9 +46,9 @@ use Rattle.hp_safety.proofs.Keeps.{that_is}
 use Rattle.hp_safety.proofs.Marked.{same_index}
 use Rattle.hp_safety.proofs.Moves.{Moves, moves}
 use Rattle.hp_safety.proofs.Runs.{IsHanded}
-use Rattle.hp_safety.proofs.MonarchSteps.{IsWanted, IsOthers, IsRow, IsBeginning, IsEnd, MonarchStep, monarch_steps}
+use Rattle.hp_safety.proofs.MonarchSteps.{IsWanted, IsRow, MonarchStep, monarch_steps}
 use Rattle.hp_safety.proofs.Tallies.{tally_of, IsHeldBy, TallyAt, turn_of}
-use Rattle.hp_safety.proofs.FactRows.{index_past, place_out, SameFacts, noted_at, noted_slots, row_facts}
+use Rattle.hp_safety.proofs.FactRows.{place_out, SameFacts, noted_at, noted_slots, row_facts}
 use Rattle.hp_safety.proofs.Held.{HeldTied, bounds_of, row_says, row_bounds}
 
 -- which APIC IDs are known, what was read of arrived bytes while processor 0 is in SMM, and the bounds that look-ups need
@@ -58,6 +56,7 @@ pub record FactsTied (p : Platform) (past : List Transition) (s : State) : Type 
   pub known : (a : ℕ) → known_by p (entries_of past) a ≡ known_in s.monarch.slots a
   pub size : length s.monarch.last ≡ length s.monarch.slots.bound
   pub seen : s.monarch.label ≡ S3 → s.monarch.slot < length s.monarch.slots.bound
+  pub features : s.monarch.features ≡ p.features
   pub looks : (b : ℕ) → smm_address (at s 0) ≡ Some b → (k : ℕ) → k ≤ 512 → slice_index_or s.monarch.last k 2 ≡ last_look p k (entries_of past)
 
 itself : (n : ℕ) → (n == n) ≡ true
@@ -107,7 +106,7 @@ told_alike p (outcome.Ejected cpu apic slot) r a placed holding held = by_same (
     by_same false is = sym (other_known p r.slots apic a false placed (unlike apic a is))
 told_alike p (outcome.Refused why) r a placed holding held = refl
 
-known_more : (p : Platform) (es : List Entry) (e : Entry) (a : ℕ) → known_by p (e ∷ es) a ≡ unwrap_or (option_and_then (told_known a) (outcome_in e.event)) (known_by p es a)
+pub known_more : (p : Platform) (es : List Entry) (e : Entry) (a : ℕ) → known_by p (e ∷ es) a ≡ unwrap_or (option_and_then (told_known a) (outcome_in e.event)) (known_by p es a)
 unfolding known_by
 known_more p es e a = refl
 
@@ -144,60 +143,60 @@ not_parked base k slot small = not_same (base + k == base + 0x3000 + slot) (grin
 row_loads : (p : Platform) (q : Seat) (r : Monarch) (ws : List Write) (apic base k : ℕ) (v : Event) (l : Label) → Sound p → k ≤ 512 → part_of l ≡ Monarchs → Met p r ws apic base l → IsWanted (want_at (layout_of p) q r l) v → makes_load p k v ≡ loads_at l r k
 unfolding same_access
 row_loads p q r ws apic base k v l sound small mine met is = row_of_each (λ l. part_of l ≡ Monarchs → IsWanted (want_at (layout_of p) q r l) v → makes_load p k v ≡ loads_at l r k) (record {
-      f1 = λ g w. absurd cc;
-      f2 = λ g w. absurd cc;
-      f3 = λ g w. absurd cc;
-      f4 = λ g w. absurd cc;
-      f5 = λ g w. absurd cc;
-      f6 = λ g w. absurd cc;
-      r1 = λ g w. absurd cc;
-      r2 = λ g w. absurd cc;
-      r3 = λ g w. absurd cc;
-      r4 = λ g w. absurd cc;
-      r5 = λ g w. absurd cc;
-      r6 = λ g w. absurd cc;
-      s0 = λ g w. ap (makes_load p k) w;
-      s1 = λ g w. ap (makes_load p k) w;
-      s2 = λ g w. ap (makes_load p k) w;
-      s3 = λ g w. ap (makes_load p k) w ∙ same_byte (tseg p) k r.slot;
-      s4 = λ g w. ap (makes_load p k) w;
-      c1 = λ g w. ap (makes_load p k) w;
-      c2 = λ g w. ap (makes_load p k) w;
-      c3 = λ g w. ap (makes_load p k) w;
-      c4 = λ g w. ap (makes_load p k) w;
-      c5 = λ g w. ap (makes_load p k) w;
-      c6 = λ g w. ap (makes_load p k) w;
-      nb = λ g w. ap (makes_load p k) w;
-      n0 = λ g w. ap (makes_load p k) w;
-      n1 = λ g w. ap (makes_load p k) w;
-      n2 = λ g w. ap (makes_load p k) w;
-      n3 = λ g w. ap (makes_load p k) w;
-      n4 = λ g w. ap (makes_load p k) w;
-      n5 = λ g w. ap (makes_load p k) w;
-      n6 = λ g w. ap (makes_load p k) w;
-      n7 = λ g w. ap (makes_load p k) w;
-      n8a = λ g w. ap (makes_load p k) w ∙ not_flag (tseg p) k sound.above;
-      n8b = λ g w. ap (makes_load p k) w ∙ same_byte (tseg p) k r.add.slot;
-      n9 = λ g w. ap (makes_load p k) w;
-      n10 = λ g w. ap (makes_load p k) w;
-      n11 = λ g w. ap (makes_load p k) w ∙ same_byte (tseg p) k r.add.slot;
-      e0 = λ g w. ap (makes_load p k) w;
-      e1 = λ g w. ap (makes_load p k) w;
-      e2 = λ g w. ap (makes_load p k) w ∙ not_parked (tseg p) k r.eject.slot small;
-      e3 = λ g w. ap (makes_load p k) w;
-      e4a = λ g w. ap (makes_load p k) w;
-      e4b = λ g w. ap (makes_load p k) w;
-      e4c = λ g w. ap (makes_load p k) w;
-      e4d = λ g w. ap (makes_load p k) w;
-      e4e = λ g w. ap (makes_load p k) w;
-      e4f = λ g w. ap (makes_load p k) w;
-      e4g = λ g w. ap (makes_load p k) w;
-      e4h = λ g w. ap (makes_load p k) w;
-      t = λ g w. ap (makes_load p k) w;
-      e5 = λ g w. ap (makes_load p k) w;
-      e6 = λ g w. ap (makes_load p k) w;
-      e7 = λ g w. absurd w;
-      }) (facts_of p r ws apic base) l met mine is
+  f1 = λ g w. absurd cc;
+  f2 = λ g w. absurd cc;
+  f3 = λ g w. absurd cc;
+  f4 = λ g w. absurd cc;
+  f5 = λ g w. absurd cc;
+  f6 = λ g w. absurd cc;
+  r1 = λ g w. absurd cc;
+  r2 = λ g w. absurd cc;
+  r3 = λ g w. absurd cc;
+  r4 = λ g w. absurd cc;
+  r5 = λ g w. absurd cc;
+  r6 = λ g w. absurd cc;
+  s0 = λ g w. ap (makes_load p k) w;
+  s1 = λ g w. ap (makes_load p k) w;
+  s2 = λ g w. ap (makes_load p k) w;
+  s3 = λ g w. ap (makes_load p k) w ∙ same_byte (tseg p) k r.slot;
+  s4 = λ g w. ap (makes_load p k) w;
+  c1 = λ g w. ap (makes_load p k) w;
+  c2 = λ g w. ap (makes_load p k) w;
+  c3 = λ g w. ap (makes_load p k) w;
+  c4 = λ g w. ap (makes_load p k) w;
+  c5 = λ g w. ap (makes_load p k) w;
+  c6 = λ g w. ap (makes_load p k) w;
+  nb = λ g w. ap (makes_load p k) w;
+  n0 = λ g w. ap (makes_load p k) w;
+  n1 = λ g w. ap (makes_load p k) w;
+  n2 = λ g w. ap (makes_load p k) w;
+  n3 = λ g w. ap (makes_load p k) w;
+  n4 = λ g w. ap (makes_load p k) w;
+  n5 = λ g w. ap (makes_load p k) w;
+  n6 = λ g w. ap (makes_load p k) w;
+  n7 = λ g w. ap (makes_load p k) w;
+  n8a = λ g w. ap (makes_load p k) w ∙ not_flag (tseg p) k sound.above;
+  n8b = λ g w. ap (makes_load p k) w ∙ same_byte (tseg p) k r.add.slot;
+  n9 = λ g w. ap (makes_load p k) w;
+  n10 = λ g w. ap (makes_load p k) w;
+  n11 = λ g w. ap (makes_load p k) w ∙ same_byte (tseg p) k r.add.slot;
+  e0 = λ g w. ap (makes_load p k) w;
+  e1 = λ g w. ap (makes_load p k) w;
+  e2 = λ g w. ap (makes_load p k) w ∙ not_parked (tseg p) k r.eject.slot small;
+  e3 = λ g w. ap (makes_load p k) w;
+  e4a = λ g w. ap (makes_load p k) w;
+  e4b = λ g w. ap (makes_load p k) w;
+  e4c = λ g w. ap (makes_load p k) w;
+  e4d = λ g w. ap (makes_load p k) w;
+  e4e = λ g w. ap (makes_load p k) w;
+  e4f = λ g w. ap (makes_load p k) w;
+  e4g = λ g w. ap (makes_load p k) w;
+  e4h = λ g w. ap (makes_load p k) w;
+  t = λ g w. ap (makes_load p k) w;
+  e5 = λ g w. ap (makes_load p k) w;
+  e6 = λ g w. ap (makes_load p k) w;
+  e7 = λ g w. absurd w;
+}) (facts_of p r ws apic base) l met mine is
 
 -- looks over one entry more
 look_on : (p : Platform) (k : ℕ) (es : List Entry) (e : Entry) → bounds_session e ≡ false → makes_load p k e.event ≡ false → last_look p k (e ∷ es) ≡ last_look p k es
@@ -215,7 +214,7 @@ unread_look d zero k = refl
 unread_look d (suc n) zero = refl
 unread_look d (suc n) (suc k) = unread_look d n k
 
-length-unread : (d n : ℕ) → length (replicate n d) ≡ n
+pub length-unread : (d n : ℕ) → length (replicate n d) ≡ n
 length-unread d zero = refl
 length-unread d (suc n) = ap suc (length-unread d n)
 
@@ -240,6 +239,17 @@ noted_size p l v r e =
     pick (λ (t : Monarch). length t.last ≡ length t.slots.bound) (index_of l == 34) (told r.outcome r) _ (ap length (told_last r.outcome r) ∙ (e ∙ sym (ap length (told_size r.outcome r))))
     (pick (λ (t : Monarch). length t.last ≡ length t.slots.bound) (index_of l == 3) (noted r.slot v r) _ (length-set r.last r.slot v ∙ e)
     (pick (λ (t : Monarch). length t.last ≡ length t.slots.bound) ((index_of l == 21) || (index_of l == 24)) (noted r.add.slot v r) r (length-set r.last r.add.slot v ∙ e) e))
+
+noted_features : (p : Platform) (l : Label) (v : ℕ) (r : Monarch) → (noted_at p l v r).features ≡ r.features
+noted_features p l v r =
+    pick (λ (t : Monarch). t.features ≡ r.features) (index_of l == 34) (told r.outcome r) _ (of_told r.outcome)
+    (pick (λ (t : Monarch). t.features ≡ r.features) (index_of l == 3) (noted r.slot v r) _ refl
+    (pick (λ (t : Monarch). t.features ≡ r.features) ((index_of l == 21) || (index_of l == 24)) (noted r.add.slot v r) r refl refl))
+  where
+    of_told : (o : Outcome) → (told o r).features ≡ r.features
+    of_told (outcome.Added cpu apic slot) = refl
+    of_told (outcome.Ejected cpu apic slot) = refl
+    of_told (outcome.Refused why) = refl
 
 module _ (p : Platform) (past : List Transition) (s : State) (e : Entry) (fit : Sound p) (h : IsHanded p s) (tied : HeldTied p past s) (facts : FactsTied p past s) where
   abbrev es : List Entry
@@ -332,6 +342,7 @@ module _ (p : Platform) (past : List Transition) (s : State) (e : Entry) (fit : 
     pub known : (a : ℕ) → known_by p (e ∷ es) a ≡ known_in n.slots a
     pub size : length n.last ≡ length n.slots.bound
     pub seen : n.label ≡ S3 → n.slot < length n.slots.bound
+    pub features : n.features ≡ p.features
     pub looks : inside → (k : ℕ) → k ≤ 512 → slice_index_or n.last k 2 ≡ last_look p k (e ∷ es)
 
   facts_now : (n : Monarch) (inside : Type 0) → MonarchStep p s e n → (inside → bounds_session e ≡ false → (k : ℕ) → k ≤ 512 → slice_index_or r.last k 2 ≡ last_look p k es) → (inside → is_access_of 0 e.event ≡ true → smm_address (at s 0) ≡ None → ⊥) → (inside → e.event ≡ Resume 0 → ⊥) → Now n inside
@@ -341,6 +352,7 @@ module _ (p : Platform) (past : List Transition) (s : State) (e : Entry) (fit : 
         known = known_still o.told;
         size = facts.size;
         seen = facts.seen;
+        features = facts.features;
         looks = λ i k small. old i o.bounds k small ∙ sym (look_on p k es e o.bounds (not_mine i k (is_access_of 0 e.event) refl));
       })
     where
@@ -354,6 +366,7 @@ module _ (p : Platform) (past : List Transition) (s : State) (e : Entry) (fit : 
         known = λ a. row_known n w a ∙ sym (same.known a);
         size = same.size (noted_size p w.label v r facts.size);
         seen = same.seen;
+        features = same.features ∙ (noted_features p w.label v r ∙ facts.features);
         looks = λ i k small. same.last k ∙ row_looks n w k small (old i (bound_none n w) k small);
       })
   facts_now n inside (inr (inr (inl b))) old within stays =
@@ -362,11 +375,12 @@ module _ (p : Platform) (past : List Transition) (s : State) (e : Entry) (fit : 
         known = known_still (ap outcome_in b.event);
         size = length-unread 2 (length r.slots.bound);
         seen = λ f. absurd cc;
+        features = facts.features;
         looks = λ i k small. unread_look 2 (length r.slots.bound) k ∙ sym (look_new p k es e (ap bounds_of b.event));
       })
   facts_now n inside (inr (inr (inr o))) old within stays =
       subst (λ (x : Monarch). Now x inside) (sym o.same)
-      (record { known = known_still (ap outcome_in o.event); size = facts.size; seen = facts.seen; looks = λ i. absurd (stays i o.event) })
+      (record { known = known_still (ap outcome_in o.event); size = facts.size; seen = facts.seen; features = facts.features; looks = λ i. absurd (stays i o.event) })
 
 -- RSM leaves SMM
 left_led : (p : Platform) (s : State) (g : Stage) → is_handed g ≡ true → wanted_in p s g (Resume 0) ≡ true → smm_address (at (firmware_led p s g (Resume 0) (effect_of p s (Resume 0))) 0) ≡ None
@@ -392,10 +406,10 @@ facts_on p past s t e fit h on tied facts =
     let left : e.event ≡ Resume 0 → smm_address (at t 0) ≡ None = λ f. subst (λ (u : State). smm_address (at u 0) ≡ None) m.state (left_smm p s e.event m.after h.handed m.step f) in
     let ms : MonarchStep p s e t.monarch = subst (λ (u : State). MonarchStep p s e u.monarch) m.state (monarch_steps p s.writes s e m.after fit h m.step m.place m.answer) in
     let now = facts_now p past s e fit h tied facts t.monarch (smm_address (at t 0) ≡ None → ⊥) ms
-        (λ i bound k small. old move i bound k small (smm_address (at s 0)) refl)
-        (λ i mine out. elim (move.enters out) [ inl none ↦ i none | inr smi ↦ (let both = sym (ap (is_access_of 0) smi) ∙ mine in cc) ])
-        (λ i f. i (left f)) in
-    record { known = now.known; size = now.size; seen = now.seen; looks = λ b is. now.looks (λ none. let both = sym none ∙ is in cc) }
+    (λ i bound k small. old move i bound k small (smm_address (at s 0)) refl)
+    (λ i mine out. elim (move.enters out) [ inl none ↦ i none | inr smi ↦ (let both = sym (ap (is_access_of 0) smi) ∙ mine in cc) ])
+    (λ i f. i (left f)) in
+    record { known = now.known; size = now.size; seen = now.seen; features = now.features; looks = λ b is. now.looks (λ none. let both = sym none ∙ is in cc) }
   where
     old : Moves p s e.event t → (smm_address (at t 0) ≡ None → ⊥) → bounds_session e ≡ false → (k : ℕ) → k ≤ 512 → (o : Option ℕ) → smm_address (at s 0) ≡ o → slice_index_or s.monarch.last k 2 ≡ last_look p k (entries_of past)
     old move i bound k small (Some b) is = facts.looks b is k small

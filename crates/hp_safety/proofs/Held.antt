@@ -268,7 +268,7 @@ no_tally = record { reports = []; told = 0; runs = false; left = None }
 abbrev pub Knows : Platform → List Transition → State → Type 0
 Knows p past s = (IsBefore p s × (bound p (entries_of past) ≡ boot_ids p) × (tally_of p (entries_of past) ≡ no_tally)) ⊎ (IsHanded p s × Accounted p past s × HeldTied p past s)
 
-boot_event : (p : Platform) (s : State) (e : Event) (t : After) (h : IsBooting p s) → step p s e ≡ Some t → e ≡ Do 0 (boot_access p.tseg_mib h.supported h.done)
+pub boot_event : (p : Platform) (s : State) (e : Event) (t : After) (h : IsBooting p s) → step p s e ≡ Some t → e ≡ Do 0 (boot_access p.tseg_mib h.supported h.done)
 boot_event p s e t h is = boots_event p.tseg_mib h.done h.supported e (subst (λ g. wanted_in p s g e ≡ true) h.stage (stepped p s e t is).wanted)
 
 module _ (p : Platform) (fits : IsFit p) where
@@ -279,7 +279,7 @@ module _ (p : Platform) (fits : IsFit p) where
   unfolding bound triples outcomes left_held since
   knows_first = inl (inl (starts p fits), refl, refl)
 
-  tally_sealed : (past : List Transition) (s : State) → tally_of p (entries_of past) ≡ no_tally → IsSealed p s → HeldTied p past s
+  pub tally_sealed : (past : List Transition) (s : State) → tally_of p (entries_of past) ≡ no_tally → IsSealed p s → HeldTied p past s
   tally_sealed past s none z = record {
     tally = subst (λ r. Tallied (tally_of p (entries_of past)) r) (sym z.cpus.begun) (subst (λ a. TallyAt a (with_features s.monarch.features (monarch_start p)) Waiting) (sym none) (refl, refl, (refl, refl)));
     fresh = λ begins left k. ap is_past (z.cpus.outside k);

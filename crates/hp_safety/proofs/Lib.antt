@@ -31,3 +31,4 @@ pub mod FactRows
 pub mod Facts
 pub mod Classing
 pub mod Outcoming
+pub mod Answering

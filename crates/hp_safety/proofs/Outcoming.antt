@@ -1,6 +1,6 @@
 -- Each outcome answers the session's first report without one, by its class as the entries say, where the record's features are the platform's.
 use Rattle.std.specs.Prelude.{slice_index_or, if◌then◌else◌}
-use Rattle.std.proofs.Common.{ℕ, zero, suc, ◌≡◌, ◌+◌, ◌≤◌, ◌<◌, ◌==◌, ◌⊎◌, inl, inr, Bool, true, false, not, ◌&&◌, ◌||◌, nat_le, List, [], ◌∷◌, ◌++◌, length, drop, Option, Some, None, slice_get, refl, sym, ap, subst, ◌∙◌, arith}
+use Rattle.std.proofs.Common.{ℕ, suc, ◌≡◌, ◌+◌, ◌≤◌, ◌<◌, ◌==◌, inl, inr, Bool, true, false, not, ◌||◌, nat_le, List, [], ◌∷◌, ◌++◌, length, drop, Option, Some, None, refl, sym, ap, subst, ◌∙◌, arith}
 use Rattle.std.proofs.lemmas.Bool.{and_parts}
 use Rattle.std.proofs.lemmas.Bool.Decides.{nat_tests}
 use Rattle.hp_model.specs.declared.platforms.Platform.{Platform}
@@ -9,7 +9,7 @@ use Rattle.hp_model.specs.declared.accesses.Want.TheVariants as want
 use Rattle.hp_model.specs.declared.outcomes.Outcome.{Outcome}
 use Rattle.hp_model.specs.declared.outcomes.Outcome.TheVariants as outcome
 use Rattle.hp_model.specs.declared.labels.Label.{Label}
-use Rattle.hp_model.specs.declared.labels.Label.TheVariants.{S0, C1, C2, C3, C4, C5, C6, N7, T, E7}
+use Rattle.hp_model.specs.declared.labels.Label.TheVariants.{C1, C2, C3, C4, C5, C6, N7, T}
 use Rattle.hp_model.specs.declared.entries.Event.{Event}
 use Rattle.hp_model.specs.declared.entries.Entry.{Entry}
 use Rattle.hp_model.specs.Platform.{tile, count_of, apic_of}
@@ -17,30 +17,29 @@ use Rattle.hp_model.specs.Cpu.{smm_address}
 use Rattle.hp_model.specs.Boot.{value_in}
 use Rattle.hp_model.specs.Labels.{Monarch as Monarchs, part_of, index_of}
 use Rattle.hp_model.specs.SharedBytes.{layout_of}
-use Rattle.hp_model.specs.Slots.{Slots, is_known as known_in, place_of}
-use Rattle.hp_model.specs.Collection.{Report, Collection}
-use Rattle.hp_model.specs.Monarch.{Monarch, Class, Facts, class, facts_of as facts_by, next_report, told, restarted}
+use Rattle.hp_model.specs.Slots.{is_known as known_in, place_of}
+use Rattle.hp_model.specs.Collection.{Report}
+use Rattle.hp_model.specs.Monarch.{Monarch, Class, class, facts_of as facts_by, next_report, told}
 use Rattle.hp_model.specs.Handlers.{want_at, next_at}
 use Rattle.hp_model.specs.Step.{State, at, seat}
 use Rattle.hp_model.specs.Runs.{run_on, address_of}
 use Rattle.hp_model.specs.Events.{outcome_in}
-use Rattle.hp_model.specs.Transitions.{Transition, entries_of, since}
+use Rattle.hp_model.specs.Transitions.{Transition, entries_of}
 use Rattle.hp_model.specs.Account.{is_at, is_known as known_by, bound}
-use Rattle.hp_model.specs.Sessions.{bounds_session, session, triples, outcomes, tells, open_triple, held, last_look, facts_in, class_in, collects, ends_outcome}
+use Rattle.hp_model.specs.Sessions.{bounds_session, tells, open_triple, held, last_look, facts_in, class_in, ends_outcome}
 use Rattle.hp_model.specs.Outcomes.{own_of, class_by}
 use Rattle.hp_model.proofs.AtEach.{made as step_made}
 use Rattle.hp_sealed.specs.Left.{Sound}
-use Rattle.hp_sealed.specs.Sealed.{Placed}
 use Rattle.hp_sealed.proofs.Runs.{made}
 use Rattle.hp_safety.proofs.Invariant.{facts_of}
-use Rattle.hp_safety.proofs.Ties.{session_of, TiedAt, tie_of, bound_more}
+use Rattle.hp_safety.proofs.Ties.{session_of, TiedAt, tie_of}
 use Rattle.hp_safety.proofs.Backward.{since_it, since_other, bound_step}
 use Rattle.hp_safety.proofs.Marked.{at_monarch}
 use Rattle.hp_safety.proofs.Placing.{bound_few}
 use Rattle.hp_safety.proofs.Runs.{IsHanded}
 use Rattle.hp_safety.proofs.Named.{Accounted}
 use Rattle.hp_safety.proofs.Moves.{Moves, moves}
-use Rattle.hp_safety.proofs.MonarchSteps.{IsElsewhere, IsWanted, IsOthers, IsRow, IsBeginning, IsEnd, MonarchStep, monarch_steps}
+use Rattle.hp_safety.proofs.MonarchSteps.{IsElsewhere, IsWanted, IsRow, MonarchStep, monarch_steps}
 use Rattle.hp_safety.proofs.Tallies.{Tally, tally_of, open_in, held_in, tally_after, Turn, Waiting, Collecting, Beginning, Running, Parting, Telling, Ending, Over, turn_of, TallyAt}
 use Rattle.hp_safety.proofs.Held.{HeldTied, tally_still, after_row, row_says, row_bounds}
 use Rattle.hp_safety.proofs.FactRows.{noted_at}

@@ -8,6 +8,7 @@ ghost use Rattle.hp_model.specs.Step.{State};
 ghost use Rattle.hp_model.specs.Runs.{run};
 ghost use Rattle.hp_model.specs.Transitions.{transitions, at_each};
 ghost use Rattle.hp_model.specs.Smbases.{IsDistinct, IsNamed};
+ghost use Rattle.hp_model.specs.Outcomes.{answers, each_told};
 ghost use Rattle.hp_model.specs.Exact.{moves_held, answers_all};
 ghost use Rattle.hp_model.specs.Safety.{IsLockedBefore};
 
@@ -41,4 +42,10 @@ pub fn smbase_changes_while_held()
 /// A session that comes to E5, where the monarch lets everybody go, has told as many outcomes as it has made reports.
 pub fn sessions_answer_all()
     ensures { (p : Platform) (es : List Entry) (s : State) → IsFit p → run p es ≡ Some s → at_each (answers_all p) (transitions p es) ≡ true }
+{}
+
+/// Each outcome answers the session's first report that has none yet, by the class that the platform and the entries give this report
+/// when it is taken up: it is the outcome that the class tells, or one in which an add or an eject of that report may end.
+pub fn outcomes_answer_reports()
+    ensures { (p : Platform) (es : List Entry) (s : State) → IsFit p → run p es ≡ Some s → each_told p answers (transitions p es) ≡ true }
 {}
