@@ -32,3 +32,5 @@ pub mod Facts
 pub mod Classing
 pub mod Outcoming
 pub mod Answering
+pub mod Calling
+pub mod Disturbed
