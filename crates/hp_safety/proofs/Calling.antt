@@ -1,13 +1,10 @@
 -- From S2 to E5 a session has all others called in, as the entries say, and the state's flag tells whether it was disturbed.
 use Rattle.std.specs.Prelude.{if◌then◌else◌}
-use Rattle.std.specs.Option.{unwrap_or}
-use Rattle.std.proofs.Common.{ℕ, ◌≡◌, ◌+◌, ◌-◌, ◌==◌, ◌⊎◌, inl, inr, Bool, true, false, cond, not, ◌&&◌, ◌||◌, nat_lt, nat_le, List, [], ◌∷◌, ◌++◌, length, drop, Option, Some, None, option_map, bit_and, refl, sym, ap, subst, ◌∙◌}
-use Rattle.std.proofs.lemmas.Bool.{and_parts, eqb-true}
-use Rattle.hp_model.specs.declared.platforms.Platform.{Platform}
+use Rattle.std.proofs.Common.{ℕ, ◌≡◌, ◌+◌, ◌-◌, ◌==◌, Bool, true, false, not, ◌||◌, nat_lt, nat_le, List, [], ◌∷◌, ◌++◌, length, drop, Option, Some, None, bit_and, refl, ap}
 use Rattle.hp_model.specs.declared.outcomes.Outcome.{Outcome}
 use Rattle.hp_model.specs.declared.labels.Label.{Label}
 use Rattle.hp_model.specs.declared.labels.Label.TheVariants.{F1, F2, F3, F4, F5, F6, R1, R2, R3, R4, R5, R6, S0, S1, S2, S3, S4, C1, C2, C3, C4, C5, C6, NB, N0, N1, N2, N3, N4, N5, N6, N7, N8a, N8b, N9, N10, N11, E0, E1, E2, E3, E4a, E4b, E4c, E4d, E4e, E4f, E4g, E4h, T, E5, E6, E7}
-use Rattle.hp_model.specs.Labels.{Monarch as Monarchs, part_of, index_of, same_label}
+use Rattle.hp_model.specs.Labels.{Monarch as Monarchs, part_of, index_of}
 use Rattle.hp_model.specs.SharedBytes.{Layout}
 use Rattle.hp_model.specs.Slots.{known_from}
 use Rattle.hp_model.specs.Collection.{Report, Collection, CollectsAt, CollectedAll, next_processor, found, judged, reported, collection_start}
@@ -155,60 +152,60 @@ stage_after_row l x = if index_of l == 2 then Called else if index_of l == 35 th
 
 pub row_calls : (y : Layout) (q : Seat) (r : Monarch) (v : ℕ) (f : Facts) (l : Label) → part_of l ≡ Monarchs → (part_of l ≡ Monarchs → r.label ≡ l) → Needs f (part_of l) (need_of l) → stage_of (next_at y q r l v).monarch.label ≡ stage_after_row l (stage_of l)
 row_calls y q r v f l mine is met = row_of_each (λ l. part_of l ≡ Monarchs → (part_of l ≡ Monarchs → r.label ≡ l) → stage_of (next_at y q r l v).monarch.label ≡ stage_after_row l (stage_of l)) (record {
-      f1 = λ g e. absurd cc;
-      f2 = λ g e. absurd cc;
-      f3 = λ g e. absurd cc;
-      f4 = λ g e. absurd cc;
-      f5 = λ g e. absurd cc;
-      f6 = λ g e. absurd cc;
-      r1 = λ g e. absurd cc;
-      r2 = λ g e. absurd cc;
-      r3 = λ g e. absurd cc;
-      r4 = λ g e. absurd cc;
-      r5 = λ g e. absurd cc;
-      r6 = λ g e. absurd cc;
-      s0 = λ g e. calls_first S1 S2 Before r refl refl;
-      s1 = λ g e. calls_next S1 S2 Before r refl refl;
-      s2 = λ g e. calls_known y.polls (known_from r.slots 1) r;
-      s3 = λ g e. calls_looked y.polls v (noted r.slot v r) (e refl);
-      s4 = λ g e. calls_commanded v r;
-      c1 = λ g e. refl;
-      c2 = λ g e. refl;
-      c3 = λ g e. calls_found y.apics y.count v r;
-      c4 = λ g e. calls_judged y.apics y.count v r;
-      c5 = λ g e. refl;
-      c6 = λ g e. calls_reported y.apics y.count v r;
-      nb = λ g e. refl;
-      n0 = λ g e. refl;
-      n1 = λ g e. refl;
-      n2 = λ g e. refl;
-      n3 = λ g e. refl;
-      n4 = λ g e. refl;
-      n5 = λ g e. refl;
-      n6 = λ g e. refl;
-      n7 = λ g e. refl;
-      n8a = λ g e. calls_flag v r.add r;
-      n8b = λ g e. calls_pair v r.add (noted r.add.slot v r);
-      n9 = λ g e. calls_shut r.add r;
-      n10 = λ g e. refl;
-      n11 = λ g e. calls_arrival v r.add (noted r.add.slot v r);
-      e0 = λ g e. refl;
-      e1 = λ g e. refl;
-      e2 = λ g e. calls_parked v r.eject r;
-      e3 = λ g e. refl;
-      e4a = λ g e. refl;
-      e4b = λ g e. calls_handed y.late r;
-      e4c = λ g e. refl;
-      e4d = λ g e. refl;
-      e4e = λ g e. refl;
-      e4f = λ g e. refl;
-      e4g = λ g e. calls_status v r.eject r;
-      e4h = λ g e. refl;
-      t = λ g e. calls_report y.apics (told r.outcome r);
-      e5 = λ g e. calls_first E6 E7 Past r refl refl;
-      e6 = λ g e. calls_next E6 E7 Past r refl refl;
-      e7 = λ g e. ap stage_of (e refl);
-    }) f l met mine is
+  f1 = λ g e. absurd cc;
+  f2 = λ g e. absurd cc;
+  f3 = λ g e. absurd cc;
+  f4 = λ g e. absurd cc;
+  f5 = λ g e. absurd cc;
+  f6 = λ g e. absurd cc;
+  r1 = λ g e. absurd cc;
+  r2 = λ g e. absurd cc;
+  r3 = λ g e. absurd cc;
+  r4 = λ g e. absurd cc;
+  r5 = λ g e. absurd cc;
+  r6 = λ g e. absurd cc;
+  s0 = λ g e. calls_first S1 S2 Before r refl refl;
+  s1 = λ g e. calls_next S1 S2 Before r refl refl;
+  s2 = λ g e. calls_known y.polls (known_from r.slots 1) r;
+  s3 = λ g e. calls_looked y.polls v (noted r.slot v r) (e refl);
+  s4 = λ g e. calls_commanded v r;
+  c1 = λ g e. refl;
+  c2 = λ g e. refl;
+  c3 = λ g e. calls_found y.apics y.count v r;
+  c4 = λ g e. calls_judged y.apics y.count v r;
+  c5 = λ g e. refl;
+  c6 = λ g e. calls_reported y.apics y.count v r;
+  nb = λ g e. refl;
+  n0 = λ g e. refl;
+  n1 = λ g e. refl;
+  n2 = λ g e. refl;
+  n3 = λ g e. refl;
+  n4 = λ g e. refl;
+  n5 = λ g e. refl;
+  n6 = λ g e. refl;
+  n7 = λ g e. refl;
+  n8a = λ g e. calls_flag v r.add r;
+  n8b = λ g e. calls_pair v r.add (noted r.add.slot v r);
+  n9 = λ g e. calls_shut r.add r;
+  n10 = λ g e. refl;
+  n11 = λ g e. calls_arrival v r.add (noted r.add.slot v r);
+  e0 = λ g e. refl;
+  e1 = λ g e. refl;
+  e2 = λ g e. calls_parked v r.eject r;
+  e3 = λ g e. refl;
+  e4a = λ g e. refl;
+  e4b = λ g e. calls_handed y.late r;
+  e4c = λ g e. refl;
+  e4d = λ g e. refl;
+  e4e = λ g e. refl;
+  e4f = λ g e. refl;
+  e4g = λ g e. calls_status v r.eject r;
+  e4h = λ g e. refl;
+  t = λ g e. calls_report y.apics (told r.outcome r);
+  e5 = λ g e. calls_first E6 E7 Past r refl refl;
+  e6 = λ g e. calls_next E6 E7 Past r refl refl;
+  e7 = λ g e. ap stage_of (e refl);
+}) f l met mine is
 
 -- the labels after the broadcast are those stages
 pub called_after : (l : Label) → stage_of l ≡ Called → is_after_broadcast l ≡ true

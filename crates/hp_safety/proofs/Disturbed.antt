@@ -1,7 +1,7 @@
 -- Whether a session has all others called in, and whether it was disturbed: the entries and the state say the same.
 use Rattle.std.specs.Prelude.{if◌then◌else◌}
 use Rattle.std.specs.Option.{unwrap_or}
-use Rattle.std.proofs.Common.{ℕ, ◌≡◌, ◌+◌, ◌==◌, ◌⊎◌, inl, inr, Bool, true, false, cond, not, ◌&&◌, ◌||◌, List, [], ◌∷◌, Option, Some, None, option_map, refl, sym, ap, subst, ◌∙◌, arith}
+use Rattle.std.proofs.Common.{ℕ, ◌≡◌, ◌+◌, ◌==◌, inl, inr, Bool, true, false, cond, not, ◌&&◌, ◌||◌, List, [], ◌∷◌, Option, Some, None, option_map, refl, sym, ap, subst, ◌∙◌, arith}
 use Rattle.std.proofs.lemmas.Bool.{and_parts, eqb-true}
 use Rattle.std.proofs.lemmas.Bool.Decides.{nat_tests}
 use Rattle.hp_model.specs.declared.platforms.Platform.{Platform}
@@ -12,18 +12,18 @@ use Rattle.hp_model.specs.declared.accesses.Access.{Access}
 use Rattle.hp_model.specs.declared.accesses.Want.{Want}
 use Rattle.hp_model.specs.declared.accesses.Want.TheVariants as want
 use Rattle.hp_model.specs.declared.labels.Label.{Label}
-use Rattle.hp_model.specs.declared.labels.Label.TheVariants.{S2, E5, E7}
+use Rattle.hp_model.specs.declared.labels.Label.TheVariants.{S2, E5}
 use Rattle.hp_model.specs.declared.entries.Event.{Event}
 use Rattle.hp_model.specs.declared.entries.Event.TheVariants.{Insert, Remove, Do, TakeSmi, TakeInit, Resume, Tell}
 use Rattle.hp_model.specs.declared.entries.Entry.{Entry}
 use Rattle.hp_model.specs.Platform.{tile, apic_of, is_late}
-use Rattle.hp_model.specs.Cpu.{is_free, is_running, is_unlatched, is_in_smm, address_in, smm_address}
+use Rattle.hp_model.specs.Cpu.{is_running, is_unlatched, is_in_smm, address_in, smm_address}
 use Rattle.hp_model.specs.Boot.{value_in}
-use Rattle.hp_model.specs.Labels.{Monarch as Monarchs, part_of, index_of, mark_of, same_label}
+use Rattle.hp_model.specs.Labels.{Monarch as Monarchs, part_of, index_of, same_label}
 use Rattle.hp_model.specs.SharedBytes.{layout_of}
 use Rattle.hp_model.specs.Monarch.{Monarch}
 use Rattle.hp_model.specs.Handlers.{want_at, next_at, address_of_label}
-use Rattle.hp_model.specs.Step.{State, After, at, seat, stands_in_smm, is_normal, is_halt, may_access, is_enabled, is_after_broadcast, writes_block, disturbs, is_disturbed_by, step}
+use Rattle.hp_model.specs.Step.{State, After, at, seat, is_normal, is_halt, may_access, is_enabled, is_after_broadcast, writes_block, disturbs, is_disturbed_by, step}
 use Rattle.hp_model.specs.Runs.{run_on, address_of}
 use Rattle.hp_model.specs.Events.{access_in, is_access_of}
 use Rattle.hp_model.specs.Transitions.{Transition, entries_of, since}
@@ -31,7 +31,6 @@ use Rattle.hp_model.specs.Account.{is_at}
 use Rattle.hp_model.specs.Sessions.{bounds_session, session, was_at, is_called_in, is_outside, interferes, disturbed_in, is_disturbed}
 use Rattle.hp_model.proofs.AtEach.{made as step_made}
 use Rattle.hp_sealed.specs.Left.{Sound}
-use Rattle.hp_sealed.specs.Sealed.{IsSealed}
 use Rattle.hp_sealed.proofs.Goes.{stepped}
 use Rattle.hp_sealed.proofs.Runs.{made}
 use Rattle.hp_safety.proofs.Invariant.{facts_of}
@@ -39,9 +38,9 @@ use Rattle.hp_safety.proofs.Backward.{since_it, since_other, session_on, session
 use Rattle.hp_safety.proofs.Marked.{same_index, at_monarch}
 use Rattle.hp_safety.proofs.Accesses.{smm_stands}
 use Rattle.hp_safety.proofs.Runs.{IsHanded}
-use Rattle.hp_safety.proofs.MonarchSteps.{IsWanted, IsOthers, IsRow, IsBeginning, IsEnd, MonarchStep, monarch_steps}
+use Rattle.hp_safety.proofs.MonarchSteps.{IsWanted, IsOthers, IsRow, MonarchStep, monarch_steps}
 use Rattle.hp_safety.proofs.Held.{bounds_of, row_bounds}
-use Rattle.hp_safety.proofs.Calling.{Call, Before, Called, Past, stage_of, stage_after_row, row_calls, called_after}
+use Rattle.hp_safety.proofs.Calling.{Call, Before, Called, Past, stage_of, row_calls, called_after}
 
 -- by the stage of the monarch's label
 abbrev pub CallAt : Bool → Bool → Bool → Bool → Call → Type 0
@@ -62,10 +61,10 @@ since_again (e ∷ es) = by_test (bounds_session e) refl (since_again es)
     by_test true is more = rw (since_it bounds_session e es is) refl
     by_test false is more = rw (since_other bounds_session e es is, since_other bounds_session e (since bounds_session es) is, more) refl
 
-was_more : (p : Platform) (m : Label) (es : List Entry) (e : Entry) → bounds_session e ≡ false → was_at p m (session (e ∷ es)) ≡ (is_at p m e || was_at p m (session es))
+pub was_more : (p : Platform) (m : Label) (es : List Entry) (e : Entry) → bounds_session e ≡ false → was_at p m (session (e ∷ es)) ≡ (is_at p m e || was_at p m (session es))
 was_more p m es e bound = rw (session_on es e bound) refl
 
-disturbed_on : (p : Platform) (es : List Entry) (e : Entry) → bounds_session e ≡ false → is_disturbed p (e ∷ es) ≡ (if interferes e then is_called_in p es || is_disturbed p es else is_disturbed p es)
+pub disturbed_on : (p : Platform) (es : List Entry) (e : Entry) → bounds_session e ≡ false → is_disturbed p (e ∷ es) ≡ (if interferes e then is_called_in p es || is_disturbed p es else is_disturbed p es)
 unfolding disturbed_in
 disturbed_on p es e bound = rw (session_on es e bound) (by_test (interferes e) refl)
   where

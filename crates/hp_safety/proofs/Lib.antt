@@ -34,3 +34,4 @@ pub mod Outcoming
 pub mod Answering
 pub mod Calling
 pub mod Disturbed
+pub mod Flags

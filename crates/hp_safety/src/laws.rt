@@ -6,11 +6,12 @@ ghost use Rattle.hp_model.specs.declared.entries.Entry.{Entry};
 ghost use Rattle.hp_model.specs.Platform.{IsFit};
 ghost use Rattle.hp_model.specs.Step.{State};
 ghost use Rattle.hp_model.specs.Runs.{run};
-ghost use Rattle.hp_model.specs.Transitions.{transitions, at_each};
+ghost use Rattle.hp_model.specs.Transitions.{transitions, at_each, at_each_state};
 ghost use Rattle.hp_model.specs.Smbases.{IsDistinct, IsNamed};
 ghost use Rattle.hp_model.specs.Outcomes.{answers, each_told};
 ghost use Rattle.hp_model.specs.Exact.{moves_held, answers_all};
 ghost use Rattle.hp_model.specs.Safety.{IsLockedBefore};
+ghost use Rattle.hp_safety.specs.Flags.{flag_tells};
 
 /// Every instruction executed in SMM lies in four bytes of SMRAM that were locked before it, and no write has covered them since; and
 /// nobody in SMM is without a row of its handler. So in each run of each platform that fits, whatever the agents and the host do.
@@ -48,4 +49,10 @@ pub fn sessions_answer_all()
 /// when it is taken up: it is the outcome that the class tells, or one in which an add or an eject of that report may end.
 pub fn outcomes_answer_reports()
     ensures { (p : Platform) (es : List Entry) (s : State) → IsFit p → run p es ≡ Some s → each_told p answers (transitions p es) ≡ true }
+{}
+
+/// In each state of a session that has all other processors called in, from its entry at S2 to that at E5, the state's flag is set
+/// exactly where the entries show that a processor outside SMM has written to the register block meanwhile.
+pub fn disturbed_sessions_are_flagged()
+    ensures { (p : Platform) (es : List Entry) (s : State) → IsFit p → run p es ≡ Some s → at_each_state p (flag_tells p) (transitions p es) ≡ true }
 {}

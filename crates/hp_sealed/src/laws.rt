@@ -16,7 +16,8 @@ ghost use Rattle.hp_sealed.specs.HandOver.{WasSealed};
 /// On each platform that fits, in each run: until the hand-over no processor is in SMM; and a run that is handed over was
 /// sealed by the entry that handed it over. In the state after that entry the default area and the platform's TSEG are locked,
 /// each cell of a handler that may run holds its mark, the gate is closed, each processor is outside SMM with an SMBASE where
-/// a handler is, the slots in the monarch's record are those of distinct possible APIC IDs, processor 0's first, and no write
+/// a handler is, the slots in the monarch's record are those of distinct possible APIC IDs, processor 0's first, its features are all that the
+/// platform supports, and no write
 /// has covered a byte since it was locked.
 #[tactic(auto, using(crate::proofs::HandOver::was_sealed))]
 pub fn boot_seals_smram()
