@@ -35,3 +35,4 @@ pub mod Answering
 pub mod Calling
 pub mod Disturbed
 pub mod Flags
+pub mod Departing

@@ -69,10 +69,10 @@ not_in_smm c here none = by_mode c.mode (subst (λ b. (if b then address_in c.mo
     by_mode (Smm a) e = absurd cc
 
 -- the state after a boot's access
-abbrev reached : Platform → State → ℕ → ℕ → Access → State
+abbrev pub reached : Platform → State → ℕ → ℕ → Access → State
 reached p s done supported b = record (with_agreed (access_effect p 0 false b s)) { stage = stage_after p.tseg_mib (answer_to false b s) (Boots done supported); disturbed = is_disturbed_by s (Do 0 b) }
 
-after_boots : (p : Platform) (s : State) (done supported : ℕ) (b : Access) → s.stage ≡ Boots done supported → is_in_smm (at s 0).mode ≡ false → (after p s (Do 0 b)).state ≡ reached p s done supported b
+pub after_boots : (p : Platform) (s : State) (done supported : ℕ) (b : Access) → s.stage ≡ Boots done supported → is_in_smm (at s 0).mode ≡ false → (after p s (Do 0 b)).state ≡ reached p s done supported b
 after_boots p s done supported b stage mode = rw (mode, stage) refl
 
 outside_agreed : (p : Platform) (u : State) (g : Stage) (d : Bool) → IsOutside p u → IsOutside p (record (with_agreed u) { stage = g; disturbed = d })
