@@ -36,3 +36,5 @@ pub mod Calling
 pub mod Disturbed
 pub mod Flags
 pub mod Departing
+pub mod Rising
+pub mod Reporting
