@@ -1,0 +1,5 @@
+use Rattle.hp_exact.proofs.Lost.{law}
+use Rattle.hp_exact.proofs.laws.outcomes_lose_none.Goals as goal
+
+pub returns : goal.returns
+returns c = law

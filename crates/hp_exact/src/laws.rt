@@ -1,0 +1,32 @@
+//! Laws over definitions: public functions with empty bodies, whose clauses are what is proved.
+
+ghost use Rattle.std.specs.Prelude.{◌≡◌, true, List};
+ghost use Rattle.hp_model.specs.declared.platforms.Platform.{Platform};
+ghost use Rattle.hp_model.specs.declared.entries.Entry.{Entry};
+ghost use Rattle.hp_model.specs.Platform.{IsFit};
+ghost use Rattle.hp_model.specs.Transitions.{transitions, at_each};
+ghost use Rattle.hp_model.specs.Outcomes.{each_told, loses_none};
+ghost use Rattle.hp_model.specs.Exact.{is_quiet, reports_truly};
+ghost use Rattle.hp_exact.specs.Refusals.{blames_rightly};
+
+/// Under prompt delivery no processor outside SMM makes an access or takes INIT while a session has all others called in, which is
+/// from its entry at S2 to its entry at E5, or to its end. So no session is disturbed.
+pub fn sessions_are_quiet()
+    ensures { (p : Platform) (es : List Entry) → IsFit p → at_each (is_quiet p) (transitions p es) ≡ true }
+{}
+
+/// The processors of a session's reports rise strictly. While the session is undisturbed each report is true: its status byte was its
+/// processor's before the entry at C4, its APIC ID is its processor's, and that isn't processor 0. So under both deliveries.
+pub fn reports_are_true()
+    ensures { (p : Platform) (es : List Entry) → IsFit p → at_each (reports_truly p) (transitions p es) ≡ true }
+{}
+
+/// While the session is undisturbed nobody becomes absent in the entries of an outcome, unless it tells an eject.
+pub fn outcomes_lose_none()
+    ensures { (p : Platform) (es : List Entry) → IsFit p → each_told p (loses_none p) (transitions p es) ≡ true }
+{}
+
+/// That a report's APIC ID isn't its processor's, or that an eject hit another processor, is told in disturbed sessions alone.
+pub fn refusals_blame_rightly()
+    ensures { (p : Platform) (es : List Entry) → IsFit p → each_told p (blames_rightly p) (transitions p es) ≡ true }
+{}
