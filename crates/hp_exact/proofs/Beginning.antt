@@ -8,6 +8,7 @@ use Rattle.hp_model.specs.declared.platforms.Platform.{Platform}
 use Rattle.hp_model.specs.declared.accesses.Access.{Access}
 use Rattle.hp_model.specs.declared.accesses.Access.TheVariants.{In}
 use Rattle.hp_model.specs.declared.labels.Label.{Label}
+use Rattle.hp_model.specs.declared.labels.Label.TheVariants.{S0}
 use Rattle.hp_model.specs.declared.outcomes.BootFact.{BootFact}
 use Rattle.hp_model.specs.declared.outcomes.BootFact.TheVariants.{NotModern}
 use Rattle.hp_model.specs.declared.entries.Event.{Event}
@@ -447,3 +448,8 @@ pub fresh_at_hand_over : (p : Platform) (s t : State) (e : Entry) → Sound p �
 fresh_at_hand_over p s t e fit (inl k) before is handed = let outside = sealed_outside p s t e fit k is handed in ap (λ (r : Monarch). is_after_broadcast r.label) outside.begun
 fresh_at_hand_over p s t e fit (inr (inl k)) before is handed = absurd (let mk = made_by p s e t is in refused_goes p s e.event mk.after k mk.step)
 fresh_at_hand_over p s t e fit (inr (inr k)) before is handed = absurd (let on = k.handed in let both : true ≡ false = sym on ∙ before in cc)
+
+pub label_at_hand_over : (p : Platform) (s t : State) (e : Entry) → Sound p → IsGood p s → is_handed s.stage ≡ false → run_on p s e ≡ Some t → is_handed t.stage ≡ true → t.monarch.label ≡ S0
+label_at_hand_over p s t e fit (inl k) before is handed = let outside = sealed_outside p s t e fit k is handed in ap (λ (r : Monarch). r.label) outside.begun
+label_at_hand_over p s t e fit (inr (inl k)) before is handed = absurd (let mk = made_by p s e t is in refused_goes p s e.event mk.after k mk.step)
+label_at_hand_over p s t e fit (inr (inr k)) before is handed = absurd (let on = k.handed in let both : true ≡ false = sym on ∙ before in cc)

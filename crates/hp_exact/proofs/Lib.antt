@@ -23,3 +23,4 @@ pub mod Quiet
 pub mod Truth
 pub mod Losing
 pub mod Lost
+pub mod Pending

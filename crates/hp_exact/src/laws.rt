@@ -7,7 +7,7 @@ ghost use Rattle.hp_model.specs.Platform.{IsFit};
 ghost use Rattle.hp_model.specs.Transitions.{transitions, at_each};
 ghost use Rattle.hp_model.specs.Outcomes.{each_told, loses_none};
 ghost use Rattle.hp_model.specs.Exact.{is_quiet, reports_truly};
-ghost use Rattle.hp_exact.specs.Refusals.{blames_rightly};
+ghost use Rattle.hp_exact.specs.Refusals.{blames_rightly, pends_rightly};
 
 /// Under prompt delivery no processor outside SMM makes an access or takes INIT while a session has all others called in, which is
 /// from its entry at S2 to its entry at E5, or to its end. So no session is disturbed.
@@ -29,4 +29,9 @@ pub fn outcomes_lose_none()
 /// That a report's APIC ID isn't its processor's, or that an eject hit another processor, is told in disturbed sessions alone.
 pub fn refusals_blame_rightly()
     ensures { (p : Platform) (es : List Entry) → IsFit p → each_told p (blames_rightly p) (transitions p es) ≡ true }
+{}
+
+/// An eject that is told as still pending was looked at in its entries: an E4g read the status byte that is told, with bit 4 set.
+pub fn pending_ejects_were_seen()
+    ensures { (p : Platform) (es : List Entry) → IsFit p → each_told p (pends_rightly p) (transitions p es) ≡ true }
 {}

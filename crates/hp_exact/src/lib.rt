@@ -3,4 +3,7 @@
 
 mod laws;
 
-pub use laws::{outcomes_lose_none, refusals_blame_rightly, reports_are_true, sessions_are_quiet};
+pub use laws::{
+    outcomes_lose_none, pending_ejects_were_seen, refusals_blame_rightly, reports_are_true,
+    sessions_are_quiet,
+};
