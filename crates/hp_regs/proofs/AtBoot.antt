@@ -20,8 +20,8 @@ pub length-slots_from : (k : ℕ) (apic boot : List ℕ) → length (slots_from 
 length-slots_from k [] boot = refl
 length-slots_from k (a ∷ as') boot = ap suc (length-slots_from (k + 1) as' boot)
 
--- a platform that fits has at most 64 processors
-pub few : (p : Platform) → IsFit p → length p.apic ≤ 64
+-- a platform that fits has at most 512 processors
+pub few : (p : Platform) → IsFit p → length p.apic ≤ 512
 few p fit = grind (arith, nat_tests)
 
 pub ruleset new_facts = (length-slots_from, few)

@@ -44,7 +44,7 @@ impl Model for Block {
 
     ghost view = { λ b. record { can_switch = b.can_switch; modern = b.modern; selector = b.selector; command = b.command; apic = b.apic.items; slots = b.slots.items } };
 
-    ghost invariant = { λ b. (length b.apic.items ≡ length b.slots.items) × (length b.slots.items ≤ 64) };
+    ghost invariant = { λ b. (length b.apic.items ≡ length b.slots.items) × (length b.slots.items ≤ 512) };
 }
 
 /// The low `width` bytes of a value.

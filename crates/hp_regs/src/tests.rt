@@ -39,13 +39,15 @@ fn platform(alloc: Global, count: u32, boot: u32, modern: bool) -> Result<Platfo
         apic: Ids(apic),
         boot: Ids(places),
         low_memory: 0x8000000,
-        tseg_mib: 8,
+        tseg_mib: 48,
         features: 7,
         polls: 8,
         turns: 0,
         modern,
         default_smram: true,
         delivery: Delivery::Prompt,
+        x2apic: true,
+        ext_tseg: true,
     })
 }
 
@@ -124,6 +126,28 @@ fn a_selector_past_the_last_processor_reads_0(rt: HostRuntime) -> Result<(), Fai
         Read(8, 4, 63),
     ];
     run(&rt, rt.alloc(), 64, 1, true, &steps)
+}
+
+#[test]
+fn the_last_of_512_processors_has_its_registers(rt: HostRuntime) -> Result<(), Fail> {
+    let steps = [
+        Insert(511),
+        Write(0, 4, 0),
+        // command 0 under selector 0 finds it
+        Write(5, 1, 0),
+        Read(8, 4, 511),
+        Read(4, 1, 0x03),
+        Write(5, 1, 3),
+        // an APIC ID of more than 8 bits is read whole, or cut to the width
+        Read(8, 4, 527),
+        Read(8, 2, 527),
+        Read(8, 1, 15),
+        Read(0, 4, 0),
+        Ejects(4, 1, 0x08, 511),
+        Write(0, 4, 512),
+        Read(4, 1, 0),
+    ];
+    run(&rt, rt.alloc(), 512, 1, true, &steps)
 }
 
 #[test]
