@@ -1,6 +1,6 @@
-//! The interrupt command register of a local APIC in xAPIC mode (Intel SDM vol. 3, local APIC).
+//! The interrupt command register of a local APIC in xAPIC mode and in x2APIC mode (Intel SDM vol. 3, local APIC).
 
-ghost use Rattle.std.specs.Prelude.{◌≡◌};
+ghost use Rattle.std.specs.Prelude.{◌≡◌, true, false};
 ghost use Rattle.hp_model.specs.Interrupts.{kind_of as kind_in, target_of as target_in, decoded, is_target};
 
 use hp_model::{Ipi, Kind, Target};
@@ -17,22 +17,30 @@ fn kind_of(low: u32) -> Option<Kind>
     }
 }
 
-/// Whom the halves name: the destination shorthand is in bits 19:18 of the low half, the destination in bits 31:24 of
-/// the high half.
-fn target_of(high: u32, low: u32) -> Option<Target>
-    ensures { result ≡ target_in high low }
+/// Whom the low half's shorthand, bits 19:18, names beside this destination.
+fn target_of(destination: u32, low: u32) -> Option<Target>
+    ensures { result ≡ target_in true destination low }
 {
     match (low >> 18) & 3 {
-        0 => Some(Target::Id((high >> 24) as u8)),
+        0 => Some(Target::Id(destination)),
         3 => Some(Target::Others),
         _ => None,
     }
 }
 
-/// The interrupt command in the two halves of the register; `None` exactly where its delivery mode or its destination
-/// shorthand does nothing. The destination mode, level and trigger bits are ignored (own rule).
+/// The interrupt command in the two halves of the register in xAPIC mode, with the destination in bits 31:24 of the high
+/// half; `None` exactly where its delivery mode or its destination shorthand does nothing. The destination mode, level
+/// and trigger bits are ignored (own rule).
 pub fn decode(high: u32, low: u32) -> Option<Ipi>
-    ensures { result ≡ decoded high low }
+    ensures { result ≡ decoded false high low }
+{
+    decode_wide(high >> 24, low)
+}
+
+/// The interrupt command in x2APIC mode, where the high half is the destination: an APIC ID of 32 bits, of which
+/// ffffffff is no broadcast (own rule). `None` comes as with `decode`.
+pub fn decode_wide(high: u32, low: u32) -> Option<Ipi>
+    ensures { result ≡ decoded true high low }
 {
     let kind = kind_of(low)?;
     let to = target_of(high, low)?;
@@ -44,7 +52,7 @@ pub fn hits(ipi: &Ipi, sender: u32, id: u32) -> bool
     ensures { result ≡ is_target ipi.now.to sender id }
 {
     match ipi.to {
-        Target::Id(to) => id == u32::from(to),
+        Target::Id(to) => id == to,
         Target::Others => id != sender,
     }
 }

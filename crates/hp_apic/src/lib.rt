@@ -5,4 +5,4 @@ mod commands;
 #[cfg(test)]
 mod tests;
 
-pub use commands::{decode, hits};
+pub use commands::{decode, decode_wide, hits};

@@ -1,6 +1,6 @@
 //! Values of the interrupt command register, by the table of the Intel SDM.
 
-use crate::{decode, hits};
+use crate::{decode, decode_wide, hits};
 use hp_model::Kind;
 use std::test::Fail;
 
@@ -73,6 +73,40 @@ fn two_shorthands_do_something(rt: HostRuntime) -> Result<(), Fail> {
     ];
     for (high, low, want) in table {
         assert_eq!(rt; hit_by(high, low), want, "halves {high} and {low}");
+    }
+    Ok(())
+}
+
+/// Which of the processors with APIC IDs 3, 70000 and 4294967294 a command of processor 3 hits in x2APIC mode.
+fn hit_by_wide(high: u32, low: u32) -> (bool, bool, bool) {
+    match decode_wide(high, low) {
+        Some(ipi) => (
+            hits(&ipi, 3, 3),
+            hits(&ipi, 3, 70000),
+            hits(&ipi, 3, 4294967294),
+        ),
+        None => (false, false, false),
+    }
+}
+
+#[test]
+fn a_wide_destination_is_the_whole_high_half(rt: HostRuntime) -> Result<(), Fail> {
+    let table = [
+        (70000, 0x00200, (false, true, false)),
+        (3, 0x00500, (true, false, false)),
+        (0xfffffffe, 0x0069f, (false, false, true)),
+        // where the destination would stand without x2APIC
+        (0x03000000, 0x00200, (false, false, false)),
+        // a destination that broadcasts on a real x2APIC: here it is no processor's APIC ID
+        (0xffffffff, 0x00200, (false, false, false)),
+        // the low half is read as before
+        (3, 0x00400, (false, false, false)),
+        (3, 0x40200, (false, false, false)),
+        (3, 0x80200, (false, false, false)),
+        (3, 0xc0200, (false, true, true)),
+    ];
+    for (high, low, want) in table {
+        assert_eq!(rt; hit_by_wide(high, low), want, "halves {high} and {low}");
     }
     Ok(())
 }
