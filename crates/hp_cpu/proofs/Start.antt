@@ -51,7 +51,7 @@ at_place count (k ∷ ks) (suc i) below h = at_place count ks i (grind (arith, n
 pub boot_few : (p : Platform) → IsFit p → length p.boot ≤ length p.apic
 boot_few p fit = few (count_of p) p.boot (grind (arith, nat_tests)) (grind (arith, nat_tests))
 
-pub apic_few : (p : Platform) → IsFit p → length p.apic ≤ 64
+pub apic_few : (p : Platform) → IsFit p → length p.apic ≤ 512
 apic_few p fit = grind (arith, nat_tests)
 
 pub boot_placed : (p : Platform) (i : ℕ) → IsFit p → i < length p.boot → get_or p.boot i 0 < length p.apic

@@ -58,6 +58,25 @@ fn platform(alloc: Global) -> Result<Platform, NoMemory> {
         modern: true,
         default_smram: true,
         delivery: Delivery::Prompt,
+        x2apic: false,
+        ext_tseg: true,
+    })
+}
+
+/// 512 processors, all there at boot, with TSEG at 0x5000000.
+fn largest_platform(alloc: Global) -> Result<Platform, NoMemory> {
+    let mut apic = Vec::new(alloc);
+    let mut boot = Vec::new(alloc);
+    for place in 0..512u32 {
+        apic.push(place)?;
+        boot.push(place)?;
+    }
+    Ok(Platform {
+        apic: Ids(apic),
+        boot: Ids(boot),
+        tseg_mib: 48,
+        x2apic: true,
+        ..platform(alloc)?
     })
 }
 
@@ -266,6 +285,21 @@ fn boot_processors_have_their_tiles_and_an_insert_clears_all(rt: HostRuntime) ->
     assert!(rt; cpus.insert(1));
     assert!(rt; is_cpu(cpus.get(1), in_mode(Mode::Wait)));
     assert!(rt; is_cpu(cpus.get(0), first));
+    Ok(())
+}
+
+#[test]
+fn the_last_of_512_boot_processors_has_the_last_tile(rt: HostRuntime) -> Result<(), Fail> {
+    let alloc = rt.alloc();
+    let p = largest_platform(alloc)?;
+    assert!(rt; fits(&p).is_ok());
+    assert_eq!(rt; p.apic.0.len(), 512);
+    let cpus = Cpus::new(alloc, &p)?;
+    let last = Cpu {
+        smbase: 0x7010000,
+        ..in_mode(Mode::Running(0))
+    };
+    assert!(rt; is_cpu(cpus.get(511), last));
     Ok(())
 }
 
