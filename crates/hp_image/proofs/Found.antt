@@ -6,7 +6,7 @@ use Rattle.std.proofs.lemmas.Bool.{ltb-true}
 use Rattle.std.proofs.lemmas.Bool.Decides.{nat_tests}
 use Rattle.std.proofs.lemmas.Option.{same_Some}
 use Rattle.hp_model.specs.declared.labels.Label.{Label}
-use Rattle.hp_model.specs.declared.labels.Label.TheVariants.{F1, F2, F3, F4, F5, F6, R1, R2, R3, R4, R5, R6, S0, S1, S2, S3, S4, C1, C2, C3, C4, C5, C6, NB, N0, N1, N2, N3, N4, N5, N6, N7, N8a, N8b, N9, N10, N11, E0, E1, E2, E3, E4a, E4b, E4c, E4d, E4e, T, E5, E6, E7}
+use Rattle.hp_model.specs.declared.labels.Label.TheVariants.{F1, F2, F3, F4, F5, F6, R1, R2, R3, R4, R5, R6, S0, S1, S2, S3, S4, C1, C2, C3, C4, C5, C6, NB, N0, N1, N2, N3, N4, N5, N6, N7, N8a, N8b, N9, N10, N11, E0, E1, E2, E3, E4a, E4b, E4c, E4d, E4e, E4f, E4g, E4h, T, E5, E6, E7}
 use Rattle.hp_model.specs.Boot.{pen_mark}
 use Rattle.hp_model.specs.Labels.{index_of, label_with, labels, mark_of, part_of, with_mark}
 
@@ -59,6 +59,9 @@ found E4b = refl
 found E4c = refl
 found E4d = refl
 found E4e = refl
+found E4f = refl
+found E4g = refl
+found E4h = refl
 found T = refl
 found E5 = refl
 found E6 = refl
@@ -86,8 +89,8 @@ holds : (test : Label → Bool) (l : Label) → list_all test labels ≡ true �
 unfolding label_with
 holds test l all = with_mark-holds test (mark_of l) labels l (found l) all
 
-pub index_below : (l : Label) → index_of l < 38
-index_below l = ltb-true (index_of l) 38 (holds (λ k. nat_lt (index_of k) 38) l refl)
+pub index_below : (l : Label) → index_of l < 41
+index_below l = ltb-true (index_of l) 41 (holds (λ k. nat_lt (index_of k) 41) l refl)
 
 pub mark_below : (l : Label) → mark_of l < 2 ^ 32
 mark_below l = ltb-true (mark_of l) (2 ^ 32) (holds (λ k. nat_lt (mark_of k) (2 ^ 32)) l refl)

@@ -12,7 +12,7 @@ use Rattle.hp_model.specs.Memory.{Write, write_of}
 use Rattle.hp_model.specs.Platform.{IsFit, ascends_from, ascends_from_zero, count_of}
 use Rattle.hp_model.specs.SharedBytes.{layout_of, release_byte}
 use Rattle.hp_image.specs.declared.stores.Cell.{Cell}
-use Rattle.hp_image.specs.Cells.{cell_fits, cells_fit, stored_cells}
+use Rattle.hp_image.specs.Cells.{is_width, cell_fits, cells_fit, stored_cells}
 use Rattle.hp_image.specs.Handlers.{smbase_in}
 use Rattle.hp_image.proofs.Tiles.{in_tile, tile_inside}
 use Rattle.hp_image.proofs.Writes.{fit_in_order, stored_in_order}
@@ -35,7 +35,19 @@ cell_inside p l slot fit h = omega (arith, (in_tile p l slot).1, part_inside p (
 pub release_inside : (p : Platform) (slot : ℕ) → IsFit p → slot < count_of p → release_byte (layout_of p) slot + 1 ≤ p.low_memory
 release_inside p slot fit h = grind (arith, nat_tests, fit, tile_inside p slot fit h)
 
-pub ruleset one_more = (push_stored, push_fit, cell_inside, release_inside)
+-- one more cell that ends below the end of RAM
+push_inside : (low : ℕ) (cs : List Cell) (c : Cell) → is_width c.width ≡ true → c.addr + c.width ≤ low → cells_fit low (cs ++ c ∷ []) ≡ cells_fit low cs
+push_inside low cs c width to = push_fit low cs c (grind (arith, nat_tests, common_steps, width, to))
+
+pub mark_fits : (p : Platform) (l : Label) (slot addr value : ℕ) (cs : List Cell) → IsFit p → slot < count_of p → addr ≡ cell_of p l slot →
+    cells_fit p.low_memory (cs ++ record { addr = addr; width = 4; value = value } ∷ []) ≡ cells_fit p.low_memory cs
+mark_fits p l slot addr value cs fit h is =
+    push_inside p.low_memory cs (record { addr = addr; width = 4; value = value }) refl (rw is (cell_inside p l slot fit h))
+
+pub release_fits : (p : Platform) (slot addr value : ℕ) (cs : List Cell) → IsFit p → slot < count_of p → addr ≡ release_byte (layout_of p) slot →
+    cells_fit p.low_memory (cs ++ record { addr = addr; width = 1; value = value } ∷ []) ≡ cells_fit p.low_memory cs
+release_fits p slot addr value cs fit h is =
+    push_inside p.low_memory cs (record { addr = addr; width = 1; value = value }) refl (rw is (release_inside p slot fit h))
 
 -- places that ascend from above `low`, all below `count`, are so few
 ascending : (low count : ℕ) (ks : List ℕ) → ascends_from low ks ≡ true → list_all (λ k. nat_lt k count) ks ≡ true →
@@ -47,11 +59,11 @@ few : (count : ℕ) (ks : List ℕ) → ascends_from_zero ks ≡ true → list_a
 few count [] up below = omega arith
 few count (k ∷ ks) up below = grind (arith, nat_tests, common_steps, ascending 0 count ks)
 
--- the boot processors are no more than the possible ones, and those at most 64
+-- the boot processors are no more than the possible ones, and those at most 512
 pub boot_few : (p : Platform) → IsFit p → length p.boot ≤ length p.apic
 boot_few p fit = few (count_of p) p.boot (grind (arith, nat_tests)) (grind (arith, nat_tests))
 
-pub apic_few : (p : Platform) → IsFit p → length p.apic ≤ 64
+pub apic_few : (p : Platform) → IsFit p → length p.apic ≤ 512
 apic_few p fit = grind (arith, nat_tests)
 
 -- one more label's mark

@@ -16,13 +16,15 @@ fn platform(alloc: Global, count: u32, boot: &[u32]) -> Result<Platform, NoMemor
         apic: Ids(apic),
         boot: Ids(Vec::from_slice(alloc, boot)?),
         low_memory: 0x8000000,
-        tseg_mib: 1,
+        tseg_mib: if count <= 14 { 1 } else { 48 },
         features: 7,
         polls: 8,
         turns: 0,
         modern: true,
         default_smram: true,
         delivery: Delivery::Prompt,
+        x2apic: true,
+        ext_tseg: true,
     })
 }
 
@@ -43,7 +45,7 @@ fn store_at(rt: &impl Abort, cells: &Cells, place: usize) -> (u32, u8, u64) {
 #[test]
 fn two_tiles_the_monarch_and_two_release_bytes(rt: HostRuntime) -> Result<(), Fail> {
     let cells = image_of(&rt, rt.alloc(), 3, &[0, 1, 2])?;
-    assert_eq!(rt; cells.list.0.len(), 6 + 6 + 38 + 2);
+    assert_eq!(rt; cells.list.0.len(), 6 + 6 + 41 + 2);
     for (place, store) in [
         // slot 1
         (0, (0x7f38000, 4, 0x53000011)),
@@ -54,10 +56,15 @@ fn two_tiles_the_monarch_and_two_release_bytes(rt: HostRuntime) -> Result<(), Fa
         // slot 0
         (12, (0x7f28000, 4, 0x53000021)),
         (16, (0x7f28010, 4, 0x53000025)),
-        (49, (0x7f28094, 4, 0x53000046)),
+        // E4e, then the labels that came last, then T
+        (45, (0x7f28084, 4, 0x53000042)),
+        (46, (0x7f28098, 4, 0x53000047)),
+        (48, (0x7f280a0, 4, 0x53000049)),
+        (49, (0x7f28088, 4, 0x53000043)),
+        (52, (0x7f28094, 4, 0x53000046)),
         // the release bytes of slots 1 and 2
-        (50, (0x7f01001, 1, 1)),
-        (51, (0x7f01002, 1, 1)),
+        (53, (0x7f01001, 1, 1)),
+        (54, (0x7f01002, 1, 1)),
     ] {
         assert_eq!(rt; store_at(&rt, &cells, place), store, "place {place}");
     }
@@ -70,11 +77,12 @@ fn each_possible_slot_has_its_tile_and_each_boot_slot_from_1_on_its_release_byte
 ) -> Result<(), Fail> {
     // possible processors, how many of them are boot processors, stores
     for (count, boot, stores) in [
-        (1, 1usize, 38),
-        (2, 1, 44),
-        (2, 2, 45),
-        (14, 1, 116),
-        (14, 3, 118),
+        (1, 1usize, 41),
+        (2, 1, 47),
+        (2, 2, 48),
+        (14, 1, 119),
+        (14, 3, 121),
+        (512, 1, 3107),
     ] {
         let cells = image_of(&rt, rt.alloc(), count, &[0, 1, 2][..boot])?;
         assert_eq!(rt; cells.list.0.len(), stores, "{boot} of {count}");

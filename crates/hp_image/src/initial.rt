@@ -22,7 +22,7 @@ const RELOCATED: [Label; 6] = [
     Label::R6,
 ];
 
-const MONARCH: [Label; 38] = [
+const MONARCH: [Label; 41] = [
     Label::S0,
     Label::S1,
     Label::S2,
@@ -57,6 +57,9 @@ const MONARCH: [Label; 38] = [
     Label::E4c,
     Label::E4d,
     Label::E4e,
+    Label::E4f,
+    Label::E4g,
+    Label::E4h,
     Label::T,
     Label::E5,
     Label::E6,
@@ -64,7 +67,7 @@ const MONARCH: [Label; 38] = [
 ];
 
 /// The label's mark in its cell of this slot.
-#[tactic(auto, using(crate::proofs::Initials::one_more))]
+#[tactic(auto, using(crate::proofs::Initials::push_stored))]
 fn add_mark(cells: &mut Vec<Cell>, p: &Platform, slot: u32, label: Label) -> Result<(), NoMemory>
     requires fit { IsFit p.now }
     requires slot { slot < count_of p.now }
@@ -112,7 +115,7 @@ fn add_tiles(cells: &mut Vec<Cell>, p: &Platform) -> Result<(), NoMemory>
 }
 
 /// 1 in the release byte of this slot.
-#[tactic(auto, using(crate::proofs::Initials::one_more))]
+#[tactic(auto, using(crate::proofs::Initials::push_stored))]
 fn add_release(cells: &mut Vec<Cell>, p: &Platform, slot: u32) -> Result<(), NoMemory>
     requires fit { IsFit p.now }
     requires slot { slot < count_of p.now }

@@ -28,11 +28,15 @@ const FIRST_RELOCATED: u32 = Label::R1 as u32;
 
 const FIRST_MONARCH: u32 = Label::S0 as u32;
 
+const FIRST_LOOK: u32 = Label::E4f as u32;
+
+const FIRST_AFTER: u32 = Label::T as u32;
+
 /// Where a label stands among the labels.
 pub fn place_of(label: Label) -> Place
     ensures handler { part_named result.handler ≡ part_of label }
     ensures index { result.index ≡ index_of label }
-    ensures below { result.index < 38 }
+    ensures below { result.index < 41 }
 {
     let place = label as u32;
     if place < FIRST_RELOCATED {
@@ -45,10 +49,21 @@ pub fn place_of(label: Label) -> Place
             handler: Handler::Relocated,
             index: place - FIRST_RELOCATED,
         }
-    } else {
+    } else if place < FIRST_LOOK {
         Place {
             handler: Handler::Monarch,
             index: place - FIRST_MONARCH,
+        }
+    } else if place < FIRST_AFTER {
+        // those that look whether an eject went through came last (own rule)
+        Place {
+            handler: Handler::Monarch,
+            index: 38 + place - FIRST_LOOK,
+        }
+    } else {
+        Place {
+            handler: Handler::Monarch,
+            index: 34 + place - FIRST_AFTER,
         }
     }
 }
@@ -128,6 +143,9 @@ pub fn label_of(mark: u32) -> Option<Label>
         0x53000044 => Label::E5,
         0x53000045 => Label::E6,
         0x53000046 => Label::E7,
+        0x53000047 => Label::E4f,
+        0x53000048 => Label::E4g,
+        0x53000049 => Label::E4h,
         _ => return None,
     };
     Some(label)

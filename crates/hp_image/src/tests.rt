@@ -23,16 +23,20 @@ fn the_marks_of_a_handler_follow_one_another(rt: HostRuntime) {
         (Label::E4e, 0x53000042),
         (Label::T, 0x53000043),
         (Label::E7, 0x53000046),
+        // those that look whether an eject went through came last
+        (Label::E4f, 0x53000047),
+        (Label::E4g, 0x53000048),
+        (Label::E4h, 0x53000049),
     ] {
         assert_eq!(rt; mark(label), value);
     }
 }
 
-/// Whether a number is a mark: 6 are the first handler's, 6 the relocated handler's, 38 the monarch's.
+/// Whether a number is a mark: 6 are the first handler's, 6 the relocated handler's, 41 the monarch's.
 fn is_mark(number: u32) -> bool {
     matches!(
         number,
-        0x53000001..=0x53000006 | 0x53000011..=0x53000016 | 0x53000021..=0x53000046
+        0x53000001..=0x53000006 | 0x53000011..=0x53000016 | 0x53000021..=0x53000049
     )
 }
 
@@ -69,6 +73,8 @@ fn platform(
         modern: true,
         default_smram: true,
         delivery: Delivery::Prompt,
+        x2apic: true,
+        ext_tseg: true,
     })
 }
 
@@ -79,20 +85,21 @@ fn last_cells(rt: &impl Abort, p: &Platform, slot: u32) -> [u32; 3] {
     [
         cell(p, Label::F6, slot),
         cell(p, Label::R6, slot),
-        cell(p, Label::E7, slot),
+        cell(p, Label::E4h, slot),
     ]
 }
 
 #[test]
 fn cells_lie_at_these_addresses(rt: HostRuntime) -> Result<(), Fail> {
-    // RAM, MiB of TSEG, how many processors, a slot; then the cells of F6, R6 and E7
+    // RAM, MiB of TSEG, how many processors, a slot; then the cells of F6, R6 and E4h
     for (low_memory, tseg_mib, count, slot, cells) in [
-        (0x1000000, 1, 1, 0, [0x38014, 0xf28014, 0xf28094]),
-        (0x1000000, 1, 14, 13, [0x38014, 0xff8014, 0xf28094]),
-        (0x1000000, 8, 64, 63, [0x38014, 0xc18014, 0x828094]),
-        (0x8000000, 2, 30, 1, [0x38014, 0x7e38014, 0x7e28094]),
-        (0x8000000, 2, 30, 29, [0x38014, 0x7ff8014, 0x7e28094]),
-        (0x80000000, 8, 64, 63, [0x38014, 0x7fc18014, 0x7f828094]),
+        (0x1000000, 1, 1, 0, [0x38014, 0xf28014, 0xf280a0]),
+        (0x1000000, 1, 14, 13, [0x38014, 0xff8014, 0xf280a0]),
+        (0x1000000, 8, 64, 63, [0x38014, 0xc18014, 0x8280a0]),
+        (0x8000000, 2, 30, 1, [0x38014, 0x7e38014, 0x7e280a0]),
+        (0x8000000, 2, 30, 29, [0x38014, 0x7ff8014, 0x7e280a0]),
+        (0x80000000, 8, 126, 125, [0x38014, 0x7fff8014, 0x7f8280a0]),
+        (0x4000000, 48, 512, 511, [0x38014, 0x3018014, 0x10280a0]),
     ] {
         let p = platform(rt.alloc(), low_memory, tseg_mib, count)?;
         assert_eq!(rt;

@@ -1,0 +1,7 @@
+-- The store ends below the end of RAM.
+use Rattle.std.proofs.Common.{refl}
+use Rattle.hp_image.proofs.Initials.{release_fits}
+use Rattle.hp_image.proofs.initial.add_release.Goals as goal
+
+pub returns-clause-fits : goal.returns-clause-fits
+returns-clause-fits c = rw c.in_ok-push.ensures.items (release_fits c.args.p.now c.args.slot _ _ c.args.cells.now.items c.requires.fit c.requires.slot (rw c.tseg.ensures refl))
