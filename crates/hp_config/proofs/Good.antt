@@ -45,7 +45,7 @@ next false rule others e = absurd (none-some rule (sym e))
 hold_later : (parts : Parts) → later_fault parts ≡ None → HoldLater parts
 unfolding later_fault
 hold_later parts e =
-    let (prompt, e12) = next parts.machine.is_prompt 11 _ e in
+    let (named, e12) = next parts.machine.names_delivery 11 _ e in
     let (hosts, e13) = next (hosts_fit (count_of parts.machine.platform) parts.hosts) 12 _ e12 in
     let (stalls, e14) = next (stalls_fit (count_of parts.machine.platform) parts.stalls) 13 _ e13 in
     let (agents, e15) = next (agents_fit (count_of parts.machine.platform) parts.agents) 14 _ e14 in

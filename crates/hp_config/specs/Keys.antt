@@ -12,7 +12,8 @@ knows Whole key =
 knows Platform key =
     bytes_eq key (codes "apic") || bytes_eq key (codes "boot") || bytes_eq key (codes "low_memory") || bytes_eq key (codes "tseg_mib")
     || bytes_eq key (codes "features") || bytes_eq key (codes "polls") || bytes_eq key (codes "turns") || bytes_eq key (codes "modern")
-    || bytes_eq key (codes "default_smram") || bytes_eq key (codes "delivery")
+    || bytes_eq key (codes "default_smram") || bytes_eq key (codes "delivery") || bytes_eq key (codes "lag") || bytes_eq key (codes "x2apic")
+    || bytes_eq key (codes "ext_tseg")
 knows Host key = bytes_eq key (codes "turn") || bytes_eq key (codes "insert") || bytes_eq key (codes "remove")
 knows Stall key = bytes_eq key (codes "cpu") || bytes_eq key (codes "from") || bytes_eq key (codes "to")
 knows Agent key = bytes_eq key (codes "cpu") || bytes_eq key (codes "kind") || bytes_eq key (codes "steps") || bytes_eq key (codes "seed")

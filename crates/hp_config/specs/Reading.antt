@@ -18,14 +18,14 @@ pub data Reading : Type 0 where
   good : File → Reading
   broken : ℕ → Reading
 
--- the first of rules 2 to 10 that fails
+-- the first of rules 2 to 11 that the platform breaks
 unfoldable pub platform_fault : Platform → Option ℕ
 platform_fault p = first_broken p
 
--- the first of rules 11 to 16 that fails
+-- the first of rules 11 to 16 that fails, where rule 11 is that `delivery` names one
 unfoldable pub later_fault : Parts → Option ℕ
 later_fault parts =
-    if not parts.machine.is_prompt then Some 11
+    if not parts.machine.names_delivery then Some 11
     else if not (hosts_fit (count_of parts.machine.platform) parts.hosts) then Some 12
     else if not (stalls_fit (count_of parts.machine.platform) parts.stalls) then Some 13
     else if not (agents_fit (count_of parts.machine.platform) parts.agents) then Some 14

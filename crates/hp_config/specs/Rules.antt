@@ -3,7 +3,7 @@ use Rattle.std.specs.Prelude.{ℕ, Bool, true, ◌&&◌, not, ◌==◌, nat_lt, 
 use Rattle.std.specs.List.{list_all, list_any}
 use Rattle.std.specs.Option.{is_some}
 use Rattle.hp_model.specs.declared.entries.Actor.{Actor}
-use Rattle.hp_model.specs.declared.entries.Actor.TheVariants.{Insert, Remove, Cpu}
+use Rattle.hp_model.specs.declared.entries.Actor.TheVariants.{Insert, Remove, Cpu, Smi}
 use Rattle.hp_model.specs.declared.files.HostEvent.{HostEvent}
 use Rattle.hp_model.specs.declared.files.Stall.{Stall}
 use Rattle.hp_config.specs.declared.parts.AgentRow.{AgentRow}
@@ -13,6 +13,7 @@ abbrev pub place_of : Actor → ℕ
 place_of (Insert k) = k
 place_of (Remove k) = k
 place_of (Cpu k) = k
+place_of (Smi k) = k
 
 -- rule 12: the processor of each host event is below the count
 abbrev pub hosts_fit : ℕ → List HostEvent → Bool

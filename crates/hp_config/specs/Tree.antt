@@ -1,5 +1,5 @@
 -- What stands at a key of a TOML table (own rules): whole numbers of 32 bits, truths, texts, and arrays of one sort of value.
-use Rattle.std.specs.Prelude.{ℕ, ◌^◌, nat_lt, ℤ, pos, negsuc, Bool, true, List, [], ◌∷◌, Option, Some, None, if◌then◌else◌, option_map, option_and_then}
+use Rattle.std.specs.Prelude.{ℕ, ◌^◌, nat_lt, ℤ, pos, negsuc, Bool, List, [], ◌∷◌, Option, Some, None, if◌then◌else◌, option_map, option_and_then}
 use Rattle.std.specs.Borrow.{Bor}
 use Rattle.toml.specs.View.{view}
 use Rattle.toml.specs.declared.value.Value.{Value}
@@ -30,13 +30,13 @@ u32_at key ms = option_and_then u32_in (get_member key ms)
 unfoldable pub text_at : List ℕ → Members → Option (List ℕ)
 text_at key ms = option_and_then as_str (get_member key ms)
 
--- a truth, true if absent
-abbrev pub truth_or_true : Option Data → Option Bool
-truth_or_true None = Some true
-truth_or_true (Some d) = as_bool d
+-- a truth, the first one if absent
+abbrev pub truth_or : Bool → Option Data → Option Bool
+truth_or absent None = Some absent
+truth_or absent (Some d) = as_bool d
 
-unfoldable pub truth_at : List ℕ → Members → Option Bool
-truth_at key ms = truth_or_true (get_member key ms)
+unfoldable pub truth_at : Bool → List ℕ → Members → Option Bool
+truth_at absent key ms = truth_or absent (get_member key ms)
 
 module _ {X : Type 0} (one : Data → Option X) where
   -- each item, read as one

@@ -49,6 +49,9 @@ fn is_known(form: Form, key: &str) -> bool
                 || is_word(key, "modern")
                 || is_word(key, "default_smram")
                 || is_word(key, "delivery")
+                || is_word(key, "lag")
+                || is_word(key, "x2apic")
+                || is_word(key, "ext_tseg")
         }
         Form::Host => is_word(key, "turn") || is_word(key, "insert") || is_word(key, "remove"),
         Form::Stall => is_word(key, "cpu") || is_word(key, "from") || is_word(key, "to"),

@@ -1,6 +1,6 @@
 //! What a platform file of the right shape holds, before its rules are looked at.
 
-use hp_model::{Hosts, Platform, Stalls, VoiceKind};
+use hp_model::{Delivery, Hosts, Platform, Stalls, VoiceKind};
 use std::marker::Model;
 
 /// The numbers of the platform's table.
@@ -18,15 +18,18 @@ pub struct Sizes {
 pub struct Switches {
     pub modern: bool,
     pub default_smram: bool,
-    pub is_prompt: bool,
+    pub x2apic: bool,
+    pub ext_tseg: bool,
+    /// None where its name is none of a delivery.
+    pub delivery: Option<Delivery>,
 }
 
 /// The platform's table.
 #[derive(Drop)]
 pub struct Machine {
     pub platform: Platform,
-    /// Whether `delivery` names the one kind of delivery that a platform can have.
-    pub is_prompt: bool,
+    /// Whether `delivery` names one. Where it doesn't, the platform's is prompt.
+    pub names_delivery: bool,
 }
 
 /// One agent's table.

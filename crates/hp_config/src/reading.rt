@@ -25,7 +25,7 @@ fn file_from(alloc: Global, parts: Parts) -> Result<File, NoMemory>
     } = parts;
     let Machine {
         platform,
-        is_prompt: _,
+        names_delivery: _,
     } = machine;
     let count = platform.apic.0.len();
     let voices = kinds_of(alloc, agents, platform.boot.0.as_slice(), count)?;

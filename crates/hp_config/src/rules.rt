@@ -13,7 +13,7 @@ fn cpu_of(actor: Actor) -> u32
     ensures { result ≡ place_of actor }
 {
     match actor {
-        Actor::Insert(cpu) | Actor::Remove(cpu) | Actor::Cpu(cpu) => cpu,
+        Actor::Insert(cpu) | Actor::Remove(cpu) | Actor::Cpu(cpu) | Actor::Smi(cpu) => cpu,
     }
 }
 
@@ -69,7 +69,7 @@ fn have_fitting_steps(agents: &[AgentRow]) -> bool
     agents.iter().all(|agent| agent.kind.is_some())
 }
 
-/// The first of rules 2 to 10 that fails.
+/// The first of rules 2 to 11 that the platform breaks.
 #[tactic(auto, unfolding(crate::specs::Reading::platform_fault))]
 fn platform_fault(platform: &Platform) -> Option<Rule>
     ensures { option_map (λ rule. rule.0) result ≡ fault_of_platform platform.now }
@@ -80,13 +80,13 @@ fn platform_fault(platform: &Platform) -> Option<Rule>
     }
 }
 
-/// The first of rules 11 to 16 that fails.
+/// The first of rules 11 to 16 that fails, where rule 11 is that `delivery` names one.
 #[tactic(auto, unfolding(crate::specs::Reading::later_fault))]
 fn later_fault(parts: &Parts) -> Option<Rule>
     ensures { option_map (λ rule. rule.0) result ≡ later_rule parts.now }
 {
     let count = parts.machine.platform.apic.0.len();
-    if !parts.machine.is_prompt {
+    if !parts.machine.names_delivery {
         return Some(Rule(11));
     }
     if !are_fitting_hosts(parts.hosts.0.as_slice(), count) {

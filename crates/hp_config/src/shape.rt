@@ -3,11 +3,11 @@
 ghost use Rattle.std.specs.Prelude.{◌≡◌, IfOk, option_map};
 ghost use Rattle.toml.specs.View.{view, table_view};
 ghost use Rattle.hp_config.specs.Tree.{seen};
-ghost use Rattle.hp_config.specs.Shape.{sizes_of as sizes_in, prompt_in, switches_of as switches_in, machine_from as machine_with, machine_of as platform_in, machine_in, parts_of as parts_in};
+ghost use Rattle.hp_config.specs.Shape.{sizes_of as sizes_in, late_with as late_in, delivery_without_lag as without_lag, delivery_named, delivery_in, switches_of as switches_in, machine_from as machine_with, machine_of as platform_in, machine_in, parts_of as parts_in};
 
 use crate::keys::{Form, has_only_known, is_word};
 use crate::parts::{AgentRow, AgentRows, Machine, Parts, Sizes, Switches};
-use crate::tree::{bool_at, ids_at, number_at, rows_at, value_at};
+use crate::tree::{bool_at, ids_at, number_at, rows_at, u32_of, value_at};
 use hp_model::{Delivery, HostEvent, Hosts, Ids, NoMemory, Platform, Stall, Stalls};
 use std::alloc::Global;
 use toml::{Table, Value};
@@ -30,16 +30,47 @@ fn sizes_of(table: &Table) -> Option<Sizes>
     })
 }
 
-/// Whether the text of `delivery` is `prompt`, which it is if absent.
-fn prompt_of(value: Option<&Value>) -> Option<bool>
-    ensures { result ≡ prompt_in (seen value.entry) }
+fn late_with(lag: Option<&Value>) -> Option<Option<Delivery>>
+    ensures { result ≡ late_in (seen lag.entry) }
+{
+    let lag = u32_of(lag?)?;
+    Some(Some(Delivery::Late { lag }))
+}
+
+fn delivery_without_lag(name: &str) -> Option<Delivery>
+    ensures { result ≡ without_lag name.now }
+{
+    if is_word(name, "prompt") {
+        Some(Delivery::Prompt)
+    } else {
+        None
+    }
+}
+
+/// The delivery of this name, with its lag where it has one.
+#[tactic(auto, unfolding(crate::specs::Shape::delivery_named))]
+fn delivery_with(name: &str, lag: Option<&Value>) -> Option<Option<Delivery>>
+    ensures { result ≡ delivery_named name.now (seen lag.entry) }
+{
+    if is_word(name, "late") {
+        return late_with(lag);
+    }
+    if lag.is_some() {
+        return None;
+    }
+    Some(delivery_without_lag(name))
+}
+
+/// The delivery, which is prompt if absent.
+fn delivery_of(value: Option<&Value>, lag: Option<&Value>) -> Option<Option<Delivery>>
+    ensures { result ≡ delivery_in (seen value.entry) (seen lag.entry) }
 {
     match value {
         Some(value) => match value.as_str() {
-            Some(name) => Some(is_word(name, "prompt")),
+            Some(name) => delivery_with(name, lag),
             None => None,
         },
-        None => Some(true),
+        None => delivery_with("prompt", lag),
     }
 }
 
@@ -47,13 +78,17 @@ fn prompt_of(value: Option<&Value>) -> Option<bool>
 fn switches_of(table: &Table) -> Option<Switches>
     ensures { result ≡ switches_in (table_view table.now) }
 {
-    let modern = bool_at(table, "modern")?;
-    let default_smram = bool_at(table, "default_smram")?;
-    let is_prompt = prompt_of(value_at(table, "delivery"))?;
+    let modern = bool_at(table, "modern", true)?;
+    let default_smram = bool_at(table, "default_smram", true)?;
+    let x2apic = bool_at(table, "x2apic", false)?;
+    let ext_tseg = bool_at(table, "ext_tseg", true)?;
+    let delivery = delivery_of(value_at(table, "delivery"), value_at(table, "lag"))?;
     Some(Switches {
         modern,
         default_smram,
-        is_prompt,
+        x2apic,
+        ext_tseg,
+        delivery,
     })
 }
 
@@ -71,9 +106,11 @@ fn machine_from(apic: Ids, boot: Ids, sizes: Sizes, switches: Switches) -> Machi
             turns: sizes.turns,
             modern: switches.modern,
             default_smram: switches.default_smram,
-            delivery: Delivery::Prompt,
+            delivery: switches.delivery.unwrap_or(Delivery::Prompt),
+            x2apic: switches.x2apic,
+            ext_tseg: switches.ext_tseg,
         },
-        is_prompt: switches.is_prompt,
+        names_delivery: switches.delivery.is_some(),
     }
 }
 

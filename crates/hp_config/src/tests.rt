@@ -2,7 +2,7 @@
 
 use crate::keys::is_word;
 use crate::{ConfigFault, read, step_of};
-use hp_model::{Access, File, VoiceKind};
+use hp_model::{Access, Delivery, File, VoiceKind};
 use std::alloc::{AllocError, Global};
 use std::test::Fail;
 
@@ -59,6 +59,15 @@ fn a_wrong_shape_is_rule_1(rt: HostRuntime) -> Result<(), Fail> {
         ("polls = 8", "polls = 8.0"),
         ("turns = 72", "turns = 72\nmodern = 1"),
         ("turns = 72", "turns = 72\ndelivery = 1"),
+        ("turns = 72", "turns = 72\nx2apic = 1"),
+        ("turns = 72", "turns = 72\next_tseg = 'no'"),
+        // a lag belongs to late delivery, which needs one
+        ("turns = 72", "turns = 72\ndelivery = 'late'"),
+        ("turns = 72", "turns = 72\ndelivery = 'late'\nlag = '1'"),
+        ("turns = 72", "turns = 72\ndelivery = 'late'\nlag = -1"),
+        ("turns = 72", "turns = 72\nlag = 1"),
+        ("turns = 72", "turns = 72\ndelivery = 'prompt'\nlag = 1"),
+        ("turns = 72", "turns = 72\ndelivery = 'never'\nlag = 1"),
         ("", "[other]"),
         ("", "[host]\nturn = 0\ninsert = 1"),
         ("", "[[host]]\nturn = 0"),
@@ -97,6 +106,17 @@ fn each_rule_has_its_number(rt: HostRuntime) -> Result<(), Fail> {
         ("apic = [0, 1, 2]", "apic = []", 2),
         ("apic = [0, 1, 2]", "apic = [0, 1, 255]", 3),
         ("apic = [0, 1, 2]", "apic = [0, 1, 1]", 3),
+        (
+            "apic = [0, 1, 2]",
+            "x2apic = true\napic = [0, 1, 4294967295]",
+            3,
+        ),
+        ("apic = [0, 1, 2]", "x2apic = true\napic = [0, 300, 300]", 3),
+        (
+            "apic = [0, 1, 2]",
+            "x2apic = true\napic = [0, 255, 4294967294]",
+            FINE,
+        ),
         ("boot = [0, 1]", "boot = []", 4),
         ("boot = [0, 1]", "boot = [1]", 4),
         ("boot = [0, 1]", "boot = [0, 0]", 4),
@@ -104,6 +124,10 @@ fn each_rule_has_its_number(rt: HostRuntime) -> Result<(), Fail> {
         ("low_memory = 0x8000000", "low_memory = 0x8000001", 5),
         ("low_memory = 0x8000000", "low_memory = 0xf00000", 5),
         ("tseg_mib = 1", "tseg_mib = 3", 6),
+        ("tseg_mib = 1", "tseg_mib = 47", 6),
+        ("tseg_mib = 1", "tseg_mib = 48", FINE),
+        // the boot finds out
+        ("tseg_mib = 1", "tseg_mib = 48\next_tseg = false", FINE),
         (
             "apic = [0, 1, 2]",
             "apic = [0, 1, 2, 3, 4, 5, 6, 7, 8, 9, 10, 11, 12, 13, 14]",
@@ -114,6 +138,19 @@ fn each_rule_has_its_number(rt: HostRuntime) -> Result<(), Fail> {
         ("polls = 8", "polls = 4097", 9),
         ("turns = 72", "turns = 200001", 10),
         ("turns = 72", "turns = 72\ndelivery = 'Prompt'", 11),
+        ("turns = 72", "turns = 72\ndelivery = 'never'", 11),
+        ("turns = 72", "turns = 72\ndelivery = 'late'\nlag = 0", 11),
+        (
+            "turns = 72",
+            "turns = 72\ndelivery = 'late'\nlag = 1001",
+            11,
+        ),
+        ("turns = 72", "turns = 72\ndelivery = 'late'\nlag = 1", FINE),
+        (
+            "turns = 72",
+            "turns = 72\ndelivery = 'late'\nlag = 1000",
+            FINE,
+        ),
         ("", "[[host]]\nturn = 0\ninsert = 3", 12),
         ("", "[[host]]\nturn = 0\nremove = 3", 12),
         ("", "[[stall]]\ncpu = 3\nfrom = 1\nto = 2", 13),
@@ -131,7 +168,12 @@ fn each_rule_has_its_number(rt: HostRuntime) -> Result<(), Fail> {
         ),
         ("", "[[agent]]\ncpu = 0\nkind = 'os'", 16),
         // two rules fail
-        ("polls = 8", "polls = 0\ndelivery = 'late'", 9),
+        ("polls = 8", "polls = 0\ndelivery = 'late'\nlag = 0", 9),
+        (
+            "turns = 72",
+            "turns = 72\ndelivery = 'never'\n[[host]]\nturn = 0\ninsert = 9",
+            11,
+        ),
         (
             "",
             "[[stall]]\ncpu = 0\nfrom = 2\nto = 1\n[[host]]\nturn = 0\ninsert = 9",
@@ -141,6 +183,49 @@ fn each_rule_has_its_number(rt: HostRuntime) -> Result<(), Fail> {
     for (old, new, rule) in cases {
         let text = edited(rt.alloc(), old, new)?;
         assert_eq!(rt; told(rt.alloc(), text.as_bytes()), rule, "{new}");
+    }
+    Ok(())
+}
+
+/// A file of so many processors.
+fn with_many(
+    alloc: Global,
+    count: u32,
+    low_memory: u32,
+    tseg_mib: u32,
+) -> Result<String, AllocError> {
+    let mut text = format!(in alloc;
+        "[platform]\nboot = [0]\nx2apic = true\nfeatures = 7\npolls = 8\nturns = 0\nlow_memory = {low_memory}\ntseg_mib = {tseg_mib}\napic = [0"
+    )?;
+    for id in 1..count {
+        text.push_str(format!(in alloc; ", {id}")?.as_str())?;
+    }
+    text.push_str("]\n")?;
+    Ok(text)
+}
+
+#[test]
+fn each_size_of_tseg_has_its_count_and_the_largest_its_ram(rt: HostRuntime) -> Result<(), Fail> {
+    // possible processors, RAM, MiB of TSEG, and the rule that fails
+    let cases = [
+        (14, 0x1000000, 1, FINE),
+        (15, 0x1000000, 1, 7),
+        (30, 0x1000000, 2, FINE),
+        (31, 0x1000000, 2, 7),
+        (126, 0x1000000, 8, FINE),
+        (127, 0x1000000, 8, 7),
+        (512, 0x4000000, 48, FINE),
+        (512, 0x3f00000, 48, 7),
+        (1, 0x3f00000, 48, 7),
+        (513, 0x4000000, 48, 2),
+    ];
+    for (count, low_memory, tseg_mib, rule) in cases {
+        let text = with_many(rt.alloc(), count, low_memory, tseg_mib)?;
+        assert_eq!(rt;
+            told(rt.alloc(), text.as_bytes()),
+            rule,
+            "{count} with {tseg_mib} MiB"
+        );
     }
     Ok(())
 }
@@ -197,7 +282,7 @@ fn what_is_not_built_is_rule_16(rt: HostRuntime) -> Result<(), Fail> {
 #[test]
 fn a_file_is_read_whole(rt: HostRuntime) -> Result<(), Fail> {
     let text = format!(in rt.alloc();
-        "[platform]\napic = [9]\nboot = [0]\nmodern = false\n{ONE}[[agent]]\ncpu = 0\nkind = 'script'\nsteps = ['in 2 0cd8', 'out 2 0cda 00ff']"
+        "[platform]\napic = [9]\nboot = [0]\nmodern = false\ndelivery = 'late'\nlag = 3\nx2apic = true\next_tseg = false\n{ONE}[[agent]]\ncpu = 0\nkind = 'script'\nsteps = ['in 2 0cd8', 'out 2 0cda 00ff']"
     )?;
     let file = match read(rt.alloc(), text.as_bytes()) {
         Ok(file) => file,
@@ -217,6 +302,8 @@ fn a_file_is_read_whole(rt: HostRuntime) -> Result<(), Fail> {
     );
     assert_eq!(rt; (platform.polls, platform.turns), (4096, 200000));
     assert_eq!(rt; (platform.modern, platform.default_smram), (false, true));
+    assert_eq!(rt; (platform.x2apic, platform.ext_tseg), (true, false));
+    assert_eq!(rt; platform.delivery, Delivery::Late { lag: 3 });
     assert!(rt; hosts.0.is_empty() && stalls.0.is_empty());
     assert_eq!(rt; voices.0.len(), 1);
     match &voices.0[0] {

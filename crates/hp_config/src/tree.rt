@@ -48,14 +48,14 @@ pub fn string_at<'a>(table: &'a Table, key: &str) -> Option<&'a str>
     }
 }
 
-/// The truth at a key, true if the key is absent.
+/// The truth at a key, `absent` if the key is.
 #[tactic(auto, unfolding(crate::specs::Tree::truth_at))]
-pub fn bool_at(table: &Table, key: &str) -> Option<bool>
-    ensures { result ≡ truth_at key.now (table_view table.now) }
+pub fn bool_at(table: &Table, key: &str, absent: bool) -> Option<bool>
+    ensures { result ≡ truth_at absent key.now (table_view table.now) }
 {
     match value_at(table, key) {
         Some(value) => value.as_bool(),
-        None => Some(true),
+        None => Some(absent),
     }
 }
 
