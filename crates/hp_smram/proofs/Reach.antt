@@ -6,7 +6,7 @@ use Rattle.std.proofs.lemmas.Bool.{false≢true, or_cases, or_left, or_right, ca
 use Rattle.std.proofs.lemmas.Bool.Decides.{nat_tests}
 use Rattle.hp_model.specs.View.{Locks, is_hidden, is_hole, is_in_default, is_in_tseg, tseg_size}
 use Rattle.hp_smram.specs.Reach.{HidesSome, has_byte, is_between}
-use Rattle.hp_smram.proofs.Bits.{locking, tseg_size_most}
+use Rattle.hp_smram.proofs.Bits.{locking, tseg_room}
 
 between_more : (first end x n : ℕ) →
     has_byte (is_between first end) x (suc n) ≡ (nat_lt first end && (nat_lt x end && nat_lt first (x + suc n)))
@@ -42,12 +42,12 @@ default_parts l x n = guarded (l.f_smbase == 2) (is_between 0x30000 0x50000) x n
 
 pub tseg_parts : (l : Locks) (x n : ℕ) →
     has_byte (is_in_tseg l) x n ≡
-    ((l.smram == 0x18) && has_byte (is_between (l.low_memory - tseg_size l.esmramc * 0x100000) l.low_memory) x n)
-tseg_parts l x n = guarded (l.smram == 0x18) (is_between (l.low_memory - tseg_size l.esmramc * 0x100000) l.low_memory) x n
+    ((l.smram == 0x18) && has_byte (is_between (l.low_memory - tseg_size l.ext_tseg l.esmramc * 0x100000) l.low_memory) x n)
+tseg_parts l x n = guarded (l.smram == 0x18) (is_between (l.low_memory - tseg_size l.ext_tseg l.esmramc * 0x100000) l.low_memory) x n
 
 pub ruleset in_default = (default_parts, locking)
 
-pub ruleset in_tseg = (tseg_parts, tseg_size_most)
+pub ruleset in_tseg = (tseg_parts, tseg_room)
 
 shuffled : (p d t m P D T : Bool) →
     ((p || (m && (d || t))) || (P || (m && (D || T)))) ≡ ((p || P) || (m && ((d || D) || (t || T))))

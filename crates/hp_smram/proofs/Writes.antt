@@ -35,25 +35,27 @@ IsDefaultLocked-write l reg value h = record { locked = grind (arith, nat_tests,
 pub written_default : (l : Locks) (ws : List (ℕ × ℕ)) → l.f_smbase ≡ 2 → (written_all l ws).f_smbase ≡ 2
 written_default l ws h = (written_all-keeps IsDefaultLocked IsDefaultLocked-write ws l (record { locked = h })).locked
 
--- registers 9d and 9e hold these values, with D_LCK
-pub record IsFixedAt (smram esmramc : ℕ) (l : Locks) : Type 0 where
+-- registers 9d, 9e and 50 hold these values, with D_LCK
+pub record IsFixedAt (smram esmramc ext_tseg : ℕ) (l : Locks) : Type 0 where
   pub fixed : bit_and smram 0x10 == 0x10 ≡ true
   pub control : l.smram ≡ smram
   pub size : l.esmramc ≡ esmramc
+  pub largest : l.ext_tseg ≡ ext_tseg
 
-IsFixedAt-write : (s e : ℕ) (l : Locks) (reg value : ℕ) → IsFixedAt s e l → IsFixedAt s e (lock_write l reg value)
-IsFixedAt-write s e l reg value h =
+IsFixedAt-write : (s e x : ℕ) (l : Locks) (reg value : ℕ) → IsFixedAt s e x l → IsFixedAt s e x (lock_write l reg value)
+IsFixedAt-write s e x l reg value h =
     let is : is_fixed l ≡ true = ap (λ r. bit_and r 0x10 == 0x10) h.control ∙ h.fixed in
     record {
       fixed = h.fixed;
       control = grind (arith, nat_tests, h.control, is);
       size = grind (arith, nat_tests, h.size, is);
+      largest = grind (arith, nat_tests, h.largest, is);
     }
 
-pub written_fixed : (l : Locks) (ws : List (ℕ × ℕ)) → is_fixed l ≡ true → IsFixedAt l.smram l.esmramc (written_all l ws)
+pub written_fixed : (l : Locks) (ws : List (ℕ × ℕ)) → is_fixed l ≡ true → IsFixedAt l.smram l.esmramc l.ext_tseg (written_all l ws)
 written_fixed l ws h =
-    written_all-keeps (IsFixedAt l.smram l.esmramc) (IsFixedAt-write l.smram l.esmramc) ws l
-    (record { fixed = h; control = refl; size = refl })
+    written_all-keeps (IsFixedAt l.smram l.esmramc l.ext_tseg) (IsFixedAt-write l.smram l.esmramc l.ext_tseg) ws l
+    (record { fixed = h; control = refl; size = refl; largest = refl })
 
 pub written_smram : (l : Locks) (ws : List (ℕ × ℕ)) → is_fixed l ≡ true → (written_all l ws).smram ≡ l.smram
 written_smram l ws h = (written_fixed l ws h).control
@@ -61,8 +63,11 @@ written_smram l ws h = (written_fixed l ws h).control
 pub written_esmramc : (l : Locks) (ws : List (ℕ × ℕ)) → is_fixed l ≡ true → (written_all l ws).esmramc ≡ l.esmramc
 written_esmramc l ws h = (written_fixed l ws h).size
 
+pub written_ext_tseg : (l : Locks) (ws : List (ℕ × ℕ)) → is_fixed l ≡ true → (written_all l ws).ext_tseg ≡ l.ext_tseg
+written_ext_tseg l ws h = (written_fixed l ws h).largest
+
 pub written_tseg : (l : Locks) (ws : List (ℕ × ℕ)) (x : ℕ) → is_fixed l ≡ true → is_in_tseg (written_all l ws) x ≡ is_in_tseg l x
-written_tseg l ws x h = rw (written_smram l ws h, written_esmramc l ws h, written_memory l ws) refl
+written_tseg l ws x h = rw (written_smram l ws h, written_esmramc l ws h, written_ext_tseg l ws h, written_memory l ws) refl
 
 pub written_default_byte : (l : Locks) (ws : List (ℕ × ℕ)) (x : ℕ) → is_in_default l x ≡ true → is_in_default (written_all l ws) x ≡ true
 written_default_byte l ws x h =
@@ -72,7 +77,7 @@ written_default_byte l ws x h =
 
 pub written_tseg_byte : (l : Locks) (ws : List (ℕ × ℕ)) (x : ℕ) → is_in_tseg l x ≡ true → is_in_tseg (written_all l ws) x ≡ true
 written_tseg_byte l ws x h =
-    let parts = and_parts (l.smram == 0x18) (nat_le (l.low_memory - tseg_size l.esmramc * 0x100000) x && nat_lt x l.low_memory) h in
+    let parts = and_parts (l.smram == 0x18) (nat_le (l.low_memory - tseg_size l.ext_tseg l.esmramc * 0x100000) x && nat_lt x l.low_memory) h in
     let is : is_fixed l ≡ true = ap (λ r. bit_and r 0x10 == 0x10) (eqb-true l.smram 0x18 parts.0) in
     written_tseg l ws x is ∙ h
 
@@ -133,10 +138,10 @@ no_hole_in_smm l addr (suc n) h =
 pub same_sizes : (p : Platform) → is_memory_size p.low_memory ≡ memory_fits p
 same_sizes p = refl
 
-pub same_start : (p : Platform) → locks_start p ≡ locks_of p.low_memory p.default_smram
+pub same_start : (p : Platform) → locks_start p ≡ locks_of p.low_memory p.default_smram p.ext_tseg
 same_start p = refl
 
-pub ruleset tseg_stays = (written_tseg, written_smram, written_esmramc)
+pub ruleset tseg_stays = (written_tseg, written_smram, written_esmramc, written_ext_tseg)
 
 pub ruleset stays_locked = (written_locked, written_hole)
 

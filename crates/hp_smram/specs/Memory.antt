@@ -10,5 +10,6 @@ abbrev pub IsMemorySize : ℕ → Type 0
 IsMemorySize low = is_memory_size low ≡ true
 
 -- all registers start at 0
-abbrev pub locks_of : ℕ → Bool → Locks
-locks_of low has_default = record { low_memory = low; has_default = has_default; f_smbase = 0; smram = 0; esmramc = 0 }
+abbrev pub locks_of : ℕ → Bool → Bool → Locks
+locks_of low has_default has_ext =
+    record { low_memory = low; has_default = has_default; f_smbase = 0; smram = 0; esmramc = 0; has_ext = has_ext; ext_tseg = 0 }

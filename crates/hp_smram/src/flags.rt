@@ -1,4 +1,4 @@
-//! The bits of registers 9c, 9d and 9e (names as in QEMU's hw/pci-host/q35).
+//! The bits of registers 9c, 9d and 9e, and the size of TSEG that they enable (names as in QEMU's hw/pci-host/q35).
 
 ghost use Rattle.std.specs.Prelude.{⊤, [], ◌∷◌, ◌≡◌, ◌<◌, codes};
 ghost use Rattle.hp_model.specs.View.{tseg_size};
@@ -106,11 +106,11 @@ impl Flags for Esmramc {
     }
 }
 
-/// The size of TSEG in MiB that register 9e enables; 0 where it enables none.
+/// The size of TSEG in MiB that register 9e enables, where register 50 holds `ext_tseg`; 0 where it enables none.
 #[tactic(auto, using(crate::proofs::Bits::tseg_bits))]
-pub fn tseg_mib(register: Esmramc) -> u32
+pub fn tseg_mib(ext_tseg: u8, register: Esmramc) -> u32
     requires { register.0 < 8 }
-    ensures { result ≡ tseg_size register.0 }
+    ensures { result ≡ tseg_size ext_tseg register.0 }
 {
     if !register.contains(Esmramc::T_EN) {
         return 0;
@@ -121,6 +121,6 @@ pub fn tseg_mib(register: Esmramc) -> u32
         (false, false) => 1,
         (false, true) => 2,
         (true, false) => 8,
-        (true, true) => 0,
+        (true, true) => u32::from(ext_tseg),
     }
 }

@@ -11,7 +11,7 @@ ghost use Rattle.hp_smram.specs.Writes.{written_all};
 #[tactic(auto, using(crate::proofs::Writes::starts))]
 pub fn locks_start_as_the_machine()
     ensures sizes { (p : Platform) → is_memory_size p.low_memory ≡ memory_fits p }
-    ensures start { (p : Platform) → locks_start p ≡ locks_of p.low_memory p.default_smram }
+    ensures start { (p : Platform) → locks_start p ≡ locks_of p.low_memory p.default_smram p.ext_tseg }
 {}
 
 /// Once the default area is locked, no list of register writes unlocks it.
@@ -20,12 +20,13 @@ pub fn default_area_stays_locked()
     ensures { (l : State) (ws : List (ℕ × ℕ)) → l.f_smbase ≡ 2 → (written_all l ws).f_smbase ≡ 2 }
 {}
 
-/// Once D_LCK is set, no list of register writes changes registers 9d and 9e, nor which bytes are locked as TSEG.
+/// Once D_LCK is set, no list of register writes changes registers 9d, 9e and 50, nor which bytes are locked as TSEG.
 #[tactic(auto, using(crate::proofs::Writes::tseg_stays))]
 pub fn tseg_stays_once_fixed()
     ensures bytes { (l : State) (ws : List (ℕ × ℕ)) (x : ℕ) → is_fixed l ≡ true → is_in_tseg (written_all l ws) x ≡ is_in_tseg l x }
     ensures smram { (l : State) (ws : List (ℕ × ℕ)) → is_fixed l ≡ true → (written_all l ws).smram ≡ l.smram }
     ensures esmramc { (l : State) (ws : List (ℕ × ℕ)) → is_fixed l ≡ true → (written_all l ws).esmramc ≡ l.esmramc }
+    ensures ext_tseg { (l : State) (ws : List (ℕ × ℕ)) → is_fixed l ≡ true → (written_all l ws).ext_tseg ≡ l.ext_tseg }
 {}
 
 /// A byte that is locked stays locked, whatever registers are written; and an access that is a hole stays one.

@@ -1,13 +1,18 @@
 //! The registers that lock memory, and what an access finds.
 
 ghost use Rattle.std.specs.Prelude.{◌≡◌, ◌↔◌, ◌<◌, ◌+◌, true, false, nat_le, bit_and, ◌≤◌, ◌^◌};
-ghost use Rattle.hp_model.specs.View.{f_smbase_written, is_fixed as has_lock, lock_write, lock_read, is_hole, is_in_default as default_byte, is_in_tseg as tseg_byte};
+ghost use Rattle.hp_model.specs.View.{f_smbase_written, ext_tseg_written, is_fixed as has_lock, lock_write, lock_read, is_hole, is_in_default as default_byte, is_in_tseg as tseg_byte};
 ghost use Rattle.hp_smram.specs.Memory.{IsMemorySize, locks_of};
 ghost use Rattle.hp_smram.specs.Reach.{IsWidth, HidesSome, has_byte, is_between};
 
 use crate::flags::{Esmramc, FSmbase, Smram, tseg_mib};
 use bitflags::Flags;
 use std::marker::Model;
+
+/// The largest TSEG, which register 50 asks for (own rule), and the RAM that it needs.
+const EXT_TSEG_MIB: u8 = 0x30;
+
+const LEAST_MEMORY_FOR_EXT_TSEG: u32 = 0x4000000;
 
 /// What an access finds.
 #[derive(Clone, Copy, Debug, PartialEq)]
@@ -26,19 +31,22 @@ pub struct Locks {
     f_smbase: FSmbase,
     smram: Smram,
     esmramc: Esmramc,
+    has_ext: bool,
+    /// Register 50: the size in MiB that size 11 of register 9e names.
+    ext_tseg: u8,
 }
 
 impl Model for Locks {
-    ghost use Rattle.std.specs.Prelude.{◌≡◌, ◌≤◌, ◌<◌, bit_and};
+    ghost use Rattle.std.specs.Prelude.{◌≡◌, ◌≤◌, ◌<◌, ◌*◌, bit_and};
     ghost use Rattle.hp_model.specs.View as model;
 
     ghost Value = { model.Locks };
 
     ghost use Rattle.hp_smram.specs.Memory.{IsMemorySize};
 
-    ghost view = { λ l. record { low_memory = l.low_memory; has_default = l.has_default; f_smbase = l.f_smbase.0; smram = l.smram.0; esmramc = l.esmramc.0 } };
+    ghost view = { λ l. record { low_memory = l.low_memory; has_default = l.has_default; f_smbase = l.f_smbase.0; smram = l.smram.0; esmramc = l.esmramc.0; has_ext = l.has_ext; ext_tseg = l.ext_tseg } };
 
-    ghost invariant = { λ l. IsMemorySize l.low_memory × (l.f_smbase.0 ≤ 2) × (bit_and l.smram.0 0x18 ≡ l.smram.0) × (l.esmramc.0 < 8) };
+    ghost invariant = { λ l. IsMemorySize l.low_memory × (l.f_smbase.0 ≤ 2) × (bit_and l.smram.0 0x18 ≡ l.smram.0) × (l.esmramc.0 < 8) × (l.ext_tseg * 0x100000 ≤ l.low_memory) };
 }
 
 /// The address past an access: more than 2^32 where it runs over the end of the addresses.
@@ -58,11 +66,11 @@ fn meets(addr: u32, width: u8, first: u32, end: u32) -> bool
 }
 
 impl Locks {
-    /// All registers 0. RAM is the addresses below `low_memory`, and `default_smram` says whether the default area can be
-    /// locked.
-    pub fn new(low_memory: u32, default_smram: bool) -> Locks
+    /// All registers 0. RAM is the addresses below `low_memory`; `default_smram` says whether the default area can be
+    /// locked, and `ext_tseg` whether TSEG can have 48 MiB.
+    pub fn new(low_memory: u32, default_smram: bool, ext_tseg: bool) -> Locks
         requires { IsMemorySize low_memory }
-        ensures { result ≡ locks_of low_memory default_smram }
+        ensures { result ≡ locks_of low_memory default_smram ext_tseg }
     {
         Locks {
             low_memory,
@@ -70,6 +78,8 @@ impl Locks {
             f_smbase: FSmbase(0),
             smram: Smram(0),
             esmramc: Esmramc(0),
+            has_ext: ext_tseg,
+            ext_tseg: 0,
         }
     }
 
@@ -105,6 +115,14 @@ impl Locks {
         self.esmramc = Esmramc::from_bits_truncate(value);
     }
 
+    fn write_ext_tseg(&mut self, value: u8)
+        ensures { self.new ≡ record self.old { ext_tseg = ext_tseg_written self.old value } }
+    {
+        if value == 0xff && self.has_ext && LEAST_MEMORY_FOR_EXT_TSEG <= self.low_memory {
+            self.ext_tseg = EXT_TSEG_MIB;
+        }
+    }
+
     /// Writes a byte of the controller's configuration space.
     pub fn write(&mut self, reg: u8, value: u8)
         ensures { self.new ≡ lock_write self.old reg value }
@@ -113,6 +131,7 @@ impl Locks {
             0x9c => self.write_f_smbase(value),
             0x9d if !self.is_fixed() => self.write_smram(value),
             0x9e if !self.is_fixed() => self.write_esmramc(value),
+            0x50 if !self.is_fixed() => self.write_ext_tseg(value),
             _ => {}
         }
     }
@@ -132,6 +151,7 @@ impl Locks {
             0x9c => self.f_smbase.bits(),
             0x9d => self.smram.bits(),
             0x9e => self.esmramc.bits(),
+            0x50 => self.ext_tseg,
             _ => 0,
         }
     }
@@ -161,7 +181,7 @@ impl Locks {
         requires { 0 < width }
         ensures { result ≡ has_byte (tseg_byte self.now) addr width }
     {
-        let first = self.low_memory - tseg_mib(self.esmramc) * 0x100000;
+        let first = self.low_memory - tseg_mib(self.ext_tseg, self.esmramc) * 0x100000;
         self.smram.contains(Smram::LOCKED) && meets(addr, width, first, self.low_memory)
     }
 

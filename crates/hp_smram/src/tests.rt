@@ -19,7 +19,7 @@ const DEFAULT: Range = Range {
 };
 
 fn locks_after(writes: &[(u8, u8)]) -> Locks {
-    let mut locks = Locks::new(LOW_MEMORY, true);
+    let mut locks = Locks::new(LOW_MEMORY, true, true);
     for (reg, value) in writes {
         locks.write(*reg, *value);
     }
@@ -58,8 +58,8 @@ fn try_access(rt: &impl Abort, locks: &Locks, locked: &[Range], addr: u32, width
 /// Accesses of each width at the edges of what may be locked.
 fn try_edges(rt: &impl Abort, writes: &[(u8, u8)], locked: &[Range]) {
     let locks = locks_after(writes);
-    let edges: [u32; 8] = [
-        0, 0x30000, 0x50000, 0x7800000, 0x7e00000, 0x7f00000, 0x8000000, 0xfffffff8,
+    let edges: [u32; 9] = [
+        0, 0x30000, 0x50000, 0x5000000, 0x7800000, 0x7e00000, 0x7f00000, 0x8000000, 0xfffffff8,
     ];
     for edge in edges {
         for step in 0..17u32 {
@@ -74,7 +74,7 @@ fn try_edges(rt: &impl Abort, writes: &[(u8, u8)], locked: &[Range]) {
 
 #[test]
 fn an_access_is_a_hole_where_one_of_its_bytes_is_hidden(rt: HostRuntime) {
-    // nothing is locked at the start, by half of the handshake, without D_LCK, G_SMRAME or T_EN, or by size 11
+    // nothing is locked at the start, by half of the handshake, without D_LCK, G_SMRAME or T_EN, or by size 11 alone
     try_edges(&rt, &[], &[]);
     try_edges(&rt, &[(0x9c, 0xff)], &[]);
     try_edges(&rt, &[(0x9d, 0x08), (0x9e, 0x05)], &[]);
@@ -83,6 +83,8 @@ fn an_access_is_a_hole_where_one_of_its_bytes_is_hidden(rt: HostRuntime) {
     try_edges(&rt, &[(0x9e, 0x05), (0x9d, 0x10)], &[]);
     try_edges(&rt, &[(0x9e, 0x04), (0x9d, 0x18)], &[]);
     try_edges(&rt, &[(0x9e, 0x07), (0x9d, 0x18)], &[]);
+    // register 50 asks in vain once D_LCK is set, and has no part in the other sizes
+    try_edges(&rt, &[(0x9e, 0x07), (0x9d, 0x18), (0x50, 0xff)], &[]);
     // the default area, each size of TSEG, and both
     try_edges(&rt, &[(0x9c, 0xff), (0x9c, 0x02)], &[DEFAULT]);
     try_edges(
@@ -115,8 +117,55 @@ fn an_access_is_a_hole_where_one_of_its_bytes_is_hidden(rt: HostRuntime) {
 }
 
 #[test]
+fn size_11_names_what_register_50_asked_for(rt: HostRuntime) {
+    try_edges(
+        &rt,
+        &[(0x50, 0xff), (0x9e, 0x07), (0x9d, 0x18)],
+        &[Range {
+            first: 0x5000000,
+            end: LOW_MEMORY,
+        }],
+    );
+    try_edges(
+        &rt,
+        &[(0x50, 0xff), (0x9e, 0x01), (0x9d, 0x18)],
+        &[Range {
+            first: 0x7f00000,
+            end: LOW_MEMORY,
+        }],
+    );
+}
+
+#[test]
+fn register_50_asks_for_48_mib_where_the_platform_has_them(rt: HostRuntime) {
+    // RAM, whether TSEG can have 48 MiB, and what register 50 reads after ff
+    let table = [
+        (0x4000000, true, 0x30),
+        (0x80000000, true, 0x30),
+        (0x3f00000, true, 0),
+        (0x1000000, true, 0),
+        (0x4000000, false, 0),
+    ];
+    for (low_memory, ext_tseg, then) in table {
+        let mut locks = Locks::new(low_memory, true, ext_tseg);
+        for value in [0x00, 0x30, 0xfe] {
+            locks.write(0x50, value);
+            assert_eq!(rt; locks.read(0x50), 0);
+        }
+        for value in [0xff, 0x00, 0x30, 0xff] {
+            locks.write(0x50, value);
+            assert_eq!(rt;
+                locks.read(0x50),
+                then,
+                "RAM {low_memory:x}, value {value:x}"
+            );
+        }
+    }
+}
+
+#[test]
 fn register_9c_is_a_handshake_in_one_direction(rt: HostRuntime) {
-    let mut locks = Locks::new(LOW_MEMORY, true);
+    let mut locks = Locks::new(LOW_MEMORY, true, true);
     for (value, then) in [
         (0x02, 0),
         (0x01, 0),
@@ -131,7 +180,7 @@ fn register_9c_is_a_handshake_in_one_direction(rt: HostRuntime) {
         locks.write(0x9c, value);
         assert_eq!(rt; locks.read(0x9c), then, "after {value:x}");
     }
-    let mut without = Locks::new(LOW_MEMORY, false);
+    let mut without = Locks::new(LOW_MEMORY, false, true);
     without.write(0x9c, 0xff);
     without.write(0x9c, 0x02);
     assert_eq!(rt; without.read(0x9c), 0);
@@ -139,7 +188,7 @@ fn register_9c_is_a_handshake_in_one_direction(rt: HostRuntime) {
 
 #[test]
 fn registers_keep_their_bits_until_d_lck(rt: HostRuntime) {
-    let mut locks = Locks::new(LOW_MEMORY, true);
+    let mut locks = Locks::new(LOW_MEMORY, true, true);
     locks.write(0x9e, 0xff);
     locks.write(0x9d, 0xe7);
     assert_eq!(rt; (locks.read(0x9d), locks.read(0x9e)), (0, 0x07));
@@ -149,7 +198,7 @@ fn registers_keep_their_bits_until_d_lck(rt: HostRuntime) {
     locks.write(0x9e, 0);
     locks.write(0x9d, 0);
     assert_eq!(rt; (locks.read(0x9d), locks.read(0x9e)), (0x18, 0x05));
-    // 9c has its own lock; other registers hold nothing
+    // 9c has its own lock; 50 is fixed as 9d and 9e are, and other registers hold nothing
     locks.write(0x9c, 0xff);
     assert_eq!(rt; locks.read(0x9c), 1);
     for reg in [0x00, 0x50, 0x9b, 0x9f, 0xff] {
