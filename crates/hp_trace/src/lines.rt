@@ -1,13 +1,14 @@
 //! Whole lines, each with its line feed. After `NoMemory` a vector holds what it held before, room aside.
 
 ghost use Rattle.std.specs.Prelude.{◌≡◌, ◌++◌, OnErr, OnOk, take};
-ghost use Rattle.hp_model.specs.Text.{end_text, head_text, line_of, line_text, truth_text};
+ghost use Rattle.hp_model.specs.Text.{delivery_pieces, end_text, ext_pieces, head_text, line_of, line_text, spell, truth_text, x2apic_pieces};
+ghost use Rattle.hp_trace.specs.Head.{front_pieces};
 ghost use Rattle.hp_trace.specs.Pieces.{Begins, pieces_text};
 
 use crate::pieces::Piece::{self, Hex, Number, Numbers, Word};
 use crate::pieces::put_all;
 use crate::steps::{put_actor, put_event};
-use hp_model::{Entry, Ids, NoMemory, Platform};
+use hp_model::{Delivery, Entry, Ids, NoMemory, Platform};
 
 fn truth(value: bool) -> &'static [u8]
     ensures { result.now ≡ truth_text value }
@@ -70,12 +71,25 @@ fn append_line(pieces: &[Piece], out: &mut Vec<u8>) -> Result<(), NoMemory>
     whole_line(written, held, out)
 }
 
-/// Appends the header, which names the platform. Takes any platform, one that doesn't fit too.
-pub fn head(p: &Platform, out: &mut Vec<u8>) -> Result<(), NoMemory>
-    ensures appended { OnOk result (out.new.items ≡ out.old.items ++ head_text p.now) }
-    ensures no_memory { OnErr result (out.new.items ≡ out.old.items) }
+/// What is said of a TSEG of 48 MiB: only where there is none.
+fn ext_word(ext_tseg: bool) -> &'static [u8]
+    ensures { result.now ≡ spell (ext_pieces ext_tseg) }
 {
-    append_line(
+    if ext_tseg { b"" } else { b" ext=false" }
+}
+
+/// What is said of x2APIC: only where there is it.
+fn x2apic_word(x2apic: bool) -> &'static [u8]
+    ensures { result.now ≡ spell (x2apic_pieces x2apic) }
+{
+    if x2apic { b" x2apic=true" } else { b"" }
+}
+
+fn put_front(p: &Platform, out: &mut Vec<u8>) -> Result<(), NoMemory>
+    ensures text { OnOk result (out.new.items ≡ out.old.items ++ spell (front_pieces p.now)) }
+    ensures front { OnErr result (Begins out.old.items out.new.items) }
+{
+    put_all(
         &[
             Word(b"platform apic="),
             Numbers(ids(&p.apic)),
@@ -85,6 +99,7 @@ pub fn head(p: &Platform, out: &mut Vec<u8>) -> Result<(), NoMemory>
             Hex(8, p.low_memory as u64),
             Word(b" tseg="),
             Number(p.tseg_mib as u64),
+            Word(ext_word(p.ext_tseg)),
             Word(b" features="),
             Number(p.features),
             Word(b" polls="),
@@ -95,10 +110,41 @@ pub fn head(p: &Platform, out: &mut Vec<u8>) -> Result<(), NoMemory>
             Word(truth(p.modern)),
             Word(b" smram="),
             Word(truth(p.default_smram)),
-            Word(b" delivery=prompt"),
         ],
         out,
     )
+}
+
+fn put_delivery(delivery: Delivery, out: &mut Vec<u8>) -> Result<(), NoMemory>
+    ensures text { OnOk result (out.new.items ≡ out.old.items ++ spell (delivery_pieces delivery)) }
+    ensures front { OnErr result (Begins out.old.items out.new.items) }
+{
+    match delivery {
+        Delivery::Prompt => put_all(&[Word(b" delivery=prompt")], out),
+        Delivery::Late { lag } => put_all(&[Word(b" delivery=late lag="), Number(lag as u64)], out),
+    }
+}
+
+#[tactic(auto, using(crate::proofs::Texts::front_facts))]
+fn put_head(p: &Platform, out: &mut Vec<u8>) -> Result<(), NoMemory>
+    ensures text { OnOk result (out.new.items ≡ out.old.items ++ head_text p.now) }
+    ensures front { OnErr result (Begins out.old.items out.new.items) }
+{
+    put_front(p, out)?;
+    put_delivery(p.delivery, out)?;
+    put_all(&[Word(x2apic_word(p.x2apic))], out)?;
+    end_line(out)
+}
+
+/// Appends the header, which names the platform. Takes any platform, one that doesn't fit too.
+#[tactic(auto, using(crate::proofs::Texts::line_facts))]
+pub fn head(p: &Platform, out: &mut Vec<u8>) -> Result<(), NoMemory>
+    ensures appended { OnOk result (out.new.items ≡ out.old.items ++ head_text p.now) }
+    ensures no_memory { OnErr result (out.new.items ≡ out.old.items) }
+{
+    let held = out.len();
+    let written = put_head(p, out);
+    whole_line(written, held, out)
 }
 
 /// Appends the line of an entry. Takes any entry: where a step shows a value and the answer has none, the value is 0.

@@ -77,6 +77,13 @@ fn put_refusal(refusal: Refusal, out: &mut Vec<u8>) -> Result<(), NoMemory>
         Refusal::NotKnown { cpu, apic } => put_two(b"notknown ", cpu, apic as u64, out),
         Refusal::NotArrived { cpu, apic } => put_two(b"notarrived ", cpu, apic as u64, out),
         Refusal::NotParked { cpu, apic } => put_two(b"notparked ", cpu, apic as u64, out),
+        Refusal::Foreign { cpu, apic } => put_two(b"foreign ", cpu, apic as u64, out),
+        Refusal::StillPending { cpu, status } => put_with_status(
+            b"stillpending ",
+            cpu,
+            status,
+            out,
+        ),
     }
 }
 

@@ -235,6 +235,20 @@ fn each_outcome_has_its_line(rt: HostRuntime) -> Result<(), Fail> {
             refused(Refusal::NotParked { cpu: 1, apic: 10 }),
             "notparked 1 10\n",
         ),
+        (
+            refused(Refusal::Foreign {
+                cpu: 0,
+                apic: 4294967294,
+            }),
+            "foreign 0 4294967294\n",
+        ),
+        (
+            refused(Refusal::StillPending {
+                cpu: 1,
+                status: 0x11,
+            }),
+            "stillpending 1 11\n",
+        ),
     ] {
         line(&entry, &mut out)?;
         want.extend_from_slice(b"p0 @07f28088 tell ")?;
@@ -257,6 +271,8 @@ fn the_header_and_the_end_stand_around_the_lines(rt: HostRuntime) -> Result<(), 
         modern: true,
         default_smram: true,
         delivery: Delivery::Prompt,
+        x2apic: false,
+        ext_tseg: true,
     };
     let mut out = Vec::from_slice(rt.alloc(), b"kept\n")?;
     head(&platform, &mut out)?;
@@ -264,8 +280,17 @@ fn the_header_and_the_end_stand_around_the_lines(rt: HostRuntime) -> Result<(), 
     platform.boot.0.push(1)?;
     platform.default_smram = false;
     head(&platform, &mut out)?;
+    platform.delivery = Delivery::Late { lag: 1000 };
+    head(&platform, &mut out)?;
+    platform.apic.0.push(70000)?;
+    platform.tseg_mib = 48;
+    platform.ext_tseg = false;
+    platform.x2apic = true;
+    head(&platform, &mut out)?;
+    platform.delivery = Delivery::Prompt;
+    head(&platform, &mut out)?;
     let want =
-        "kept\nplatform apic=0,1 boot=0 low=08000000 tseg=1 features=7 polls=8 turns=72 modern=true smram=true delivery=prompt\nend 82\nplatform apic=0,1 boot=0,1 low=08000000 tseg=1 features=7 polls=8 turns=72 modern=true smram=false delivery=prompt\n";
+        "kept\nplatform apic=0,1 boot=0 low=08000000 tseg=1 features=7 polls=8 turns=72 modern=true smram=true delivery=prompt\nend 82\nplatform apic=0,1 boot=0,1 low=08000000 tseg=1 features=7 polls=8 turns=72 modern=true smram=false delivery=prompt\nplatform apic=0,1 boot=0,1 low=08000000 tseg=1 features=7 polls=8 turns=72 modern=true smram=false delivery=late lag=1000\nplatform apic=0,1,70000 boot=0,1 low=08000000 tseg=48 ext=false features=7 polls=8 turns=72 modern=true smram=false delivery=late lag=1000 x2apic=true\nplatform apic=0,1,70000 boot=0,1 low=08000000 tseg=48 ext=false features=7 polls=8 turns=72 modern=true smram=false delivery=prompt x2apic=true\n";
     assert_eq!(rt; out.as_slice(), want.as_bytes());
     Ok(())
 }

@@ -1,6 +1,4 @@
-use Rattle.hp_model.specs.Text.{head_text}
-use Rattle.hp_trace.proofs.lines.head.Goals as goal
+use Rattle.hp_trace.proofs.lines.put_front.Goals as goal
 
-pub returns-clause-appended : goal.returns-clause-appended
-unfolding head_text
-returns-clause-appended c = rw (← c.ids.ensures, ← c.ids-2.ensures, ← c.truth.ensures, ← c.truth-2.ensures) c.append_line.ensures.appended
+pub returns-clause-text : goal.returns-clause-text
+returns-clause-text c = rw (← c.ids.ensures, ← c.ids-2.ensures, ← c.ext_word.ensures, ← c.truth.ensures, ← c.truth-2.ensures) c.put_all.ensures.text
