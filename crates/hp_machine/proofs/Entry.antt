@@ -22,4 +22,6 @@ entry_state p m s e k memory cs is stands cpus = record {
   block = is.block;
   ich9 = is.ich9;
   fw_cfg = is.fw_cfg;
+  late = is.late;
+  x2apic = is.x2apic;
 }

@@ -24,6 +24,8 @@ module _ (p : Platform) (m : Machine) (s : State) (is : IsState p m s) where
     block = block ∙ ap (λ (x : Block). block_write x offset width value) is.block;
     ich9 = is.ich9;
     fw_cfg = is.fw_cfg;
+    late = is.late;
+    x2apic = is.x2apic;
   }
 
   pub ich9_state : (k port width value : ℕ) (i : Ich9) (cs : List Cpu) → i ≡ ich9_write m.ich9 port width value →
@@ -41,11 +43,13 @@ module _ (p : Platform) (m : Machine) (s : State) (is : IsState p m s) where
     block = is.block;
     ich9 = ich9 ∙ ap (λ (x : Ich9). ich9_write x port width value) is.ich9;
     fw_cfg = is.fw_cfg;
+    late = is.late;
+    x2apic = is.x2apic;
   }
 
   -- who was ejected isn't the state's
   pub ejected_state : (e : Option ℕ) → IsState p (record m { ejected = e }) s
-  ejected_state e = record { apic = is.apic; memory = is.memory; locks = is.locks; cpus = is.cpus; block = is.block; ich9 = is.ich9; fw_cfg = is.fw_cfg }
+  ejected_state e = record { apic = is.apic; memory = is.memory; locks = is.locks; cpus = is.cpus; block = is.block; ich9 = is.ich9; fw_cfg = is.fw_cfg; late = is.late; x2apic = is.x2apic }
 
   pub read_value : (port width : ℕ) → port_value port width m.block m.ich9 m.fw_cfg ≡ read_port port width s
   read_value port width =
@@ -60,5 +64,5 @@ module _ (p : Platform) (m : Machine) (s : State) (is : IsState p m s) where
       by : (is_data : Bool) → f ≡ (if is_data then advanced 1 m.fw_cfg else m.fw_cfg) →
           IsState p (record m { fw_cfg = f; ejected = e }) (if is_data then record s { fw_cfg = advanced 1 s.fw_cfg } else s)
       by true moved =
-          record { apic = is.apic; memory = is.memory; locks = is.locks; cpus = is.cpus; block = is.block; ich9 = is.ich9; fw_cfg = moved ∙ ap (advanced 1) is.fw_cfg }
-      by false moved = record { apic = is.apic; memory = is.memory; locks = is.locks; cpus = is.cpus; block = is.block; ich9 = is.ich9; fw_cfg = moved ∙ is.fw_cfg }
+          record { apic = is.apic; memory = is.memory; locks = is.locks; cpus = is.cpus; block = is.block; ich9 = is.ich9; fw_cfg = moved ∙ ap (advanced 1) is.fw_cfg; late = is.late; x2apic = is.x2apic }
+      by false moved = record { apic = is.apic; memory = is.memory; locks = is.locks; cpus = is.cpus; block = is.block; ich9 = is.ich9; fw_cfg = moved ∙ is.fw_cfg; late = is.late; x2apic = is.x2apic }

@@ -6,6 +6,7 @@ use Rattle.hp_model.specs.declared.accesses.Answer.{Answer}
 use Rattle.hp_model.specs.declared.entries.Event.{Event}
 use Rattle.hp_model.specs.declared.entries.Event.TheVariants.{Insert, Remove, Do, TakeSmi, TakeInit, Resume, Tell}
 use Rattle.hp_model.specs.declared.processors.Kind.{Kind}
+use Rattle.hp_model.specs.Platform.{is_late}
 use Rattle.hp_model.specs.Cpu.{hit, cpu_at}
 use Rattle.hp_model.specs.Interrupts.{hit_each}
 use Rattle.hp_model.specs.View.{Locks}
@@ -28,6 +29,8 @@ pub record Machine : Type 0 where
   pub ich9 : Ich9
   pub fw_cfg : FwCfg
   pub ejected : Option ℕ  -- the processor that the last step ejected
+  pub late : Bool  -- whether a latched SMI may be taken later than at once
+  pub x2apic : Bool  -- whether the high half of an interrupt command is an APIC ID
 
 -- the machine stands for this state of the model: its memory by the writes, all else by equality.
 -- Where the boot stands and what the monarch keeps aren't the machine's to know.
@@ -39,6 +42,8 @@ pub record IsState (p : Platform) (m : Machine) (s : State) : Type 0 where
   pub block : m.block ≡ s.block
   pub ich9 : m.ich9 ≡ s.ich9
   pub fw_cfg : m.fw_cfg ≡ s.fw_cfg
+  pub late : m.late ≡ is_late p.delivery
+  pub x2apic : m.x2apic ≡ p.x2apic
 
 -- the answer is the event's in this state, and the machine stands for the state after it
 pub record IsStep (p : Platform) (m : Machine) (s : State) (e : Event) (answer : Answer) : Type 0 where
@@ -73,11 +78,14 @@ hit_at is_aimed kind k cs = if is_aimed then slice_set cs k (hit kind (cpu_at cs
 unfoldable pub hit_from : (ℕ → Bool) → Kind → ℕ → List ℕ → List Cpu → List Cpu
 hit_from aims kind k ids cs = take k cs ++ hit_each aims kind (drop k ids) (drop k cs)
 
--- as many processors, slots of the block and APIC IDs, at most 64
+abbrev pub most_processors : ℕ
+most_processors = 512
+
+-- as many processors, slots of the block and APIC IDs, and no more than are possible
 pub record IsSized (apic : List ℕ) (cpus : List Cpu) (block : Block) : Type 0 where
   pub same_cpus : length cpus ≡ length apic
   pub same_slots : length block.slots ≡ length apic
-  pub few : length apic ≤ 64
+  pub few : length apic ≤ most_processors
 
 -- the machine before its first step, with these cells in memory
 abbrev pub started : Platform → List Cell → State

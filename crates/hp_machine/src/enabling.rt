@@ -1,7 +1,7 @@
 //! What a processor may do, by its presence, mode and latches.
 
 ghost use Rattle.std.specs.Prelude.{◌≡◌, ◌^◌, true, nat_lt};
-ghost use Rattle.hp_model.specs.Cpu.{is_free as free, is_running, is_in_smm, is_outside, may_take_smi, may_take_init};
+ghost use Rattle.hp_model.specs.Cpu.{is_unlatched as unlatched, is_free as free, is_running, is_in_smm, is_outside, may_take_smi, may_take_init};
 ghost use Rattle.hp_model.specs.Step.{is_memory_width as memory_width, is_port_width as port_width, is_normal as normal, is_halt as halt, stands_in_smm, may_access};
 
 use hp_model::{Access, Cpu, Mode};
@@ -81,11 +81,19 @@ fn is_outside_mode(mode: Mode) -> bool
     matches!(mode, Mode::Running(_) | Mode::Halted(_))
 }
 
-/// Whether the processor may make any access: present, running, nothing latched.
-fn is_free(cpu: &Cpu) -> bool
-    ensures { result ≡ free cpu.now }
+/// Whether nothing is latched that goes before the processor's next access. `late` tells that a latched SMI may come
+/// late, after it.
+fn is_unlatched(late: bool, cpu: &Cpu) -> bool
+    ensures { result ≡ unlatched late cpu.now }
 {
-    cpu.present && is_running_mode(cpu.mode) && !cpu.smi && !cpu.init
+    late && cpu.smi || !cpu.smi && !cpu.init
+}
+
+/// Whether the processor may make any access: present, running, and nothing goes before.
+fn is_free(late: bool, cpu: &Cpu) -> bool
+    ensures { result ≡ free late cpu.now }
+{
+    cpu.present && is_running_mode(cpu.mode) && is_unlatched(late, cpu)
 }
 
 /// Whether a present processor is in SMM.
@@ -96,10 +104,10 @@ pub fn is_in_smm_now(cpu: &Cpu) -> bool
 }
 
 /// Whether the processor may make this access, which is normal.
-pub fn can_access(cpu: &Cpu, access: Access) -> bool
-    ensures { result ≡ may_access cpu.now access }
+pub fn can_access(late: bool, cpu: &Cpu, access: Access) -> bool
+    ensures { result ≡ may_access late cpu.now access }
 {
-    is_free(cpu) || is_in_smm_now(cpu) && !is_halt(access)
+    is_free(late, cpu) || is_in_smm_now(cpu) && !is_halt(access)
 }
 
 pub fn can_take_smi(cpu: &Cpu) -> bool

@@ -2,9 +2,9 @@
 
 ghost use Rattle.std.specs.Prelude.{◌≡◌, ◌≤◌, ◌<◌, length, true};
 ghost use Rattle.hp_model.specs.Interrupts.{is_target, hit_each, sent, decoded, smi_raised};
-ghost use Rattle.hp_machine.specs.Machine.{hit_at};
+ghost use Rattle.hp_machine.specs.Machine.{hit_at, most_processors};
 
-use hp_apic::{decode, hits};
+use hp_apic::{decode, decode_wide, hits};
 use hp_cpu::Cpus;
 use hp_model::{Ipi, Kind};
 
@@ -22,7 +22,7 @@ fn hit_target(cpus: &mut Cpus, place: u32, is_aimed: bool, kind: Kind)
 #[tactic(auto, using(crate::proofs::Sending::hits))]
 fn send_to_targets(cpus: &mut Cpus, apic: &[u32], ipi: &Ipi, sender: u32)
     requires same { length cpus.old ≡ length apic.now }
-    requires few { length apic.now ≤ 64 }
+    requires few { length apic.now ≤ most_processors }
     ensures { cpus.new ≡ hit_each (is_target ipi.now.to sender) ipi.now.kind apic.now cpus.old }
 {
     for place in 0..apic.len() {
@@ -31,13 +31,24 @@ fn send_to_targets(cpus: &mut Cpus, apic: &[u32], ipi: &Ipi, sender: u32)
     }
 }
 
-/// What an interrupt command does, sent by the processor with this APIC ID.
-pub fn send(cpus: &mut Cpus, apic: &[u32], sender: u32, high: u32, low: u32)
-    requires same { length cpus.old ≡ length apic.now }
-    requires few { length apic.now ≤ 64 }
-    ensures { cpus.new ≡ sent (decoded high low) sender apic.now cpus.old }
+/// The command in the two halves. `x2apic` tells that the high half is an APIC ID.
+fn command(x2apic: bool, high: u32, low: u32) -> Option<Ipi>
+    ensures { result ≡ decoded x2apic high low }
 {
-    if let Some(ipi) = decode(high, low) {
+    if x2apic {
+        decode_wide(high, low)
+    } else {
+        decode(high, low)
+    }
+}
+
+/// What an interrupt command does, sent by the processor with this APIC ID.
+pub fn send(cpus: &mut Cpus, apic: &[u32], sender: u32, x2apic: bool, high: u32, low: u32)
+    requires same { length cpus.old ≡ length apic.now }
+    requires few { length apic.now ≤ most_processors }
+    ensures { cpus.new ≡ sent (decoded x2apic high low) sender apic.now cpus.old }
+{
+    if let Some(ipi) = command(x2apic, high, low) {
         send_to_targets(cpus, apic, &ipi, sender);
     }
 }
@@ -46,7 +57,7 @@ pub fn send(cpus: &mut Cpus, apic: &[u32], sender: u32, high: u32, low: u32)
 #[tactic(auto, using(crate::proofs::Sending::hits))]
 fn hit_all(cpus: &mut Cpus, apic: &[u32])
     requires same { length cpus.old ≡ length apic.now }
-    requires few { length apic.now ≤ 64 }
+    requires few { length apic.now ≤ most_processors }
     ensures { cpus.new ≡ hit_each (λ id. true) Kind.Smi apic.now cpus.old }
 {
     for place in 0..apic.len() {
@@ -57,7 +68,7 @@ fn hit_all(cpus: &mut Cpus, apic: &[u32])
 /// The SMI of the SMI command port: to all present processors where it is broadcast, else to processor `k`.
 pub fn raise_smi(cpus: &mut Cpus, apic: &[u32], k: u32, broadcast: bool)
     requires same { length cpus.old ≡ length apic.now }
-    requires few { length apic.now ≤ 64 }
+    requires few { length apic.now ≤ most_processors }
     requires place { k < length apic.now }
     ensures { cpus.new ≡ smi_raised broadcast k apic.now cpus.old }
 {

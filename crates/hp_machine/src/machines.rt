@@ -3,7 +3,7 @@
 ghost use Rattle.std.specs.Prelude.{◌≡◌, ◌≤◌, ◌<◌, ◌-◌, ◌^◌, true, List, IfOk, IfSome, OnErr, OnOk, IsOk, length, slice_set};
 ghost use Rattle.hp_model.specs.declared.platforms.Platform.{Platform};
 ghost use Rattle.hp_model.specs.declared.entries.Event.TheVariants.{Do, Insert, Remove, TakeSmi, TakeInit, Resume};
-ghost use Rattle.hp_model.specs.Platform.{IsFit};
+ghost use Rattle.hp_model.specs.Platform.{IsFit, is_late as comes_late};
 ghost use Rattle.hp_model.specs.Cpu.{cpu_at, is_in_smm, smm_address, moved};
 ghost use Rattle.hp_model.specs.Step.{State, can_do, mark_at, stands_in_smm};
 ghost use Rattle.hp_model.specs.Memory.{Write};
@@ -29,7 +29,7 @@ use hp_fwcfg::FwCfg;
 use hp_ich9::Ich9;
 use hp_image::{Cell, Cells};
 use hp_mem::Mem;
-use hp_model::{Access, Answer, Cpu, Event, Mode, NoMemory, Platform};
+use hp_model::{Access, Answer, Cpu, Delivery, Event, Mode, NoMemory, Platform};
 use hp_regs::Block;
 use hp_smram::{Locks, locks_start_as_the_machine};
 use std::alloc::Global;
@@ -49,6 +49,9 @@ pub struct Machine {
     ich9: Ich9,
     fw_cfg: FwCfg,
     ejected: Option<u32>,
+    /// Whether a latched SMI may be taken later than at once.
+    late: bool,
+    x2apic: bool,
 }
 
 impl Model for Machine {
@@ -57,7 +60,7 @@ impl Model for Machine {
 
     ghost Value = { seen.Machine };
 
-    ghost view = { λ m. record { apic = m.apic.items; memory = m.memory; locks = m.locks; cpus = m.cpus; block = m.block; ich9 = m.ich9; fw_cfg = m.fw_cfg; ejected = m.ejected } };
+    ghost view = { λ m. record { apic = m.apic.items; memory = m.memory; locks = m.locks; cpus = m.cpus; block = m.block; ich9 = m.ich9; fw_cfg = m.fw_cfg; ejected = m.ejected; late = m.late; x2apic = m.x2apic } };
 
     ghost invariant = { λ m. IsSized m.apic.items m.cpus m.block };
 }
@@ -74,6 +77,16 @@ fn store_cells(memory: &mut Mem, cells: &[Cell], low: u32) -> Result<(), NoMemor
             memory.store(first.addr, first.width, first.value)?;
             store_cells(memory, rest, low)
         }
+    }
+}
+
+/// Whether a latched SMI may be taken later than at once.
+fn is_late(delivery: Delivery) -> bool
+    ensures { result ≡ comes_late delivery }
+{
+    match delivery {
+        Delivery::Prompt => false,
+        Delivery::Late { lag: _ } => true,
     }
 }
 
@@ -154,7 +167,7 @@ impl Machine {
 
     #[tactic(auto, using(crate::proofs::Ejects::ejects))]
     fn access(&mut self, k: u32, access: Access) -> Result<Answer, NoMemory>
-        requires { can_do (length self.old.apic) self.old.cpus (Do k access) ≡ true }
+        requires { can_do self.old.late (length self.old.apic) self.old.cpus (Do k access) ≡ true }
         ensures step { (p : Platform) (s : State) → IsState p self.old s → IfOk result (λ answer. IsStep p self.new s (Do k access) answer) }
         ensures no_memory { (p : Platform) (s : State) → IsState p self.old s → OnErr result (IsState p self.new s) }
         ensures fits { IfOk result (λ answer. FitsEvent (Do k access) answer) }
@@ -202,7 +215,14 @@ impl Machine {
             }
             Access::Icr { high, low } => {
                 let sender = self.apic[k as usize];
-                send(&mut self.cpus, self.apic.as_slice(), sender, high, low);
+                send(
+                    &mut self.cpus,
+                    self.apic.as_slice(),
+                    sender,
+                    self.x2apic,
+                    high,
+                    low,
+                );
                 Ok(Answer::Quiet)
             }
             Access::Halt => {
@@ -222,7 +242,7 @@ impl Machine {
         let apic = Vec::from_slice(alloc, p.apic.0.as_slice())?;
         let cpus = Cpus::new(alloc, p)?;
         let block = Block::new(alloc, p)?;
-        let locks = Locks::new(p.low_memory, p.default_smram);
+        let locks = Locks::new(p.low_memory, p.default_smram, p.ext_tseg);
         let ich9 = Ich9::new();
         let fw_cfg = FwCfg::new(p.features);
         locks_start_as_the_machine();
@@ -237,6 +257,8 @@ impl Machine {
             ich9,
             fw_cfg,
             ejected: None,
+            late: is_late(p.delivery),
+            x2apic: p.x2apic,
         })
     }
 
@@ -261,13 +283,13 @@ impl Machine {
     /// Whether the machine has the event as a step, by presence, modes and latches alone: for an access also that it is
     /// normal, and for a halt that the processor is running.
     pub fn enabled(&self, e: &Event) -> bool
-        ensures { result ≡ can_do (length self.now.apic) self.now.cpus e.now }
+        ensures { result ≡ can_do self.now.late (length self.now.apic) self.now.cpus e.now }
     {
         match *e {
             Event::Insert(k) => (k as usize) < self.apic.len() && !self.cpu_or_absent(k).present,
             Event::Remove(k) => k != 0 && self.cpu_or_absent(k).present,
             Event::Do(k, access) => {
-                is_normal(access) && can_access(&self.cpu_or_absent(k), access)
+                is_normal(access) && can_access(self.late, &self.cpu_or_absent(k), access)
             }
             Event::TakeSmi(k) => can_take_smi(&self.cpu_or_absent(k)),
             Event::TakeInit(k) => can_take_init(&self.cpu_or_absent(k)),
@@ -279,7 +301,7 @@ impl Machine {
     /// A processor comes: the block notes it, and it is announced in the GPE status.
     #[tactic(auto, using(crate::proofs::Ejects::ejects))]
     fn insert(&mut self, k: u32)
-        requires { can_do (length self.old.apic) self.old.cpus (Insert k) ≡ true }
+        requires { can_do self.old.late (length self.old.apic) self.old.cpus (Insert k) ≡ true }
         ensures step { (p : Platform) (s : State) → IsState p self.old s → IsStep p self.new s (Insert k) Answer.Quiet }
         ensures ejected { self.new.ejected ≡ ejected_by self.old.block self.new.block }
     {
@@ -291,7 +313,7 @@ impl Machine {
 
     #[tactic(auto, using(crate::proofs::Ejects::ejects))]
     fn request_removal(&mut self, k: u32)
-        requires { can_do (length self.old.apic) self.old.cpus (Remove k) ≡ true }
+        requires { can_do self.old.late (length self.old.apic) self.old.cpus (Remove k) ≡ true }
         ensures step { (p : Platform) (s : State) → IsState p self.old s → IsStep p self.new s (Remove k) Answer.Quiet }
         ensures ejected { self.new.ejected ≡ ejected_by self.old.block self.new.block }
     {
@@ -303,7 +325,7 @@ impl Machine {
     /// SMI entry. Room for what it saves is taken before the processor changes.
     #[tactic(auto, using(crate::proofs::Ejects::ejects))]
     fn enter(&mut self, k: u32) -> Result<Answer, NoMemory>
-        requires { can_do (length self.old.apic) self.old.cpus (TakeSmi k) ≡ true }
+        requires { can_do self.old.late (length self.old.apic) self.old.cpus (TakeSmi k) ≡ true }
         ensures step { (p : Platform) (s : State) → IsState p self.old s → IfOk result (λ answer. IsStep p self.new s (TakeSmi k) answer) }
         ensures fits { IfOk result (λ answer. FitsEvent (TakeSmi k) answer) }
         ensures no_memory { (p : Platform) (s : State) → IsState p self.old s → OnErr result (IsState p self.new s) }
@@ -319,7 +341,7 @@ impl Machine {
 
     #[tactic(auto, using(crate::proofs::Ejects::ejects))]
     fn take_init(&mut self, k: u32)
-        requires { can_do (length self.old.apic) self.old.cpus (TakeInit k) ≡ true }
+        requires { can_do self.old.late (length self.old.apic) self.old.cpus (TakeInit k) ≡ true }
         ensures step { (p : Platform) (s : State) → IsState p self.old s → IsStep p self.new s (TakeInit k) Answer.Quiet }
         ensures ejected { self.new.ejected ≡ ejected_by self.old.block self.new.block }
     {
@@ -330,7 +352,7 @@ impl Machine {
     /// RSM.
     #[tactic(auto, using(crate::proofs::Ejects::ejects))]
     fn resume(&mut self, k: u32)
-        requires { can_do (length self.old.apic) self.old.cpus (Resume k) ≡ true }
+        requires { can_do self.old.late (length self.old.apic) self.old.cpus (Resume k) ≡ true }
         ensures step { (p : Platform) (s : State) → IsState p self.old s → IsStep p self.new s (Resume k) Answer.Quiet }
         ensures ejected { self.new.ejected ≡ ejected_by self.old.block self.new.block }
     {
@@ -346,7 +368,7 @@ impl Machine {
     /// Where a processor in SMM goes on to is said by `go`.
     #[tactic(auto, using(crate::proofs::Ejects::ejects))]
     pub fn step(&mut self, e: &Event) -> Result<Answer, NoMemory>
-        requires { can_do (length self.old.apic) self.old.cpus e.now ≡ true }
+        requires { can_do self.old.late (length self.old.apic) self.old.cpus e.now ≡ true }
         ensures step { (p : Platform) (s : State) → IsState p self.old s → IfOk result (λ answer. IsStep p self.new s e.now answer) }
         ensures fits { IfOk result (λ answer. FitsEvent e.now answer) }
         ensures no_memory { (p : Platform) (s : State) → IsState p self.old s → OnErr result (IsState p self.new s) }

@@ -7,7 +7,7 @@ ghost use Rattle.hp_model.specs.FwCfg.{has_broadcast};
 ghost use Rattle.hp_model.specs.Ich9.{ich9_write, raises_smi};
 ghost use Rattle.hp_model.specs.Interrupts.{smi_raised};
 ghost use Rattle.hp_regs.specs.Ports.{IsWidth};
-ghost use Rattle.hp_machine.specs.Machine.{port_value, port_read};
+ghost use Rattle.hp_machine.specs.Machine.{port_value, port_read, most_processors};
 
 use crate::interrupts::raise_smi;
 use hp_cpu::Cpus;
@@ -119,7 +119,7 @@ pub fn write_ich9(
     value: u32,
 )
     requires same { length cpus.old ≡ length apic.now }
-    requires few { length apic.now ≤ 64 }
+    requires few { length apic.now ≤ most_processors }
     requires place { k < length apic.now }
     ensures ich9 { ich9.new ≡ ich9_write ich9.old port width value }
     ensures cpus { cpus.new ≡ (if raises_smi ich9.old port width then smi_raised broadcast k apic.now cpus.old else cpus.old) }

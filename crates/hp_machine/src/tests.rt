@@ -39,6 +39,8 @@ fn platform(
         modern: true,
         default_smram: true,
         delivery: Delivery::Prompt,
+        x2apic: false,
+        ext_tseg: true,
     })
 }
 
@@ -296,6 +298,58 @@ fn send_to_some(rt: &impl Abort, machine: &mut Machine) -> Result<(), Fail> {
 fn interrupts_go_by_apic_id(rt: HostRuntime) -> Result<(), Fail> {
     let mut machine = many(&rt, rt.alloc())?;
     send_to_some(&rt, &mut machine)
+}
+
+/// 512 boot processors with APIC IDs from 70000 on, and TSEG from 05000000 on.
+fn most(rt: &impl Abort, alloc: Global) -> Result<Machine, Fail> {
+    let mut apic = Vec::new(alloc);
+    for place in 0..512u32 {
+        apic.push(70000 + place)?;
+    }
+    let mut p = platform(alloc, apic, 512, 0x8000000, 48)?;
+    p.x2apic = true;
+    machine(rt, alloc, &p)
+}
+
+const LATCHED: [(u32, bool, bool); 4] = [
+    (0, false, true),
+    (5, false, true),
+    (7, false, false),
+    (511, true, true),
+];
+
+fn send_to_the_last(rt: &impl Abort, machine: &mut Machine) -> Result<(), Fail> {
+    // INIT to the last APIC ID, and to one that would be place 5's without x2APIC; an SMI from place 7 to all others
+    take(rt, machine, 0, icr(7, 70511, 0x00000500))?;
+    take(rt, machine, 1, icr(7, 0x05000000, 0x00000500))?;
+    take(rt, machine, 2, icr(7, 0, 0x000c0200))?;
+    for (place, init, smi) in &LATCHED {
+        let cpu = cpu_of(rt, machine, *place);
+        assert_eq!(rt; (cpu.init, cpu.smi), (*init, *smi), "place {place}");
+    }
+    Ok(())
+}
+
+#[test]
+fn wide_interrupts_reach_the_last_of_512_processors(rt: HostRuntime) -> Result<(), Fail> {
+    let mut machine = most(&rt, rt.alloc())?;
+    send_to_the_last(&rt, &mut machine)
+}
+
+const LARGEST_TSEG: [(Act, Answer); 7] = [
+    (Act::CfgWrite(0, 0x50, 0xff), Answer::Quiet),
+    (Act::CfgRead(0, 0x50), Answer::Value(0x30)),
+    (Act::CfgWrite(0, 0x9e, 0x07), Answer::Quiet),
+    (Act::Load(0, 4, 0x5000000), Answer::Value(0)),
+    (Act::CfgWrite(0, 0x9d, 0x18), Answer::Quiet),
+    (Act::Load(0, 4, 0x5000000), Answer::Value(0xffffffff)),
+    (Act::Load(0, 4, 0x4fffffc), Answer::Value(0)),
+];
+
+#[test]
+fn register_50_makes_the_largest_tseg(rt: HostRuntime) -> Result<(), Fail> {
+    let mut machine = two(&rt, rt.alloc(), 1)?;
+    play(&rt, &mut machine, &LARGEST_TSEG)
 }
 
 const CELLS: [(Act, Answer); 4] = [

@@ -1,8 +1,10 @@
 //! Which events each mode has, and what they make of it.
 
-use super::{ABSENT, Act, cpu_of, event_of, is_cpu, mark_of, port_out, store, take, two};
+use super::{
+    ABSENT, Act, cpu_of, event_of, is_cpu, machine, mark_of, platform, port_out, store, take, two,
+};
 use crate::Machine;
-use hp_model::{Access, Answer, Cpu, Event, Mode};
+use hp_model::{Access, Answer, Cpu, Delivery, Event, Mode};
 use std::alloc::Global;
 use std::process::Abort;
 use std::test::Fail;
@@ -233,6 +235,55 @@ fn enabled_anew(rt: &impl Abort, alloc: Global, acts: &[Act; 5]) -> Result<[bool
 fn each_mode_has_its_events(rt: HostRuntime) -> Result<(), Fail> {
     for (mode, acts, want) in &EVENTS {
         let got = enabled_anew(&rt, rt.alloc(), acts)?;
+        assert_eq!(rt; got, *want, "{mode}");
+    }
+    Ok(())
+}
+
+// where a latched SMI may come late: a running processor goes on, while INIT and a halted one wait for the SMI
+const LATE_EVENTS: [(&str, [Act; 5], [bool; 7]); 5] = [
+    (
+        "running, SMI",
+        [Act::Insert(1), SIPI, SMI, Act::Nop(1), Act::Nop(0)],
+        [NO, true, true, true, true, NO, NO],
+    ),
+    (
+        "running, INIT",
+        [Act::Insert(1), SIPI, INIT, Act::Nop(0), Act::Nop(0)],
+        [NO, true, NO, NO, NO, true, NO],
+    ),
+    (
+        "running, both",
+        [Act::Insert(1), SIPI, INIT, SMI, Act::Nop(1)],
+        [NO, true, true, true, true, NO, NO],
+    ),
+    (
+        "halted, SMI",
+        [Act::Insert(1), SIPI, SMI, Act::Halt(1), Act::Nop(0)],
+        [NO, true, NO, NO, true, NO, NO],
+    ),
+    (
+        "halted, both",
+        [Act::Insert(1), SIPI, SMI, Act::Halt(1), INIT],
+        [NO, true, NO, NO, true, NO, NO],
+    ),
+];
+
+fn late(rt: &impl Abort, alloc: Global) -> Result<Machine, Fail> {
+    let mut p = platform(alloc, vec![in alloc; 0, 1]?, 1, 0x8000000, 1)?;
+    p.delivery = Delivery::Late { lag: 1 };
+    machine(rt, alloc, &p)
+}
+
+fn enabled_late(rt: &impl Abort, alloc: Global, acts: &[Act; 5]) -> Result<[bool; 7], Fail> {
+    let mut machine = late(rt, alloc)?;
+    enabled_after(rt, &mut machine, acts)
+}
+
+#[test]
+fn a_running_processor_goes_on_before_a_late_smi(rt: HostRuntime) -> Result<(), Fail> {
+    for (mode, acts, want) in &LATE_EVENTS {
+        let got = enabled_late(&rt, rt.alloc(), acts)?;
         assert_eq!(rt; got, *want, "{mode}");
     }
     Ok(())
