@@ -1,11 +1,12 @@
 -- What is read at C3, C4 and C6 has the width of its register, since it fits what any monarch with this collection wants.
-use Rattle.std.proofs.Common.{◌≡◌, ◌<◌, ◌^◌, [], refl, subst}
+use Rattle.std.proofs.Common.{◌≡◌, ◌<◌, ◌^◌, false, [], refl, subst}
 use Rattle.hp_model.specs.declared.accesses.Answer.{Answer}
 use Rattle.hp_model.specs.declared.accesses.Answer.TheVariants.{Quiet, Value}
 use Rattle.hp_model.specs.declared.labels.Label.TheVariants.{C1, C3, C4, C6}
 use Rattle.hp_model.specs.Add.{add_of}
 use Rattle.hp_model.specs.Boot.{value_in}
 use Rattle.hp_model.specs.Collection.{Collected, Collection, CollectsAt}
+use Rattle.hp_model.specs.Eject.{eject_of}
 use Rattle.hp_model.specs.Handlers.{Seat}
 use Rattle.hp_model.specs.Monarch.{Monarch, no_outcome}
 use Rattle.hp_model.specs.SharedBytes.{Layout}
@@ -13,7 +14,7 @@ use Rattle.std.specs.Prelude.{None}
 use Rattle.hp_collect.specs.Collecting.{Fits}
 
 nowhere : Layout
-nowhere = record { tseg = 0; count = 0; apics = []; polls = 0 }
+nowhere = record { tseg = 0; count = 0; apics = []; polls = 0; x2apic = false; late = false }
 
 nobody : Seat
 nobody = record { apic = 0; slot = 0; base = 0 }
@@ -30,6 +31,7 @@ with_collection c =
       collection = c;
       taken = 0;
       add = add_of 0 0 0;
+      eject = eject_of 0 0 0;
       outcome = no_outcome;
     }
 

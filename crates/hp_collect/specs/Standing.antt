@@ -28,7 +28,7 @@ IsPlace (Some row) cpu count = cpu < count
 -- each report is of a possible processor, there are no more of them than processors that were passed, and there is room for all
 pub record IsSound (count cpu room : ℕ) (at : Option Row) (reports : List Reported) : Type 0 where
   pub some : 1 ≤ count
-  pub few : count ≤ 64
+  pub few : count ≤ 512
   pub place : IsPlace at cpu count
   pub made : length reports ≤ cpu
   pub possible : list_all (λ (t : Reported). nat_lt t.cpu count) reports ≡ true

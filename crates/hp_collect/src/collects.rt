@@ -116,7 +116,7 @@ impl Collect {
     /// A collection that is to begin. `count` is how many processors are possible. Later calls take no memory.
     pub fn new(alloc: Global, count: u32) -> Result<Collect, NoMemory>
         requires some { 1 ≤ count }
-        requires few { count ≤ 64 }
+        requires few { count ≤ 512 }
         ensures count { IfOk result (λ c. c.count ≡ count) }
         ensures collected { IfOk result (λ c. c.collected ≡ CollectsAt C1 collection_start) }
     {

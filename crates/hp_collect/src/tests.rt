@@ -91,7 +91,7 @@ fn collect(
     steps: &[Step],
     reports: &[Reported],
 ) -> Result<(), NoMemory>
-    requires { (1 ≤ count) × (count ≤ 64) }
+    requires { (1 ≤ count) × (count ≤ 512) }
 {
     let mut c = Collect::new(alloc, count)?;
     assert_eq!(rt; c.label() as u32, 17);
@@ -188,31 +188,37 @@ fn a_processor_that_is_not_possible_ends_it(rt: HostRuntime) -> Result<(), Fail>
 
 /// The steps of a processor with an event, and its report.
 fn with_event(rt: &impl Abort, c: &mut Collect, cpu: u32, last: Stage) {
+    // up to the greatest that there may be
+    let apic = 0xffff_fdff + cpu % 512;
     let steps = [
         Step::Select(cpu),
         Step::Command(0),
         Step::Data(u64::from(cpu)),
         Step::Status(0x12),
         Step::Command(3),
-        Step::Data(255 - u64::from(cpu % 64)),
+        Step::Data(u64::from(apic)),
     ];
     play(rt, c, &steps, last);
     let wanted = Reported {
         cpu,
         status: 0x12,
-        apic: 255 - cpu % 64,
+        apic,
     };
     assert_eq!(rt; c.report().last(), Some(&wanted));
 }
 
 #[test]
-fn each_of_64_processors_has_its_report(rt: HostRuntime) -> Result<(), Fail> {
-    let mut c = Collect::new(rt.alloc(), 64)?;
-    for cpu in 0..64u32 {
-        let last = if cpu == 63 { Stage::Ended } else { Stage::More };
+fn each_of_512_processors_has_its_report(rt: HostRuntime) -> Result<(), Fail> {
+    let mut c = Collect::new(rt.alloc(), 512)?;
+    for cpu in 0..512u32 {
+        let last = if cpu == 511 {
+            Stage::Ended
+        } else {
+            Stage::More
+        };
         with_event(&rt, &mut c, cpu, last);
     }
-    assert_eq!(rt; c.report().len(), 64);
+    assert_eq!(rt; c.report().len(), 512);
     for (place, report) in c.report().iter().enumerate() {
         assert_eq!(rt; report.cpu as usize, place);
     }
