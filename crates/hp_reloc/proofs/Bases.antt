@@ -1,5 +1,5 @@
 -- The base that is loaded has 4 bytes.
-use Rattle.std.proofs.Common.{◌≡◌, ℕ, ◌^◌, ◌<◌, [], None, subst}
+use Rattle.std.proofs.Common.{◌≡◌, ℕ, ◌^◌, ◌<◌, false, [], None, subst}
 use Rattle.hp_model.specs.declared.accesses.Answer.{Answer}
 use Rattle.hp_model.specs.declared.accesses.Answer.TheVariants.{Quiet, Value}
 use Rattle.hp_model.specs.declared.labels.Label.{Label}
@@ -7,12 +7,13 @@ use Rattle.hp_model.specs.declared.labels.Label.TheVariants.{F1, F2}
 use Rattle.hp_model.specs.Add.{add_of}
 use Rattle.hp_model.specs.Boot.{value_in}
 use Rattle.hp_model.specs.Collection.{collection_start}
+use Rattle.hp_model.specs.Eject.{eject_of}
 use Rattle.hp_model.specs.Monarch.{Monarch, no_outcome}
 use Rattle.hp_model.specs.SharedBytes.{Layout}
 use Rattle.hp_reloc.specs.Fits.{FitsFirst}
 
 no_layout : Layout
-no_layout = record { tseg = 0; count = 0; apics = []; polls = 0 }
+no_layout = record { tseg = 0; count = 0; apics = []; polls = 0; x2apic = false; late = false }
 
 no_monarch : Monarch
 no_monarch =
@@ -26,6 +27,7 @@ no_monarch =
       collection = collection_start;
       taken = 0;
       add = add_of 0 0 0;
+      eject = eject_of 0 0 0;
       outcome = no_outcome;
     }
 

@@ -1,13 +1,14 @@
 -- No more distinct APIC IDs are bound than are possible; those of the boot processors are such.
-use Rattle.std.proofs.Common.{ℕ, zero, suc, ◌≡◌, ◌≤◌, ◌<◌, ◌+◌, ◌==◌, Bool, true, false, cond, ◌&&◌, ◌||◌, List, [], ◌∷◌, length, get_or, map, nat_lt, replicate, refl, sym, ap, ◌∙◌, arith}
+use Rattle.std.proofs.Common.{ℕ, zero, suc, ◌≡◌, ◌≤◌, ◌<◌, ◌+◌, ◌==◌, Bool, true, false, cond, ◌&&◌, ◌||◌, List, [], ◌∷◌, length, get_or, map, nat_lt, replicate, nat_le, Option, Some, None, refl, sym, ap, ◌∙◌, arith}
 use Rattle.std.specs.Prelude.{if◌then◌else◌, not}
 use Rattle.std.specs.List.{list_all, list_any}
 use Rattle.std.proofs.lemmas.Bool.Decides.{nat_tests}
 use Rattle.std.proofs.lemmas.Grind.{common_steps}
 use Rattle.hp_model.specs.declared.platforms.Platform.{Platform}
 use Rattle.hp_model.specs.Block.{is_in}
-use Rattle.hp_model.specs.Platform.{IsFit, all_distinct, ascends_from, ascends_from_zero, count_of}
+use Rattle.hp_model.specs.Platform.{IsFit, all_distinct, ascends_from, ascends_from_zero, count_of, counts_fit, greatest_id, ids_fit, no_id, tseg}
 use Rattle.hp_model.specs.Slots.{boot_ids}
+use Rattle.hp_reloc.specs.Relocating.{greatest}
 use Rattle.hp_reloc.specs.Roster.{IsSound}
 use Rattle.std.proofs.lemmas.List.{length-map, length-replicate}
 
@@ -72,13 +73,13 @@ few : (count : ℕ) (ks : List ℕ) → ascends_from_zero ks ≡ true → list_a
 few count [] up below = omega arith
 few count (k ∷ ks) up below = grind (arith, nat_tests, common_steps, ascending 0 count ks)
 
-any_false : (x : ℕ) (xs : List ℕ) (k : ℕ) → list_any (λ y. y == x) xs ≡ false → k < length xs → (get_or xs k 255 == x) ≡ false
+any_false : (x : ℕ) (xs : List ℕ) (k : ℕ) → list_any (λ y. y == x) xs ≡ false → k < length xs → (get_or xs k no_id == x) ≡ false
 any_false x [] k e h = absurd (omega (arith, h))
 any_false x (y ∷ ys) zero e h = grind (arith, nat_tests, common_steps)
 any_false x (y ∷ ys) (suc k) e h = any_false x ys k (grind (arith, nat_tests, common_steps)) (omega (arith, h))
 
 -- two places of distinct APIC IDs
-apart : (xs : List ℕ) (i j : ℕ) → all_distinct xs ≡ true → i < j → j < length xs → (get_or xs j 255 == get_or xs i 255) ≡ false
+apart : (xs : List ℕ) (i j : ℕ) → all_distinct xs ≡ true → i < j → j < length xs → (get_or xs j no_id == get_or xs i no_id) ≡ false
 apart [] i j d h k = absurd (omega (arith, k))
 apart (x ∷ xs) i zero d h k = absurd (omega (arith, h))
 apart (x ∷ xs) zero (suc j) d h k = any_false x xs j (grind (arith, nat_tests, common_steps)) (omega (arith, k))
@@ -86,7 +87,7 @@ apart (x ∷ xs) (suc i) (suc j) d h k = apart xs i j (grind (arith, nat_tests, 
 
 -- none of the places that ascend from above `low` has the APIC ID of a place up to it
 none_ahead : (xs : List ℕ) (i low : ℕ) (ks : List ℕ) → all_distinct xs ≡ true → i ≤ low → ascends_from low ks ≡ true →
-    list_all (λ k. nat_lt k (length xs)) ks ≡ true → list_any (λ y. y == get_or xs i 255) (map (λ k. get_or xs k 255) ks) ≡ false
+    list_all (λ k. nat_lt k (length xs)) ks ≡ true → list_any (λ y. y == get_or xs i no_id) (map (λ k. get_or xs k no_id) ks) ≡ false
 none_ahead xs i low [] d h up below = refl
 none_ahead xs i low (k ∷ ks) d h up below =
     let here : i < k = grind (arith, nat_tests, common_steps) in
@@ -97,7 +98,7 @@ none_ahead xs i low (k ∷ ks) d h up below =
 
 -- so their APIC IDs are distinct
 distinct_ahead : (xs : List ℕ) (low : ℕ) (ks : List ℕ) → all_distinct xs ≡ true → ascends_from low ks ≡ true →
-    list_all (λ k. nat_lt k (length xs)) ks ≡ true → all_distinct (map (λ k. get_or xs k 255) ks) ≡ true
+    list_all (λ k. nat_lt k (length xs)) ks ≡ true → all_distinct (map (λ k. get_or xs k no_id) ks) ≡ true
 distinct_ahead xs low [] d up below = refl
 distinct_ahead xs low (k ∷ ks) d up below =
     let onward : ascends_from k ks ≡ true = grind (arith, nat_tests, common_steps) in
@@ -105,7 +106,7 @@ distinct_ahead xs low (k ∷ ks) d up below =
     rw (none_ahead xs k k ks d (omega arith) onward after) (distinct_ahead xs k ks d onward after)
 
 distinct_all : (xs : List ℕ) (ks : List ℕ) → all_distinct xs ≡ true → ascends_from_zero ks ≡ true →
-    list_all (λ k. nat_lt k (length xs)) ks ≡ true → all_distinct (map (λ k. get_or xs k 255) ks) ≡ true
+    list_all (λ k. nat_lt k (length xs)) ks ≡ true → all_distinct (map (λ k. get_or xs k no_id) ks) ≡ true
 distinct_all xs [] d up below = refl
 distinct_all xs (k ∷ ks) d up below =
     let zero_is : k ≡ 0 = grind (arith, nat_tests, common_steps) in
@@ -114,20 +115,38 @@ distinct_all xs (k ∷ ks) d up below =
     let after : list_all (λ k. nat_lt k (length xs)) ks ≡ true = grind (arith, nat_tests, common_steps) in
     rw (none_ahead xs k k ks d (omega arith) onward after) (distinct_ahead xs k ks d onward after)
 
-in_at : (xs : List ℕ) (k : ℕ) → k < length xs → is_in (get_or xs k 255) xs ≡ true
+in_at : (xs : List ℕ) (k : ℕ) → k < length xs → is_in (get_or xs k no_id) xs ≡ true
 in_at [] k h = absurd (omega (arith, h))
 in_at (x ∷ xs) zero h = grind (arith, nat_tests, common_steps)
 in_at (x ∷ xs) (suc k) h = grind (arith, nat_tests, common_steps, in_at xs k)
 
-in_all : (xs : List ℕ) (ks : List ℕ) → list_all (λ k. nat_lt k (length xs)) ks ≡ true → list_all (λ a. is_in a xs) (map (λ k. get_or xs k 255) ks) ≡ true
+in_all : (xs : List ℕ) (ks : List ℕ) → list_all (λ k. nat_lt k (length xs)) ks ≡ true → list_all (λ a. is_in a xs) (map (λ k. get_or xs k no_id) ks) ≡ true
 in_all xs [] below = refl
 in_all xs (k ∷ ks) below =
     let inside : k < length xs = grind (arith, nat_tests, common_steps) in
     let after : list_all (λ k. nat_lt k (length xs)) ks ≡ true = grind (arith, nat_tests, common_steps) in
     rw (in_at xs k inside) (in_all xs ks after)
 
-pub apic_few : (p : Platform) → IsFit p → length p.apic ≤ 64
+-- each of these is at most the greatest
+at_most : (most : ℕ) (ids : List ℕ) (a : ℕ) → list_all (λ a. nat_le a most) ids ≡ true → is_in a ids ≡ true → a ≤ most
+at_most most [] a all among = cc
+at_most most (x ∷ xs) a all among = grind (arith, nat_tests, at_most most xs a)
+
+-- a rule that no platform that fits breaks, and the rules after it
+passed : (b : Bool) (n : ℕ) (rest : Option ℕ) → cond (not b) (Some n) rest ≡ None → (b ≡ true) × (rest ≡ None)
+passed true n rest e = (refl, e)
+passed false n rest e = absurd cc
+
+pub possible_small : (p : Platform) (a : ℕ) → IsFit p → is_in a p.apic ≡ true → a ≤ greatest p.x2apic
+possible_small p a fit among =
+    let ids = passed (ids_fit p) 3 _ (passed (counts_fit p) 2 _ fit).1 in
+    at_most (greatest_id p) p.apic a (both (list_all (λ a. nat_le a (greatest_id p)) p.apic) (all_distinct p.apic) ids.0).0 among
+
+pub apic_few : (p : Platform) → IsFit p → length p.apic ≤ 512
 apic_few p fit = grind (arith, nat_tests)
+
+pub tseg_below : (p : Platform) → IsFit p → tseg p ≤ 0x80000000
+tseg_below p fit = grind (arith, nat_tests)
 
 pub boot_few : (p : Platform) → IsFit p → length p.boot ≤ length p.apic
 boot_few p fit = few (count_of p) p.boot (grind (arith, nat_tests)) (grind (arith, nat_tests))

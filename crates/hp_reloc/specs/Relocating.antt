@@ -1,5 +1,5 @@
 -- What contracts see of an add: what it goes by of the platform, its record, and where the last answer led.
-use Rattle.std.specs.Prelude.{◌≡◌, ◌<◌, ◌≤◌, ℕ, Bool, true, false, Option, Some, None}
+use Rattle.std.specs.Prelude.{◌≡◌, ◌<◌, ◌≤◌, ℕ, Bool, true, false, Option, Some, None, if◌then◌else◌}
 use Rattle.hp_model.specs.declared.accesses.Answer.{Answer}
 use Rattle.hp_model.specs.declared.labels.Label.{Label}
 use Rattle.hp_model.specs.declared.labels.Label.TheVariants as label
@@ -20,6 +20,7 @@ use Rattle.hp_reloc.specs.declared.standing.Standing.TheVariants.{At, Ended}
 pub record Relocating : Type 0 where
   pub tseg : ℕ  -- the first address of TSEG
   pub polls : ℕ  -- how often a byte is looked at, at most
+  pub x2apic : Bool  -- whether APIC IDs have 32 bits
   pub add : Add
   pub led : Led
 
@@ -40,10 +41,10 @@ abbrev pub IsGoing : Led → Type 0
 IsGoing (AddsAt l a) = Unit {0}
 IsGoing (Ends o) = ⊥
 
--- the answer fits what it wants: of the layout only TSEG, and of the monarch's record only the add matters
-abbrev pub Fits : ℕ → Led → Answer → Type 0
-Fits tseg (AddsAt l a) answer = (y : Layout) (x : Seat) (r : Monarch) → y.tseg ≡ tseg → r.add ≡ a → FitsWant (want_at y x r l) answer
-Fits tseg (Ends o) answer = ⊥
+-- the answer fits what it wants: of the layout only TSEG and x2APIC, and of the monarch's record only the add matters
+abbrev pub Fits : ℕ → Bool → Led → Answer → Type 0
+Fits tseg x2apic (AddsAt l a) answer = (y : Layout) (x : Seat) (r : Monarch) → y.tseg ≡ tseg → y.x2apic ≡ x2apic → r.add ≡ a → FitsWant (want_at y x r l) answer
+Fits tseg x2apic (Ends o) answer = ⊥
 
 -- its outcome, once there is one
 abbrev pub outcome_of : Led → Option Outcome
@@ -87,10 +88,14 @@ is_of_add (Ended (outcome.Added cpu apic slot)) = true
 is_of_add (Ended (outcome.Ejected cpu apic slot)) = false
 is_of_add (Ended (outcome.Refused why)) = true
 
+-- an APIC ID has 8 bits, or 32 under x2APIC, and isn't the one of all ones
+abbrev pub greatest : Bool → ℕ
+greatest x2apic = if x2apic then 0xfffffffe else 254
+
 -- addresses and interrupt commands have 32 bits, and there are three attempts
-pub record IsSmall (tseg apic slot attempt : ℕ) (standing : Standing) : Type 0 where
+pub record IsSmall (tseg : ℕ) (x2apic : Bool) (apic slot attempt : ℕ) (standing : Standing) : Type 0 where
   pub below : tseg ≤ 0x80000000
-  pub xapic : apic ≤ 254
-  pub tile : slot < 64
+  pub narrow : apic ≤ greatest x2apic
+  pub tile : slot < 512
   pub third : attempt ≤ 3
   pub ends : is_of_add standing ≡ true

@@ -19,6 +19,6 @@ pub record IsSound (bound : List ℕ) (known : List Bool) (possible : List ℕ) 
   pub distinct : all_distinct bound ≡ true
   pub among : list_all (λ a. is_in a possible) bound ≡ true
   pub few : length bound ≤ length possible
-  pub at_most : length possible ≤ 64
+  pub at_most : length possible ≤ 512
   pub fits : length possible ≤ room
   pub fits_known : length possible ≤ room_known

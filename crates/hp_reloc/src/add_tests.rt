@@ -3,15 +3,15 @@
 ghost use Rattle.std.specs.Prelude.{IsTrue};
 ghost use Rattle.hp_model.specs.Fitting.{FitsAccess};
 
-use crate::Reloc;
+use crate::{Reloc, Slots};
 use hp_model::{Access, Answer, Delivery, Ids, NoMemory, Outcome, Platform, Refusal, Step, fits};
 use std::alloc::Global;
 use std::process::Abort;
 use std::test::Fail;
 
-fn platform(alloc: Global, polls: u32) -> Result<Platform, NoMemory> {
+fn platform(alloc: Global, polls: u32, apic: u32, x2apic: bool) -> Result<Platform, NoMemory> {
     Ok(Platform {
-        apic: Ids(vec![in alloc; 0, 4, 8]?),
+        apic: Ids(vec![in alloc; 0, apic, 8]?),
         boot: Ids(vec![in alloc; 0]?),
         low_memory: 0x8000000,
         tseg_mib: 1,
@@ -21,14 +21,30 @@ fn platform(alloc: Global, polls: u32) -> Result<Platform, NoMemory> {
         modern: true,
         default_smram: true,
         delivery: Delivery::Prompt,
+        x2apic,
+        ext_tseg: true,
     })
 }
 
 /// The add of processor 1, whose APIC ID is 4, to the tile of slot 1.
 fn start(rt: &impl Abort, alloc: Global, polls: u32) -> Result<Reloc, NoMemory> {
-    let p = platform(alloc, polls)?;
+    start_of(rt, alloc, polls, 4, false)
+}
+
+/// The same with this APIC ID.
+#[tactic(auto, using(crate::proofs::Bound::possible_small))]
+fn start_of(
+    rt: &impl Abort,
+    alloc: Global,
+    polls: u32,
+    apic: u32,
+    x2apic: bool,
+) -> Result<Reloc, NoMemory> {
+    let p = platform(alloc, polls, apic, x2apic)?;
     assert!(rt; fits(&p).is_ok());
-    Ok(Reloc::new(&p, 1, 4, 1))
+    let slots = Slots::new(alloc, &p)?;
+    assert!(rt; slots.is_possible(apic));
+    Ok(Reloc::new(&p, 1, apic, 1))
 }
 
 /// Whether the access has such an answer.
@@ -264,7 +280,32 @@ fn what_is_neither_0_nor_1_is_no_1(rt: HostRuntime) -> Result<(), Fail> {
     Ok(())
 }
 
+// under x2APIC the high half of an interrupt command is the APIC ID
 #[test]
+fn a_wide_apic_id_is_sent_to_whole(rt: HostRuntime) -> Result<(), Fail> {
+    let mut add = start_of(&rt, rt.alloc(), 1, 70000, true)?;
+    go(&rt, &mut add, &[begin()]);
+    go(
+        &rt,
+        &mut add,
+        &[
+            clear(),
+            store(0x3000c, 1, 0),
+            store(0x30008, 4, 0x7f30000),
+            icr(70000, 0x200),
+            icr(70000, 0x500),
+            icr(70000, 0x69f),
+            icr(70000, 0x69f),
+            store(0x30000, 8, 70000),
+        ],
+    );
+    let step = play(&rt, &mut add, &[flag(1), close(), clear(), arrived(1)]);
+    assert!(rt; matches!(step, Step::Added));
+    Ok(())
+}
+
+#[test]
+#[tactic(auto, using(crate::proofs::Fitting::few_bits))]
 fn another_add_begins_at_any_time(rt: HostRuntime) -> Result<(), Fail> {
     let mut add = start(&rt, rt.alloc(), 1)?;
     go(&rt, &mut add, &[begin()]);

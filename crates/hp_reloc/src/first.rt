@@ -1,15 +1,18 @@
 //! The first handler, at the default SMBASE (own rule): a processor passes the gate, takes the SMBASE that lies there, and sends
 //! itself an SMI, which leads it to its own handler once it leaves.
 
-ghost use Rattle.std.specs.Prelude.{◌≡◌, ℕ, ◌≤◌, ◌*◌, Some};
+ghost use Rattle.std.specs.Prelude.{◌≡◌, ℕ, ◌≤◌, true, Some};
+ghost use Rattle.hp_model.specs.Block.{is_in};
 ghost use Rattle.hp_model.specs.Boot.{value_in};
 ghost use Rattle.hp_model.specs.Handlers.{next_at, want_at};
 ghost use Rattle.hp_model.specs.Labels.{First, part_of};
 ghost use Rattle.hp_model.specs.Monarch.{Monarch};
+ghost use Rattle.hp_model.specs.Platform.{IsFit, high_half};
 ghost use Rattle.hp_model.specs.SharedBytes.{Layout};
 ghost use Rattle.hp_reloc.specs.Fits.{FitsFirst};
+ghost use Rattle.hp_reloc.specs.Relocating.{greatest};
 
-use hp_model::{Access, Answer, Label, Want};
+use hp_model::{Access, Answer, Label, Platform, Want};
 
 /// The APIC ID that may pass, or `CLOSED`: 8 bytes.
 pub const GATE: u32 = 0x30000;
@@ -24,19 +27,32 @@ const SMBASE_FIELD: u32 = 0x3ff00;
 /// The low half of an interrupt command that is an SMI to one APIC ID.
 pub const SMI: u32 = 0x200;
 
-/// The high half of an interrupt command to this APIC ID, which is in bits 31 to 24.
-pub fn destination(apic: u32) -> u32
-    requires { apic ≤ 254 }
-    ensures { result ≡ apic * 0x1000000 }
+/// The high half of an interrupt command to this APIC ID: bits 31 to 24, or under x2APIC all of it.
+pub fn destination(x2apic: bool, apic: u32) -> u32
+    requires { apic ≤ greatest x2apic }
+    ensures { result ≡ high_half x2apic apic }
 {
-    apic * 0x1000000
+    if x2apic { apic } else { apic * 0x1000000 }
 }
 
 /// What the processor of this APIC ID wants at a label of the first handler. `base` is the SMBASE that it has loaded.
-pub fn first_want(label: Label, apic: u32, base: u32) -> Want
+#[tactic(auto, using(crate::proofs::Bound::possible_small))]
+pub fn first_want(p: &Platform, label: Label, apic: u32, base: u32) -> Want
+    requires fit { IsFit p.now }
     requires first { part_of label ≡ First }
-    requires apic { apic ≤ 254 }
-    ensures { (y : Layout) (slot : ℕ) (r : Monarch) → want_at y (record { apic = apic; slot = slot; base = base }) r label ≡ Some result }
+    requires possible { is_in apic p.now.apic ≡ true }
+    ensures { (y : Layout) (slot : ℕ) (r : Monarch) → y.x2apic ≡ p.now.x2apic →
+        want_at y (record { apic = apic; slot = slot; base = base }) r label ≡ Some result }
+{
+    first_want_by(p.x2apic, label, apic, base)
+}
+
+/// The same, by whether APIC IDs have 32 bits.
+pub fn first_want_by(x2apic: bool, label: Label, apic: u32, base: u32) -> Want
+    requires first { part_of label ≡ First }
+    requires apic { apic ≤ greatest x2apic }
+    ensures { (y : Layout) (slot : ℕ) (r : Monarch) → y.x2apic ≡ x2apic →
+        want_at y (record { apic = apic; slot = slot; base = base }) r label ≡ Some result }
 {
     let access = match label {
         Label::F1 => Access::Swap {
@@ -59,7 +75,7 @@ pub fn first_want(label: Label, apic: u32, base: u32) -> Want
             value: 1,
         },
         Label::F5 => Access::Icr {
-            high: destination(apic),
+            high: destination(x2apic, apic),
             low: SMI,
         },
         Label::F6 => return Want::Resume,

@@ -11,9 +11,9 @@ ghost use Rattle.hp_model.specs.Add.{AddsAt, add_of, begun, failed, looks, saw_a
 ghost use Rattle.hp_model.specs.Boot.{value_in};
 ghost use Rattle.hp_model.specs.Handlers.{Seat, next_at, want_at};
 ghost use Rattle.hp_model.specs.Monarch.{Monarch, led};
-ghost use Rattle.hp_model.specs.Platform.{IsFit, tseg as first_of_tseg};
+ghost use Rattle.hp_model.specs.Platform.{IsFit, high_half, tseg as first_of_tseg};
 ghost use Rattle.hp_model.specs.SharedBytes.{Layout, gate};
-ghost use Rattle.hp_reloc.specs.Relocating.{Fits, IsGoing, IsOfAdd, add_in, goes_on, label_of, outcome_of, step_of};
+ghost use Rattle.hp_reloc.specs.Relocating.{Fits, IsGoing, IsOfAdd, add_in, goes_on, greatest, label_of, outcome_of, step_of};
 
 use crate::first::{CLOSED, FLAG, GATE, NEW_SMBASE, SMI, destination, value_of};
 use crate::rows::Row;
@@ -41,6 +41,8 @@ pub struct Reloc {
     tseg: u32,
     /// How often a byte is looked at, at most.
     polls: u32,
+    /// Whether APIC IDs have 32 bits.
+    x2apic: bool,
     /// The place of the processor.
     cpu: u32,
     /// Its APIC ID.
@@ -66,9 +68,9 @@ impl Model for Reloc {
 
     ghost view = { λ r.
         let a : Add = record { cpu = r.cpu; apic = r.apic; slot = r.slot; attempt = r.attempt; polls = r.left; seen = r.seen } in
-        record { tseg = r.tseg; polls = r.polls; add = a; led = led_at r.standing a } };
+        record { tseg = r.tseg; polls = r.polls; x2apic = r.x2apic; add = a; led = led_at r.standing a } };
 
-    ghost invariant = { λ r. IsSmall r.tseg r.apic r.slot r.attempt r.standing };
+    ghost invariant = { λ r. IsSmall r.tseg r.x2apic r.apic r.slot r.attempt r.standing };
 }
 
 /// Stores one byte.
@@ -101,20 +103,22 @@ fn store_gate(value: u64) -> Access
 }
 
 impl Reloc {
-    /// The add of the processor in place `cpu`, whose APIC ID is `apic`, at most 254, to the tile of `slot`, below 64. It begins at
-    /// NB. Takes no memory.
+    /// The add of the processor in place `cpu`, whose APIC ID is `apic`, to the tile of `slot`, below 512. It begins at NB. Takes no memory.
+    #[tactic(auto, using(crate::proofs::Bound::tseg_below))]
     pub fn new(p: &Platform, cpu: u32, apic: u32, slot: u32) -> Reloc
         requires fit { IsFit p.now }
-        requires apic { apic ≤ 254 }
-        requires slot { slot < 64 }
+        requires apic { apic ≤ greatest p.now.x2apic }
+        requires slot { slot < 512 }
         ensures tseg { result.tseg ≡ first_of_tseg p.now }
         ensures polls { result.polls ≡ p.now.polls }
+        ensures x2apic { result.x2apic ≡ p.now.x2apic }
         ensures add { result.add ≡ add_of cpu apic slot }
         ensures led { result.led ≡ AddsAt NB (add_of cpu apic slot) }
     {
         Reloc {
             tseg: tseg(p),
             polls: p.polls,
+            x2apic: p.x2apic,
             cpu,
             apic,
             slot,
@@ -127,8 +131,8 @@ impl Reloc {
 
     /// Another add begins, as after `new`.
     pub fn restart(&mut self, cpu: u32, apic: u32, slot: u32)
-        requires apic { apic ≤ 254 }
-        requires slot { slot < 64 }
+        requires apic { apic ≤ greatest self.old.x2apic }
+        requires slot { slot < 512 }
         ensures { self.new ≡ record self.old { add = add_of cpu apic slot; led = AddsAt NB (add_of cpu apic slot) } }
     {
         self.cpu = cpu;
@@ -174,7 +178,7 @@ impl Reloc {
     /// The slot of its APIC ID.
     pub fn slot(&self) -> u32
         ensures value { result ≡ self.now.add.slot }
-        ensures below { result < 64 }
+        ensures below { result < 512 }
     {
         self.slot
     }
@@ -202,10 +206,10 @@ impl Reloc {
 
     /// An interrupt command to its APIC ID.
     fn send(&self, low: u32) -> Access
-        ensures { result ≡ accesses.Icr (self.now.add.apic * 0x1000000) low }
+        ensures { result ≡ accesses.Icr (high_half self.now.x2apic self.now.add.apic) low }
     {
         Access::Icr {
-            high: destination(self.apic),
+            high: destination(self.x2apic, self.apic),
             low,
         }
     }
@@ -213,7 +217,7 @@ impl Reloc {
     /// What it wants where it stands, while it goes on.
     pub fn want(&self) -> Access
         requires { IsGoing self.now.led }
-        ensures { (y : Layout) (x : Seat) (r : Monarch) (l : Label) → y.tseg ≡ self.now.tseg →
+        ensures { (y : Layout) (x : Seat) (r : Monarch) (l : Label) → y.tseg ≡ self.now.tseg → y.x2apic ≡ self.now.x2apic →
             self.now.led ≡ AddsAt l r.add → want_at y x r l ≡ Some (wants.Do result) }
     {
         match self.row() {
@@ -346,7 +350,7 @@ impl Reloc {
     /// The answer to what it wants, while it goes on, and where it leads: `Added` or `Refused` ends the add, and `Ejected` never
     /// comes. A byte that is neither 0 nor 1 counts as 0.
     pub fn feed(&mut self, answer: Answer) -> Step
-        requires { Fits self.old.tseg self.old.led answer }
+        requires { Fits self.old.tseg self.old.x2apic self.old.led answer }
         ensures led { (y : Layout) (x : Seat) (r : Monarch) (l : Label) → y.polls ≡ self.old.polls →
             self.old.led ≡ AddsAt l r.add → (next_at y x r l (value_in answer)).monarch
             ≡ record (led self.new.led r) { last = (next_at y x r l (value_in answer)).monarch.last } }
@@ -354,7 +358,7 @@ impl Reloc {
         ensures slot { self.new.add.slot ≡ self.old.add.slot }
         ensures step { result ≡ step_of self.new.led }
         ensures of_add { result ≢ steps.Ejected }
-        ensures stays { (self.new.tseg ≡ self.old.tseg) × (self.new.polls ≡ self.old.polls) }
+        ensures stays { (self.new.tseg ≡ self.old.tseg) × ((self.new.polls ≡ self.old.polls) × (self.new.x2apic ≡ self.old.x2apic)) }
     {
         let value = value_of(answer);
         match self.row() {

@@ -1,9 +1,9 @@
 //! Which APIC ID has which slot (own rule).
 
-ghost use Rattle.std.specs.Prelude.{◌≡◌, ◌≢◌, ◌<◌, ◌≤◌, ◌+◌, ◌∷◌, ◌++◌, [], true, false, Some, None, IfOk, IfSome, length, drop, map, nat_lt, slice_get, slice_index_or, slice_set, vec_len, vec_capacity, if◌then◌else◌};
+ghost use Rattle.std.specs.Prelude.{◌≡◌, ◌<◌, ◌≤◌, ◌+◌, ◌∷◌, ◌++◌, [], true, false, Some, None, IfOk, IfSome, length, drop, map, nat_lt, slice_get, slice_index_or, slice_set, vec_len, vec_capacity, if◌then◌else◌};
 ghost use Rattle.std.specs.List.{list_all};
 ghost use Rattle.hp_model.specs.Block.{is_in};
-ghost use Rattle.hp_model.specs.Platform.{IsFit};
+ghost use Rattle.hp_model.specs.Platform.{IsFit, no_id};
 ghost use Rattle.hp_model.specs.Slots.{bind as bind_slot, boot_ids, completed, first_true, forgotten, is_known, known_from as known_slot_from, place_of, slot_in, slots_start, with_slot};
 ghost use Rattle.hp_reloc.specs.Roster.{IsFree};
 
@@ -40,7 +40,7 @@ impl Model for Slots {
 /// The place of an APIC ID among these.
 #[tactic(auto, using(crate::proofs::Places::place_facts))]
 fn place_among(ids: &[u32], apic: u32) -> Option<u32>
-    requires { length ids.now ≤ 64 }
+    requires { length ids.now ≤ 512 }
     ensures { result ≡ (if is_in apic ids.now then Some (place_of ids.now apic) else None) }
 {
     for (place, id) in ids.iter().enumerate() {
@@ -54,7 +54,7 @@ fn place_among(ids: &[u32], apic: u32) -> Option<u32>
 /// The first place from `from` on where it is true.
 #[tactic(auto, using(crate::proofs::Places::true_facts))]
 fn first_known(known: &[bool], from: u32) -> Option<u32>
-    requires { length known.now ≤ 64 }
+    requires { length known.now ≤ 512 }
     ensures value { result ≡ first_true from (drop from known.now) }
     ensures place { IfSome result (λ slot. slot < length known.now) }
 {
@@ -70,7 +70,7 @@ fn first_known(known: &[bool], from: u32) -> Option<u32>
 #[tactic(auto, using(crate::proofs::Bound::place_below))]
 fn ids_at(alloc: Global, apic: &[u32], places: &[u32]) -> Result<Vec<u32>, NoMemory>
     requires { list_all (λ k. nat_lt k (length apic.now)) places.now ≡ true }
-    ensures { IfOk result (λ ids. ids.items ≡ map (λ k. slice_index_or apic.now k 255) places.now) }
+    ensures { IfOk result (λ ids. ids.items ≡ map (λ k. slice_index_or apic.now k no_id) places.now) }
 {
     let mut ids = Vec::new(alloc);
     for place in places {
@@ -144,7 +144,7 @@ impl Slots {
     pub fn count(&self) -> u32
         ensures value { result ≡ length self.now.slots.bound }
         ensures known { result ≡ length self.now.slots.known }
-        ensures few { result ≤ 64 }
+        ensures few { result ≤ 512 }
     {
         self.bound.len() as u32
     }
@@ -187,11 +187,9 @@ impl Slots {
         }
     }
 
-    /// An ejected APIC ID is forgotten. Its slot stays bound.
+    /// An ejected APIC ID is forgotten, if it has a slot. Its slot stays bound.
     #[tactic(auto, using(crate::proofs::Places::set_facts))]
     pub fn forget(&mut self, apic: u32)
-        requires known { is_known self.old.slots apic ≡ true }
-        requires place { slot_in self.old.slots apic ≢ Some 0 }
         ensures { self.new ≡ record self.old { slots = forgotten apic self.old.slots } }
     {
         if let Some(slot) = place_among(self.bound.as_slice(), apic) {

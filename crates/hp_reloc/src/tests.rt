@@ -18,6 +18,8 @@ fn platform(alloc: Global) -> Result<Platform, NoMemory> {
         modern: true,
         default_smram: true,
         delivery: Delivery::Prompt,
+        x2apic: false,
+        ext_tseg: true,
     })
 }
 
@@ -32,16 +34,6 @@ fn bind(rt: &impl Abort, slots: &mut Slots, apic: u32) -> u32 {
     assert!(rt; !slots.known(apic));
     assert!(rt; slots.is_possible(apic));
     slots.bind(apic)
-}
-
-fn forget(rt: &impl Abort, slots: &mut Slots, apic: u32) {
-    assert!(rt; slots.known(apic));
-    let is_first = match slots.bound(apic) {
-        Some(slot) => slot == 0,
-        None => false,
-    };
-    assert!(rt; !is_first);
-    slots.forget(apic);
 }
 
 #[test]
@@ -75,7 +67,7 @@ fn an_added_apic_id_keeps_its_slot_through_an_eject(rt: HostRuntime) -> Result<(
     slots.complete(9);
     assert_eq!(rt; slots.held(), None);
     assert!(rt; slots.known(9));
-    forget(&rt, &mut slots, 8);
+    slots.forget(8);
     assert_eq!(rt; slots.bound(8), Some(1));
     assert!(rt; !slots.known(8));
     // all possible APIC IDs have a slot, and 8 gets its own again
@@ -99,12 +91,23 @@ fn an_add_is_complete_though_its_apic_id_has_no_slot(rt: HostRuntime) -> Result<
     Ok(())
 }
 
+// nothing changes where one is forgotten that has no slot
+#[test]
+fn an_apic_id_without_a_slot_is_forgotten(rt: HostRuntime) -> Result<(), Fail> {
+    let mut slots = start(&rt, rt.alloc())?;
+    slots.forget(9);
+    assert!(rt; slots.known(0));
+    assert!(rt; slots.known(8));
+    assert_eq!(rt; slots.count(), 2);
+    Ok(())
+}
+
 #[test]
 fn the_next_known_slot_passes_those_that_are_not(rt: HostRuntime) -> Result<(), Fail> {
     let mut slots = start(&rt, rt.alloc())?;
     let _ = bind(&rt, &mut slots, 4);
     slots.complete(4);
-    forget(&rt, &mut slots, 8);
+    slots.forget(8);
     for (from, next) in [
         (0, Some(0)),
         (1, Some(2)),
@@ -125,38 +128,91 @@ fn access_of(want: Want) -> Option<Access> {
     }
 }
 
-#[test]
-fn the_first_handler_wants_these(rt: HostRuntime) {
-    let gate = Access::Swap {
-        addr: 0x30000,
-        expected: 5,
-        desired: 0xffff_ffff_ffff_ffff,
-    };
-    let load = Access::Load {
-        addr: 0x30008,
-        width: 4,
-    };
-    let save = Access::Store {
-        addr: 0x3ff00,
-        width: 4,
-        value: 0x7f48000,
-    };
-    let flag = Access::Store {
-        addr: 0x3000c,
-        width: 1,
-        value: 1,
-    };
-    let smi = Access::Icr {
-        high: 0x0500_0000,
-        low: 0x200,
-    };
+/// A platform with this APIC ID.
+fn platform_with(alloc: Global, apic: u32, x2apic: bool) -> Result<Platform, NoMemory> {
+    let mut p = platform(alloc)?;
+    p.apic = Ids(vec![in alloc; 0, 1, 2, apic]?);
+    p.x2apic = x2apic;
+    Ok(p)
+}
+
+/// The access that the processor of this APIC ID is to want at each label of the first handler but the last.
+fn wants(
+    rt: &impl Abort,
+    alloc: Global,
+    apic: u32,
+    x2apic: bool,
+    accesses: [Access; 5],
+) -> Result<(), NoMemory> {
+    let p = platform_with(alloc, apic, x2apic)?;
+    assert!(rt; fits(&p).is_ok());
+    let slots = Slots::new(alloc, &p)?;
+    assert!(rt; slots.is_possible(apic));
     let base = 0x7f48000;
-    assert_eq!(rt; access_of(first_want(Label::F1, 5, base)), Some(gate));
-    assert_eq!(rt; access_of(first_want(Label::F2, 5, base)), Some(load));
-    assert_eq!(rt; access_of(first_want(Label::F3, 5, base)), Some(save));
-    assert_eq!(rt; access_of(first_want(Label::F4, 5, base)), Some(flag));
-    assert_eq!(rt; access_of(first_want(Label::F5, 5, base)), Some(smi));
-    assert_eq!(rt; access_of(first_want(Label::F6, 5, base)), None);
+    let [swap, load, save, flag, smi] = accesses;
+    assert_eq!(rt;
+        access_of(first_want(&p, Label::F1, apic, base)),
+        Some(swap)
+    );
+    assert_eq!(rt;
+        access_of(first_want(&p, Label::F2, apic, base)),
+        Some(load)
+    );
+    assert_eq!(rt;
+        access_of(first_want(&p, Label::F3, apic, base)),
+        Some(save)
+    );
+    assert_eq!(rt;
+        access_of(first_want(&p, Label::F4, apic, base)),
+        Some(flag)
+    );
+    assert_eq!(rt; access_of(first_want(&p, Label::F5, apic, base)), Some(smi));
+    assert_eq!(rt; access_of(first_want(&p, Label::F6, apic, base)), None);
+    Ok(())
+}
+
+/// The first handler's accesses; the SMI has this high half.
+fn first_accesses(apic: u32, high: u32) -> [Access; 5] {
+    [
+        Access::Swap {
+            addr: 0x30000,
+            expected: u64::from(apic),
+            desired: 0xffff_ffff_ffff_ffff,
+        },
+        Access::Load {
+            addr: 0x30008,
+            width: 4,
+        },
+        Access::Store {
+            addr: 0x3ff00,
+            width: 4,
+            value: 0x7f48000,
+        },
+        Access::Store {
+            addr: 0x3000c,
+            width: 1,
+            value: 1,
+        },
+        Access::Icr { high, low: 0x200 },
+    ]
+}
+
+#[test]
+fn the_first_handler_wants_these(rt: HostRuntime) -> Result<(), Fail> {
+    let alloc = rt.alloc();
+    wants(&rt, alloc, 5, false, first_accesses(5, 0x0500_0000))?;
+    wants(&rt, alloc, 254, false, first_accesses(254, 0xfe00_0000))?;
+    // under x2APIC the high half is the APIC ID
+    wants(&rt, alloc, 5, true, first_accesses(5, 5))?;
+    wants(&rt, alloc, 70000, true, first_accesses(70000, 70000))?;
+    wants(
+        &rt,
+        alloc,
+        0xffff_fffe,
+        true,
+        first_accesses(0xffff_fffe, 0xffff_fffe),
+    )?;
+    Ok(())
 }
 
 /// The place of a label among the first handler's, and the base.
