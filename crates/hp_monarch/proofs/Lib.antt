@@ -1,4 +1,5 @@
 pub mod Adds
+pub mod Deciding
 pub mod Fits
 pub mod Looks
 pub mod Order

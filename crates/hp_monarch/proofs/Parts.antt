@@ -1,13 +1,14 @@
--- How the monarch goes on by its parts: the collection, and an add.
-use Rattle.std.proofs.Common.{◌≡◌, ◌≢◌, ℕ, List, Option, Some, None, refl, sym, ap, subst, ◌∙◌}
+-- How the monarch goes on by its parts: the collection, an add, and an eject.
+use Rattle.std.proofs.Common.{◌≡◌, ◌≢◌, ℕ, List, Some, refl, sym, ap, ◌∙◌}
 use Rattle.std.proofs.lemmas.Option.{same_Some}
 use Rattle.hp_model.specs.declared.labels.Label.{Label}
 use Rattle.hp_model.specs.declared.labels.Label.TheVariants.{T, E5, E7}
 use Rattle.hp_model.specs.declared.outcomes.Outcome.{Outcome}
 use Rattle.hp_model.specs.Add.{Add, Led, AddsAt, Ends}
-use Rattle.hp_model.specs.Collection.{Collection, Collected, CollectsAt, CollectedAll}
+use Rattle.hp_model.specs.Collection.{Collected, CollectsAt, CollectedAll}
+use Rattle.hp_model.specs.Eject.{Eject, EjectLed, EjectsAt, EjectEnds}
 use Rattle.hp_model.specs.Handlers.{Next, Seat, goes, next_at}
-use Rattle.hp_model.specs.Monarch.{Monarch, at_label, collected, led, next_report}
+use Rattle.hp_model.specs.Monarch.{Monarch, collected, eject_led, led, next_report}
 use Rattle.hp_model.specs.SharedBytes.{Layout}
 use Rattle.hp_collect.specs.declared.collects.Stage.TheVariants.{Ended}
 use Rattle.hp_collect.specs.Collecting.{IsOfCollection, collection_in, stage_of, IsGoing as IsCollecting}
@@ -15,7 +16,10 @@ use Rattle.hp_collect.specs.Standing.{label_of as collection_label}
 use Rattle.hp_collect.specs.declared.rows.Row.{Row as CollectionRow}
 use Rattle.hp_collect.specs.declared.rows.Row.TheVariants as collection
 use Rattle.hp_reloc.specs.Relocating.{add_in, outcome_of}
-use Rattle.hp_monarch.specs.Session.{collecting_at}
+use Rattle.hp_eject.specs.Ejecting.{IsOfEject, eject_in, outcome_of as eject_outcome, label_of as eject_label, IsGoing as IsEjecting}
+use Rattle.hp_eject.specs.declared.rows.Row.{Row as EjectRow}
+use Rattle.hp_eject.specs.declared.rows.Row.TheVariants as eject
+use Rattle.hp_monarch.specs.Session.{collecting_at, ejecting_at}
 use Rattle.hp_monarch.proofs.Reports.{report_from}
 
 -- a collection that goes on stands at its label, with what it has collected
@@ -66,3 +70,37 @@ same_add l d a e = ap (λ (f : Led). add_in f a) e
 
 pub ended_add : (d : Led) (o : Outcome) (a b : Add) → Some o ≡ outcome_of d → b ≡ add_in d a → add_in d b ≡ a
 ended_add d o a b is e = ap (λ (f : Led). add_in f b) (ends_at d o is) ∙ e ∙ ap (λ (f : Led). add_in f a) (ends_at d o is)
+
+-- an eject that goes on stands at its label, with its record
+pub eject_at : (d : EjectLed) (j : Eject) → IsEjecting d → d ≡ EjectsAt (ejecting_at d) (eject_in d j)
+eject_at (EjectsAt l k) j going = refl
+eject_at (EjectEnds o) j going = absurd going
+
+-- one that has ended tells its outcome
+eject_ends_at : (d : EjectLed) (o : Outcome) → Some o ≡ eject_outcome d → d ≡ EjectEnds o
+eject_ends_at (EjectsAt l j) o e = absurd cc
+eject_ends_at (EjectEnds p) o e = ap EjectEnds (sym (same_Some o p e))
+
+pub eject_ends : (y : Layout) (x : Seat) (r : Monarch) (v : ℕ) (l : Label) (d : EjectLed) (o : Outcome) (j : Eject) → next_at y x r l v ≡ goes x (eject_led d r) → Some o ≡ eject_outcome d → j ≡ r.eject
+    → record r { label = T; eject = j; outcome = o } ≡ (next_at y x r l v).monarch
+eject_ends y x r v l d o j e is same =
+    ap (λ (k : Eject). record r { label = T; eject = k; outcome = o }) same
+    ∙ ap (λ (f : EjectLed). eject_led f r) (sym (eject_ends_at d o is))
+    ∙ ap (λ (n : Next). n.monarch) (sym e)
+
+pub ended_eject : (d : EjectLed) (o : Outcome) (j k : Eject) → Some o ≡ eject_outcome d → k ≡ eject_in d j → eject_in d k ≡ j
+ended_eject d o j k is e = ap (λ (f : EjectLed). eject_in f k) (eject_ends_at d o is) ∙ e ∙ ap (λ (f : EjectLed). eject_in f j) (eject_ends_at d o is)
+
+-- one that goes on does so in the monarch's record
+pub eject_goes : (y : Layout) (x : Seat) (r : Monarch) (v : ℕ) (l : Label) (d : EjectLed) (j : Eject) → next_at y x r l v ≡ goes x (eject_led d r) → IsEjecting d → eject_in d j ≡ eject_in d r.eject
+    → record r { label = ejecting_at d; eject = eject_in d j } ≡ (next_at y x r l v).monarch
+eject_goes y x r v l (EjectsAt k i) j e going same = ap (λ (n : Next). n.monarch) (sym e)
+eject_goes y x r v l (EjectEnds o) j e going same = absurd going
+
+-- none of its labels is the monarch's last
+eject_not_left : (w : EjectRow) → eject_label w ≢ E7
+eject_not_left eject.E0 e = cc
+eject_not_left _ e = cc
+
+pub ejects_on : (l : Label) → IsOfEject l → l ≢ E7
+ejects_on l of e = eject_not_left of.row (sym of.is ∙ e)

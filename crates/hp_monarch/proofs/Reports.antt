@@ -1,40 +1,39 @@
--- How reports are taken up: one after the other, until one is answered.
-use Rattle.std.proofs.Common.{◌≡◌, ℕ, suc, zero, Bool, true, false, cond, List, [], ◌∷◌, ◌+◌, ◌<◌, Option, Some, None, length, drop, map, refl, sym, ap, ◌∙◌, arith}
+-- How reports are taken up, each with an answer.
+use Rattle.std.proofs.Common.{◌≡◌, ℕ, suc, zero, Bool, true, false, cond, List, [], ◌∷◌, Some, None, length, drop, map, refl, sym, ap, arith}
 use Rattle.std.specs.Prelude.{slice_get, slice_index_or, nat_lt}
 use Rattle.std.proofs.lemmas.Bool.Decides.{nat_tests}
 use Rattle.hp_model.specs.declared.labels.Label.{Label}
-use Rattle.hp_model.specs.declared.labels.Label.TheVariants.{NB, T, E5}
+use Rattle.hp_model.specs.declared.labels.Label.TheVariants.{NB, E0, T, E5}
 use Rattle.hp_model.specs.Collection.{Report}
 use Rattle.hp_monarch.specs.Session.{Session}
-use Rattle.hp_model.specs.Monarch.{Monarch, Class, Tells, Adds, PassesOver, class, answered, taken_up, took, next_report, at_label}
+use Rattle.hp_model.specs.Monarch.{Monarch, Class, Tells, Adds, Ejects, class, facts_of, answered, taken_up, took, next_report, at_label}
 
 pub pick : {X : Type 0} (P : X → Type 0) (b : Bool) (y n : X) → P y → P n → P (cond b y n)
 pick P true y n h g = h
 pick P false y n h g = g
 
--- whatever holds of NB, T and E5 holds of the label that a report leads to
-answer_leads : (P : Label → Type 0) (c : Class) (t : Report) (rest r : Monarch) → P NB → P T → P rest.label → P (answered c t rest r).label
-answer_leads P (Tells o) t rest r adds tells h = tells
-answer_leads P Adds t rest r adds tells h = adds
-answer_leads P PassesOver t rest r adds tells h = h
+-- whatever holds of NB, E0, T and E5 holds of the label that a report leads to
+answer_leads : (P : Label → Type 0) (c : Class) (t : Report) (r : Monarch) → P NB → P E0 → P T → P (answered c t r).label
+answer_leads P (Tells o) t r adds ejects tells = tells
+answer_leads P Adds t r adds ejects tells = adds
+answer_leads P Ejects t r adds ejects tells = ejects
 
-up_leads : (P : Label → Type 0) (ids : List ℕ) (ts : List Report) (r : Monarch) → P NB → P T → P E5 → P (taken_up ids ts r).label
-up_leads P ids [] r adds tells ends = ends
-up_leads P ids (t ∷ ts) r adds tells ends =
-    answer_leads P (class ids r.slots t) t (taken_up ids ts (took r)) (took r) adds tells (up_leads P ids ts (took r) adds tells ends)
+up_leads : (P : Label → Type 0) (ids : List ℕ) (ts : List Report) (r : Monarch) → P NB → P E0 → P T → P E5 → P (taken_up ids ts r).label
+up_leads P ids [] r adds ejects tells ends = ends
+up_leads P ids (t ∷ ts) r adds ejects tells ends = answer_leads P (class (facts_of ids r t) t) t (took r) adds ejects tells
 
-pub report_leads : (P : Label → Type 0) (ids : List ℕ) (r : Monarch) → P NB → P T → P E5 → P (next_report ids r).label
-report_leads P ids r adds tells ends = up_leads P ids (drop r.taken r.collection.reports) r adds tells ends
+pub report_leads : (P : Label → Type 0) (ids : List ℕ) (r : Monarch) → P NB → P E0 → P T → P E5 → P (next_report ids r).label
+report_leads P ids r adds ejects tells ends = up_leads P ids (drop r.taken r.collection.reports) r adds ejects tells ends
 
 -- it doesn't matter where the monarch stood
-answer_from : (l : Label) (c : Class) (t : Report) (rest other r : Monarch) → rest ≡ other → answered c t rest (at_label l r) ≡ answered c t other r
-answer_from l (Tells o) t rest other r e = refl
-answer_from l Adds t rest other r e = refl
-answer_from l PassesOver t rest other r e = e
+answer_from : (l : Label) (c : Class) (t : Report) (r : Monarch) → answered c t (at_label l r) ≡ answered c t r
+answer_from l (Tells o) t r = refl
+answer_from l Adds t r = refl
+answer_from l Ejects t r = refl
 
 up_from : (l : Label) (ids : List ℕ) (ts : List Report) (r : Monarch) → taken_up ids ts (at_label l r) ≡ taken_up ids ts r
 up_from l ids [] r = refl
-up_from l ids (t ∷ ts) r = answer_from l (class ids r.slots t) t (taken_up ids ts (took (at_label l r))) (taken_up ids ts (took r)) (took r) (up_from l ids ts (took r))
+up_from l ids (t ∷ ts) r = answer_from l (class (facts_of ids r t) t) t (took r)
 
 pub report_from : (l : Label) (ids : List ℕ) (r : Monarch) → next_report ids (at_label l r) ≡ next_report ids r
 report_from l ids r = up_from l ids (drop r.taken r.collection.reports) r
@@ -55,13 +54,8 @@ drop_none (u ∷ ts) (suc n) e = drop_none ts n e
 pub none_left : (ids : List ℕ) (r : Monarch) → slice_get r.collection.reports r.taken ≡ None → next_report ids r ≡ at_label E5 r
 none_left ids r e = ap (λ ts. taken_up ids ts r) (drop_none r.collection.reports r.taken e)
 
-pub one_left : (ids : List ℕ) (r : Monarch) (t : Report) → slice_get r.collection.reports r.taken ≡ Some t → next_report ids r ≡ answered (class ids r.slots t) t (next_report ids (took r)) (took r)
-one_left ids r t e =
-    ap (λ ts. taken_up ids ts r) (drop_some r.collection.reports r.taken t e)
-    ∙ ap (λ n. answered (class ids r.slots t) t (taken_up ids (drop n r.collection.reports) (took r)) (took r)) (next r.taken)
-  where
-    next : (n : ℕ) → suc n ≡ n + 1
-    next n = omega arith
+pub one_left : (ids : List ℕ) (r : Monarch) (t : Report) → slice_get r.collection.reports r.taken ≡ Some t → next_report ids r ≡ answered (class (facts_of ids r t) t) t (took r)
+one_left ids r t e = ap (λ ts. taken_up ids ts r) (drop_some r.collection.reports r.taken t e)
 
 -- and what the slice of reports shows is what the rules see
 below_next : (n m : ℕ) → true ≡ nat_lt (suc n) (suc m) → true ≡ nat_lt n m
@@ -75,10 +69,9 @@ shown f [] n t d low is = absurd (none_below n low)
 shown f (u ∷ ts) zero t d low is = ap (λ x. Some (f x)) (sym is)
 shown f (u ∷ ts) (suc n) t d low is = shown f ts n t d (below_next n (length ts) low) is
 
--- one that is taken up, and what its class makes of it
-pub taking : (s : Session) (t : Report) (k : Class) → slice_get s.monarch.collection.reports s.monarch.taken ≡ Some t → k ≡ class s.layout.apics s.monarch.slots t → record s { monarch = answered k t (next_report s.layout.apics (took s.monarch)) (took s.monarch) } ≡ record s { monarch = next_report s.layout.apics s.monarch }
-taking s t k is e =
-    ap (λ (c : Class). record s { monarch = answered c t (next_report s.layout.apics (took s.monarch)) (took s.monarch) }) e
-    ∙ ap (λ (r : Monarch). record s { monarch = r }) (sym (one_left s.layout.apics s.monarch t is))
+-- one that is taken up is answered
+pub taking : (s : Session) (t : Report) → slice_get s.monarch.collection.reports s.monarch.taken ≡ Some t →
+    record s { monarch = answered (class (facts_of s.layout.apics (took s.monarch) t) t) t (took s.monarch) } ≡ record s { monarch = next_report s.layout.apics s.monarch }
+taking s t is = ap (λ (r : Monarch). record s { monarch = r }) (sym (one_left s.layout.apics s.monarch t is))
 
 pub ruleset report_facts = (report_from, none_left, one_left)

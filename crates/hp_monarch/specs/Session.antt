@@ -1,20 +1,24 @@
 -- What contracts see of the monarch: its record, and what it goes by of the platform.
-use Rattle.std.specs.Prelude.{◌≡◌, ◌⊎◌, ◌<◌, ◌≤◌, ℕ, nat_le, List, length, true}
+use Rattle.std.specs.Prelude.{◌≡◌, ◌⊎◌, ◌<◌, ◌≤◌, ℕ, Bool, nat_le, List, length, slice_index_or, true}
 use Rattle.std.specs.List.{list_all}
 use Rattle.hp_model.specs.declared.labels.Label.{Label}
 use Rattle.hp_model.specs.declared.labels.Label.TheVariants as label
 use Rattle.hp_model.specs.declared.accesses.Answer.{Answer}
 use Rattle.hp_model.specs.Add.{Led, AddsAt, Ends}
-use Rattle.hp_model.specs.Collection.{Collected, CollectsAt, CollectedAll}
+use Rattle.hp_model.specs.Collection.{Collected, CollectsAt, CollectedAll, Report}
+use Rattle.hp_model.specs.Eject.{EjectLed, EjectsAt, EjectEnds}
 use Rattle.hp_model.specs.Fitting.{FitsWant}
 use Rattle.hp_model.specs.Handlers.{Seat, want_at}
-use Rattle.hp_model.specs.Monarch.{Monarch, Class as AClass, Tells, Adds, PassesOver}
+use Rattle.hp_model.specs.Monarch.{Monarch, Class as AClass, Facts as TheFacts, Tells, Adds, Ejects, is_own}
 use Rattle.hp_model.specs.SharedBytes.{Layout}
+use Rattle.hp_model.specs.Slots.{is_known, place_of}
 use Rattle.hp_collect.specs.Collecting.{Collecting, IsGoing as IsCollecting}
-use Rattle.hp_reloc.specs.Relocating.{Relocating, IsGoing as IsAdding}
+use Rattle.hp_eject.specs.Ejecting.{Ejecting, IsGoing as IsEjecting}
+use Rattle.hp_reloc.specs.Relocating.{Relocating, IsGoing as IsAdding, greatest}
 use Rattle.hp_reloc.specs.Roster.{Roster}
 use Rattle.hp_monarch.specs.declared.classes.Class.{Class}
 use Rattle.hp_monarch.specs.declared.classes.Class.TheVariants as class
+use Rattle.hp_monarch.specs.declared.classes.Facts.{Facts}
 use Rattle.hp_monarch.specs.declared.rows.Place.{Place}
 use Rattle.hp_monarch.specs.declared.rows.Place.TheVariants as place
 use Rattle.hp_monarch.specs.declared.rows.Row.{Row}
@@ -39,7 +43,7 @@ label_of row.E5 = label.E5
 label_of row.E6 = label.E6
 label_of row.E7 = label.E7
 
--- where a collection stands, and where an add does; past its end neither stands anywhere, and no monarch is in it
+-- where a collection stands, an add, and an eject; past its end none stands anywhere, and no monarch is in it
 abbrev pub collecting_at : Collected → Label
 collecting_at (CollectsAt l c) = l
 collecting_at (CollectedAll c) = label.C1
@@ -48,17 +52,38 @@ abbrev pub adding_at : Led → Label
 adding_at (AddsAt l a) = l
 adding_at (Ends o) = label.NB
 
--- where the monarch stands: at a row of its own, in the collection, or in an add
-abbrev pub label_at : Place → Collected → Led → Label
-label_at (place.At row) c d = label_of row
-label_at place.Collects c d = collecting_at c
-label_at place.Adds c d = adding_at d
+abbrev pub ejecting_at : EjectLed → Label
+ejecting_at (EjectsAt l j) = l
+ejecting_at (EjectEnds o) = label.E0
+
+-- where the monarch stands: at a row of its own, in the collection, in an add, or in an eject
+abbrev pub label_at : Place → Collected → Led → EjectLed → Label
+label_at (place.At row) c d e = label_of row
+label_at place.Collects c d e = collecting_at c
+label_at place.Adds c d e = adding_at d
+label_at place.Ejects c d e = ejecting_at e
 
 -- what becomes of a report, as the code has it
 abbrev pub class_of : Class → AClass
 class_of (class.Tells o) = Tells o
 class_of class.Adds = Adds
-class_of class.PassesOver = PassesOver
+class_of class.Ejects = Ejects
+
+-- what is known of it, as the code has it
+abbrev pub facts_in : Facts → TheFacts
+facts_in f = record { own = f.own; known = f.known; slot = f.slot; held = f.held; features = f.features; look = f.look }
+
+-- and by these slots, what was last read of their bytes, and these features
+abbrev pub facts_by : Roster → List ℕ → ℕ → Report → TheFacts
+facts_by s last features t =
+    record {
+      own = is_own s.possible t;
+      known = is_known s.slots t.apic;
+      slot = place_of s.slots.bound t.apic;
+      held = s.slots.held;
+      features = features;
+      look = slice_index_or last (place_of s.slots.bound t.apic) 2;
+    }
 
 -- the labels of an add that read an arrived byte
 abbrev pub ReadsByte : Label → Type 0
@@ -68,22 +93,31 @@ ReadsByte l = (l ≡ label.N8b) ⊎ (l ≡ label.N11)
 abbrev pub TakesReports : Label → Type 0
 TakesReports l = (l ≡ label.C3) ⊎ ((l ≡ label.C4) ⊎ ((l ≡ label.C6) ⊎ (l ≡ label.T)))
 
--- a monarch in the collection has one that goes on, and in an add one that goes on, in a bound slot
-abbrev pub IsIn : Place → ℕ → Collected → Relocating → Type 0
-IsIn (place.At row) bound c d = Unit {0}
-IsIn place.Collects bound c d = IsCollecting c
-IsIn place.Adds bound c d = IsAdding d.led × (d.add.slot < bound)
+-- a monarch in the collection has one that goes on, and so in an add, which is in a bound slot, and in an eject
+abbrev pub IsIn : Place → ℕ → Collected → Relocating → EjectLed → Type 0
+IsIn (place.At row) bound c d e = Unit {0}
+IsIn place.Collects bound c d e = IsCollecting c
+IsIn place.Adds bound c d e = IsAdding d.led × (d.add.slot < bound)
+IsIn place.Ejects bound c d e = IsEjecting e
 
--- each bound slot has its byte, the slot whose byte is next is bound, addresses and APIC IDs are in range, there is room for all possible slots, and collection and adds go by the same platform
-pub record IsSound (tseg count looks slot : ℕ) (place : Place) (roster : Roster) (last : List ℕ) (room : ℕ) (collect : Collecting) (add : Relocating) : Type 0 where
-  pub bound : slot < length roster.slots.bound
-  pub read : length last ≡ length roster.slots.bound
-  pub at_most : length roster.slots.bound ≤ 64
-  pub below : tseg ≤ 0x80000000
-  pub few : count ≤ 64
-  pub ids : list_all (λ a. nat_le a 254) roster.possible ≡ true
-  pub fits : 64 ≤ room
-  pub collects : collect.count ≡ count
+-- collection, adds and ejects go by the same platform
+pub record IsBy (tseg count looks : ℕ) (x2apic late : Bool) (collect : Collecting) (add : Relocating) (eject : Ejecting) : Type 0 where
+  pub counts : collect.count ≡ count
   pub adds : add.tseg ≡ tseg
   pub looks_at : add.polls ≡ looks
-  pub inside : IsIn place (length roster.slots.bound) collect.collected add
+  pub wide : add.x2apic ≡ x2apic
+  pub ejects : eject.tseg ≡ tseg
+  pub awaits : eject.polls ≡ looks
+  pub looks_late : eject.late ≡ late
+
+-- each bound slot has its byte, the slot whose byte is next is bound, addresses and APIC IDs are in range, and there is room for all possible slots
+pub record IsSound (tseg count looks : ℕ) (x2apic late : Bool) (slot : ℕ) (place : Place) (roster : Roster) (last : List ℕ) (room : ℕ) (collect : Collecting) (add : Relocating) (eject : Ejecting) : Type 0 where
+  pub bound : slot < length roster.slots.bound
+  pub read : length last ≡ length roster.slots.bound
+  pub at_most : length roster.slots.bound ≤ 512
+  pub below : tseg ≤ 0x80000000
+  pub few : count ≤ 512
+  pub ids : list_all (λ a. nat_le a (greatest x2apic)) roster.possible ≡ true
+  pub fits : 512 ≤ room
+  pub parts : IsBy tseg count looks x2apic late collect add eject
+  pub inside : IsIn place (length roster.slots.bound) collect.collected add eject.led

@@ -1,9 +1,9 @@
-//! Sessions with a collection, its refusals and its adds, worked by hand. TSEG begins at 0x7f00000, and the APIC IDs of processors 0 to 2
+//! Sessions with a collection, its refusals, its adds and its ejects, worked by hand. TSEG begins at 0x7f00000, and the APIC IDs of processors 0 to 2
 //! are 0, 4 and 8.
 
-use crate::tests::{broadcast, command, feed, load, start, store};
+use crate::tests::{broadcast, command, feed, load, start, start_with, store};
 use crate::{Monarch, Phase};
-use hp_model::{Access, Answer, Outcome, Refusal, Want};
+use hp_model::{Access, Answer, Delivery, Outcome, Refusal, Want};
 use std::process::Abort;
 use std::test::Fail;
 
@@ -100,6 +100,7 @@ fn go(rt: &impl Abort, m: &mut Monarch, rows: &[Row]) {
 fn told(m: &Monarch) -> Option<(u32, u32, u32, u32)> {
     match m.want() {
         Want::Tell(Outcome::Added { cpu, apic, slot }) => Some((0, cpu, apic, slot)),
+        Want::Tell(Outcome::Ejected { cpu, apic, slot }) => Some((13, cpu, apic, slot)),
         Want::Tell(Outcome::Refused(why)) => match why {
             Refusal::Disabled { cpu, status } => Some((1, cpu, u32::from(status), 0)),
             Refusal::Both { cpu, status } => Some((2, cpu, u32::from(status), 0)),
@@ -107,7 +108,12 @@ fn told(m: &Monarch) -> Option<(u32, u32, u32, u32)> {
             Refusal::GateHeld { cpu, apic, held } => Some((4, cpu, apic, held)),
             Refusal::NotAtGate { cpu, apic } => Some((5, cpu, apic, 0)),
             Refusal::NotCheckedIn { cpu, apic } => Some((6, cpu, apic, 0)),
-            _ => None,
+            Refusal::NoUnplug { cpu, features } => Some((7, cpu, (features & 0xff) as u32, 0)),
+            Refusal::NotKnown { cpu, apic } => Some((8, cpu, apic, 0)),
+            Refusal::NotArrived { cpu, apic } => Some((9, cpu, apic, 0)),
+            Refusal::NotParked { cpu, apic } => Some((10, cpu, apic, 0)),
+            Refusal::Foreign { cpu, apic } => Some((11, cpu, apic, 0)),
+            Refusal::StillPending { cpu, status } => Some((12, cpu, u32::from(status), 0)),
         },
         _ => None,
     }
@@ -200,10 +206,10 @@ fn each_report_has_its_answer_in_their_order(rt: HostRuntime) -> Result<(), Fail
 }
 
 #[test]
-fn some_reports_are_passed_over(rt: HostRuntime) -> Result<(), Fail> {
+fn a_report_of_another_is_foreign(rt: HostRuntime) -> Result<(), Fail> {
     let mut m = start(&rt, rt.alloc(), &[0], 8)?;
-    // processor 0, another processor's APIC ID, and a firmware eject alone
-    for (found, status, apic) in [(0, 0x03, 0), (2, 0x03, 4), (2, 0x11, 8)] {
+    // processor 0, and another processor's APIC ID
+    for (found, status, apic) in [(0, 0x03, 0), (2, 0x03, 4), (2, 0x11, 4)] {
         m.restart();
         go(&rt, &mut m, &begins());
         go(&rt, &mut m, &[command(4)]);
@@ -212,6 +218,7 @@ fn some_reports_are_passed_over(rt: HostRuntime) -> Result<(), Fail> {
         if found < 2 {
             go(&rt, &mut m, &wraps(1, 0));
         }
+        tells(&rt, &mut m, (11, found as u32, apic as u32, 0));
         ends(&rt, &mut m, 1);
     }
     // one without an event isn't even reported
@@ -221,6 +228,152 @@ fn some_reports_are_passed_over(rt: HostRuntime) -> Result<(), Fail> {
     go(&rt, &mut m, &looks(0, 2, 0x01));
     ends(&rt, &mut m, 1);
     assert_eq!(rt; m.slots().count(), 1);
+    Ok(())
+}
+
+// a selector that was moved behind the firmware's back: what was found isn't possible
+#[test]
+fn a_processor_that_is_not_possible_ends_the_session(rt: HostRuntime) -> Result<(), Fail> {
+    let mut m = start(&rt, rt.alloc(), &[0], 8)?;
+    go(&rt, &mut m, &begins());
+    go(&rt, &mut m, &[command(4)]);
+    go(&rt, &mut m, &wraps(0, 3));
+    ends(&rt, &mut m, 1);
+    Ok(())
+}
+
+/// The session of processors 0 and 1 up to the reports: processor 1 has this status, and its arrived byte was last read so.
+fn reports_eject(rt: &impl Abort, m: &mut Monarch, arrived: u64, status: u64) {
+    go(
+        rt,
+        m,
+        &[
+            store(0x7f04000, 1),
+            store(0x7f01001, 0),
+            broadcast(),
+            load(0x7f00001, arrived),
+            command(4),
+        ],
+    );
+    go(rt, m, &looks(0, 1, status));
+    go(rt, m, &reports(4));
+    go(rt, m, &wraps(2, 1));
+}
+
+/// Processor 1 is asked to park, and does so. Control is written.
+fn hands_over(rt: &impl Abort, m: &mut Monarch) {
+    go(
+        rt,
+        m,
+        &[
+            store(0x7f03001, 0),
+            store(0x7f02001, 1),
+            load(0x7f03001, 0),
+            load(0x7f03001, 1),
+            output(0xcd8, 4, 1),
+            output(0xcdc, 1, 8),
+        ],
+    );
+}
+
+/// Its bytes are cleared.
+fn clears() -> [Row; 3] {
+    [
+        store(0x7f00001, 0),
+        store(0x7f02001, 0),
+        store(0x7f03001, 0),
+    ]
+}
+
+#[test]
+fn a_processor_that_parks_is_ejected(rt: HostRuntime) -> Result<(), Fail> {
+    let mut m = start(&rt, rt.alloc(), &[0, 1], 2)?;
+    m.features(7);
+    reports_eject(&rt, &mut m, 1, 0x11);
+    hands_over(&rt, &mut m);
+    go(&rt, &mut m, &clears());
+    assert!(rt; m.slots().known(4));
+    tells(&rt, &mut m, (13, 1, 4, 1));
+    assert!(rt; !m.slots().known(4));
+    assert_eq!(rt; m.slots().bound(4), Some(1));
+    ends(&rt, &mut m, 2);
+    // it isn't waited for any longer, and not ejected again
+    m.restart();
+    go(
+        &rt,
+        &mut m,
+        &[
+            store(0x7f04000, 1),
+            store(0x7f01001, 0),
+            broadcast(),
+            command(4),
+        ],
+    );
+    go(&rt, &mut m, &looks(0, 1, 0x11));
+    go(&rt, &mut m, &reports(4));
+    go(&rt, &mut m, &wraps(2, 1));
+    tells(&rt, &mut m, (8, 1, 4, 0));
+    ends(&rt, &mut m, 2);
+    Ok(())
+}
+
+#[test]
+fn an_eject_is_refused_for_these(rt: HostRuntime) -> Result<(), Fail> {
+    let mut m = start(&rt, rt.alloc(), &[0, 1], 1)?;
+    // without hot-unplug; who was last seen outside; 2 is no 0
+    m.features(3);
+    reports_eject(&rt, &mut m, 1, 0x11);
+    tells(&rt, &mut m, (7, 1, 3, 0));
+    ends(&rt, &mut m, 2);
+    m.restart();
+    m.features(7);
+    reports_eject(&rt, &mut m, 0, 0x11);
+    tells(&rt, &mut m, (9, 1, 4, 0));
+    ends(&rt, &mut m, 2);
+    m.restart();
+    reports_eject(&rt, &mut m, 2, 0x15);
+    // and who doesn't park
+    go(
+        &rt,
+        &mut m,
+        &[
+            store(0x7f03001, 0),
+            store(0x7f02001, 1),
+            load(0x7f03001, 0),
+            store(0x7f02001, 0),
+        ],
+    );
+    tells(&rt, &mut m, (10, 1, 4, 0));
+    assert!(rt; m.slots().known(4));
+    ends(&rt, &mut m, 2);
+    Ok(())
+}
+
+#[test]
+fn a_late_eject_is_looked_at(rt: HostRuntime) -> Result<(), Fail> {
+    let mut m = start_with(&rt, rt.alloc(), &[0, 1], 2, Delivery::Late { lag: 1 })?;
+    m.features(7);
+    reports_eject(&rt, &mut m, 1, 0x11);
+    hands_over(&rt, &mut m);
+    go(
+        &rt,
+        &mut m,
+        &[
+            output(0xcd8, 4, 1),
+            input(0xcdc, 1, 0x11),
+            store(0x7f02001, 0),
+        ],
+    );
+    tells(&rt, &mut m, (12, 1, 0x11, 0));
+    assert!(rt; m.slots().known(4));
+    ends(&rt, &mut m, 2);
+    m.restart();
+    reports_eject(&rt, &mut m, 1, 0x11);
+    hands_over(&rt, &mut m);
+    go(&rt, &mut m, &[output(0xcd8, 4, 1), input(0xcdc, 1, 0)]);
+    go(&rt, &mut m, &clears());
+    tells(&rt, &mut m, (13, 1, 4, 1));
+    ends(&rt, &mut m, 2);
     Ok(())
 }
 

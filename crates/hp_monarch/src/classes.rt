@@ -1,9 +1,10 @@
 //! What becomes of a report.
 
-ghost use Rattle.std.specs.Prelude.{◌≡◌};
-ghost use Rattle.hp_model.specs.Monarch.{class as class_at, insert_class};
+ghost use Rattle.std.specs.Prelude.{◌≡◌, ◌<◌, true, slice_index_or};
+ghost use Rattle.hp_model.specs.Monarch.{class as class_at, eject_class, insert_class, is_own, refuses};
+ghost use Rattle.hp_model.specs.Slots.{is_known, place_of};
 ghost use Rattle.hp_collect.specs.Collecting.{report_of};
-ghost use Rattle.hp_monarch.specs.Session.{class_of};
+ghost use Rattle.hp_monarch.specs.Session.{class_of, facts_in, facts_by};
 
 use hp_collect::Reported;
 use hp_model::{Outcome, Refusal};
@@ -15,6 +16,10 @@ const ENABLED: u8 = 0x01;
 const INSERTED: u8 = 0x02;
 /// An insert event and a firmware eject, status bit 4, at once.
 const BOTH: u8 = 0x12;
+/// Feature bit 2: hot-unplug.
+const UNPLUG: u64 = 0x04;
+/// What stands for a byte that wasn't read in this session. A byte that is read as 2 counts as not read.
+pub const UNREAD: u8 = 2;
 
 /// What becomes of a report.
 #[derive(Clone, Copy)]
@@ -23,46 +28,123 @@ pub enum Class {
     Tells(Outcome),
     /// An add begins.
     Adds,
-    /// It is passed over without an outcome.
-    PassesOver,
+    /// An eject begins.
+    Ejects,
 }
 
-/// A report of a processor with an insert event.
+/// What is known of a report when it is taken up.
+#[derive(Clone, Copy)]
+pub struct Facts {
+    /// Its APIC ID is that of its processor, and that isn't processor 0.
+    own: bool,
+    /// Its APIC ID is a boot processor's or was added, and not ejected since.
+    known: bool,
+    /// The place of its APIC ID among those bound, and their number where it isn't bound.
+    slot: u32,
+    /// The APIC ID whose add isn't complete.
+    held: Option<u32>,
+    /// The negotiated SMI features.
+    features: u64,
+    /// What was last read of its arrived byte in this session, or `UNREAD`.
+    look: u8,
+}
+
+/// What was last read of this slot's byte.
+fn look_at(last: &[u8], slot: u32) -> u8
+    ensures { result ≡ slice_index_or last.now slot 2 }
+{
+    last.get(slot as usize).copied().unwrap_or(UNREAD)
+}
+
+/// The place of an APIC ID among those bound, and their number where it isn't bound.
 #[tactic(auto, using(crate::proofs::Adds::place_facts))]
-fn inserted(slots: &Slots, report: Reported) -> Class
-    ensures { class_of result ≡ insert_class slots.now.slots slots.now.slots.held (report_of report) }
+pub fn place(slots: &Slots, apic: u32) -> u32
+    ensures value { result ≡ place_of slots.now.slots.bound apic }
+    ensures known { is_known slots.now.slots apic ≡ true → result < 512 }
+{
+    slots.bound(apic).unwrap_or(slots.count())
+}
+
+/// What the monarch knows of a report, by its slots, what it last read of their arrived bytes, and the negotiated features.
+pub fn gather(slots: &Slots, last: &[u8], features: u64, report: Reported) -> Facts
+    ensures { facts_in result ≡ facts_by slots.now last.now features (report_of report) }
+{
+    let slot = place(slots, report.apic);
+    Facts {
+        own: has_own_id(slots, report),
+        known: slots.known(report.apic),
+        slot,
+        held: slots.held(),
+        features,
+        look: look_at(last, slot),
+    }
+}
+
+/// Whether its APIC ID is that of its processor, and that isn't processor 0.
+fn has_own_id(slots: &Slots, report: Reported) -> bool
+    ensures { result ≡ is_own slots.now.possible (report_of report) }
+{
+    report.cpu != 0 && slots.id_of(report.cpu) == Some(report.apic)
+}
+
+/// A refusal is told.
+fn refuse(why: Refusal) -> Class
+    ensures { class_of result ≡ refuses why }
+{
+    Class::Tells(Outcome::Refused(why))
+}
+
+/// A report of a processor with an insert event. While another APIC ID is held, none is added.
+fn insert(facts: Facts, report: Reported) -> Class
+    ensures { class_of result ≡ insert_class (facts_in facts) (report_of report) }
 {
     let Reported { cpu, apic, .. } = report;
-    if slots.known(apic) {
-        let slot = slots.bound(apic).unwrap_or(slots.count());
-        return Class::Tells(Outcome::Refused(Refusal::AlreadyKnown { cpu, apic, slot }));
+    if facts.known {
+        let slot = facts.slot;
+        return refuse(Refusal::AlreadyKnown { cpu, apic, slot });
     }
-    match slots.held() {
-        Some(held) if held != apic => {
-            Class::Tells(Outcome::Refused(Refusal::GateHeld { cpu, apic, held }))
-        }
+    match facts.held {
+        Some(held) if held != apic => refuse(Refusal::GateHeld { cpu, apic, held }),
         _ => Class::Adds,
     }
 }
 
-/// What becomes of this report: it is passed over where its APIC ID isn't that of its processor, or where that is processor 0; then a
-/// processor that isn't enabled, one with an insert event and a firmware eject at once, and one with an insert event have their
-/// answers. A firmware eject alone is passed over, since ejects have no row yet.
-pub fn judge(slots: &Slots, report: Reported) -> Class
-    ensures { class_of result ≡ class_at slots.now.possible slots.now.slots (report_of report) }
+/// A report of a processor with a firmware eject.
+fn eject(facts: Facts, report: Reported) -> Class
+    ensures { class_of result ≡ eject_class (facts_in facts) (report_of report) }
+{
+    let Reported { cpu, apic, .. } = report;
+    let features = facts.features;
+    if features & UNPLUG != UNPLUG {
+        return refuse(Refusal::NoUnplug { cpu, features });
+    }
+    if !facts.known {
+        return refuse(Refusal::NotKnown { cpu, apic });
+    }
+    if facts.look == 0 {
+        return refuse(Refusal::NotArrived { cpu, apic });
+    }
+    Class::Ejects
+}
+
+/// What becomes of this report: each has an answer. One whose APIC ID isn't its processor's, one of a processor that isn't enabled, and
+/// one with an insert event and a firmware eject at once are refused, in this order.
+pub fn judge(facts: Facts, report: Reported) -> Class
+    ensures { class_of result ≡ class_at (facts_in facts) (report_of report) }
 {
     let Reported { cpu, status, apic } = report;
-    if cpu == 0 || slots.id_of(cpu) != Some(apic) {
-        return Class::PassesOver;
+    if !facts.own {
+        return refuse(Refusal::Foreign { cpu, apic });
     }
     if status & ENABLED != ENABLED {
-        return Class::Tells(Outcome::Refused(Refusal::Disabled { cpu, status }));
+        return refuse(Refusal::Disabled { cpu, status });
     }
     if status & BOTH == BOTH {
-        return Class::Tells(Outcome::Refused(Refusal::Both { cpu, status }));
+        return refuse(Refusal::Both { cpu, status });
     }
     if status & INSERTED == INSERTED {
-        return inserted(slots, report);
+        insert(facts, report)
+    } else {
+        eject(facts, report)
     }
-    Class::PassesOver
 }

@@ -10,5 +10,7 @@ mod sessions;
 #[cfg(test)]
 mod tests;
 
-pub use laws::a_session_keeps_its_order;
+pub use laws::{
+    a_session_keeps_its_order, an_eject_keeps_its_order, each_row_leads_to_a_successor,
+};
 pub use sessions::{Monarch, Phase};

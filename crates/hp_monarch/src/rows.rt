@@ -5,7 +5,7 @@ ghost use Rattle.hp_monarch.specs.Session.{label_of};
 
 use hp_model::Label;
 
-/// The rows that are the monarch's own. Ejects have none yet.
+/// The rows that are the monarch's own.
 #[derive(Clone, Copy)]
 pub enum Row {
     /// The session byte becomes 1.
@@ -46,10 +46,11 @@ impl Row {
     }
 }
 
-/// Where the monarch stands: at a row of its own, in the collection, or in an add.
+/// Where the monarch stands: at a row of its own, in the collection, in an add, or in an eject.
 #[derive(Clone, Copy)]
 pub enum Place {
     At(Row),
     Collects,
     Adds,
+    Ejects,
 }

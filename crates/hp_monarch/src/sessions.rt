@@ -5,18 +5,19 @@ ghost use Rattle.hp_model.specs.declared.labels.Label.TheVariants as labels;
 ghost use Rattle.hp_model.specs.Boot.{value_in};
 ghost use Rattle.hp_model.specs.Handlers.{Seat, next_at, store_byte as store_of, want_at};
 ghost use Rattle.hp_model.specs.Fitting.{FitsWant};
-ghost use Rattle.hp_model.specs.Monarch.{Adds, adds, class as class_at, commanded, first_slot, look_at, looked, monarch_start, next_report, next_slot, noted, restarted, told, with_features};
-ghost use Rattle.hp_model.specs.Platform.{IsFit};
+ghost use Rattle.hp_model.specs.Monarch.{Adds, Ejects, adds, answered, class as class_at, commanded, ejects, facts_of, first_slot, look_at, looked, monarch_start, next_report, next_slot, noted, restarted, told, with_features};
+ghost use Rattle.hp_model.specs.Platform.{IsFit, is_late};
 ghost use Rattle.hp_model.specs.SharedBytes.{layout_of};
 ghost use Rattle.hp_model.specs.Slots.{known_from};
 ghost use Rattle.hp_collect.specs.Collecting.{report_of};
 ghost use Rattle.hp_monarch.specs.declared.rows.Row.TheVariants as rows;
 ghost use Rattle.hp_monarch.specs.Session.{Fits, ReadsByte, label_of};
 
-use crate::classes::{Class, judge};
+use crate::classes::{Class, UNREAD, gather, judge, place};
 use crate::rows::{Place, Row};
 use hp_collect::{Collect, Reported, Stage};
-use hp_model::{Access, Answer, Label, NoMemory, Outcome, Platform, Refusal, Want, tseg};
+use hp_eject::Eject;
+use hp_model::{Access, Answer, Delivery, Label, NoMemory, Outcome, Platform, Refusal, Want, tseg};
 use hp_reloc::{Reloc, Slots, value_of};
 use std::alloc::Global;
 use std::marker::Model;
@@ -31,10 +32,8 @@ const APM_CNT: u16 = 0xb2;
 const COLLECT: u64 = 4;
 /// The low half of an interrupt command that is an SMI to all but the sender.
 const SMI_TO_OTHERS: u32 = 0xc0200;
-/// What stands for a byte that wasn't read in this session. A byte that is read as 2 counts as not read.
-const UNREAD: u8 = 2;
 /// As many slots as there may be.
-const MOST_SLOTS: usize = 64;
+const MOST_SLOTS: usize = 512;
 
 /// Whether a session goes on.
 #[derive(Clone, Copy, Debug, PartialEq)]
@@ -53,6 +52,10 @@ pub struct Monarch {
     count: u32,
     /// How often a byte is looked at, at most.
     looks: u32,
+    /// Whether APIC IDs have 32 bits.
+    x2apic: bool,
+    /// Whether SMIs may come late.
+    late: bool,
     place: Place,
     /// The slot whose byte is next.
     slot: u32,
@@ -67,6 +70,7 @@ pub struct Monarch {
     /// How many of its reports were taken up.
     taken: usize,
     add: Reloc,
+    eject: Eject,
     /// What is told next, or was told last.
     outcome: Outcome,
 }
@@ -75,6 +79,7 @@ impl Model for Monarch {
     ghost use Rattle.std.specs.Prelude.{vec_capacity};
     ghost use Rattle.hp_collect.specs.Collecting.{collection_in};
     ghost use Rattle.hp_reloc.specs.Relocating.{add_in};
+    ghost use Rattle.hp_eject.specs.Ejecting.{eject_in};
     ghost use Rattle.hp_monarch.specs.Session.{Session};
 
     ghost Value = { Session };
@@ -82,9 +87,9 @@ impl Model for Monarch {
     ghost use Rattle.hp_monarch.specs.Session.{IsSound, label_at};
 
     ghost view = { λ m. record {
-      layout = record { tseg = m.tseg; count = m.count; apics = m.slots.possible; polls = m.looks };
+      layout = record { tseg = m.tseg; count = m.count; apics = m.slots.possible; polls = m.looks; x2apic = m.x2apic; late = m.late };
       monarch = record {
-        label = label_at m.place m.collect.collected m.add.led;
+        label = label_at m.place m.collect.collected m.add.led m.eject.led;
         slot = m.slot;
         polls = m.polls;
         slots = m.slots.slots;
@@ -93,11 +98,12 @@ impl Model for Monarch {
         collection = collection_in m.collect.collected;
         taken = m.taken;
         add = add_in m.add.led m.add.add;
+        eject = eject_in m.eject.led m.eject.eject;
         outcome = m.outcome;
       };
     } };
 
-    ghost invariant = { λ m. IsSound m.tseg m.count m.looks m.slot m.place m.slots m.last.items (vec_capacity m.last) m.collect m.add };
+    ghost invariant = { λ m. IsSound m.tseg m.count m.looks m.x2apic m.late m.slot m.place m.slots m.last.items (vec_capacity m.last) m.collect m.add m.eject };
 }
 
 /// A store of one byte.
@@ -109,6 +115,16 @@ fn store_byte(addr: u32, value: u64) -> Want
         width: 1,
         value,
     })
+}
+
+/// Whether SMIs may come late.
+fn is_late_in(delivery: Delivery) -> bool
+    ensures { result ≡ is_late delivery }
+{
+    match delivery {
+        Delivery::Prompt => false,
+        Delivery::Late { .. } => true,
+    }
 }
 
 impl Monarch {
@@ -127,6 +143,8 @@ impl Monarch {
             tseg: tseg(p),
             count,
             looks: p.polls,
+            x2apic: p.x2apic,
+            late: is_late_in(p.delivery),
             place: Place::At(Row::S0),
             slot: 0,
             polls: 0,
@@ -136,6 +154,7 @@ impl Monarch {
             collect: Collect::new(alloc, count)?,
             taken: 0,
             add: Reloc::new(p, 0, 0, 0),
+            eject: Eject::new(p, 0, 0, 0),
             outcome: Outcome::Refused(Refusal::Disabled { cpu: 0, status: 0 }),
         })
     }
@@ -168,9 +187,16 @@ impl Monarch {
     /// How many processors are possible.
     pub fn count(&self) -> u32
         ensures value { result ≡ self.now.layout.count }
-        ensures few { result ≤ 64 }
+        ensures few { result ≤ 512 }
     {
         self.count
+    }
+
+    /// Whether APIC IDs have 32 bits.
+    pub fn x2apic(&self) -> bool
+        ensures { result ≡ self.now.layout.x2apic }
+    {
+        self.x2apic
     }
 
     /// Which APIC ID has which slot.
@@ -188,6 +214,7 @@ impl Monarch {
             Place::At(row) => row.label(),
             Place::Collects => self.collect.label(),
             Place::Adds => self.add.label(),
+            Place::Ejects => self.eject.label(),
         }
     }
 
@@ -199,6 +226,7 @@ impl Monarch {
             Place::At(row) => self.want_in(row),
             Place::Collects => Want::Do(self.collect.want()),
             Place::Adds => Want::Do(self.add.want()),
+            Place::Ejects => Want::Do(self.eject.want()),
         }
     }
 
@@ -293,8 +321,8 @@ impl Monarch {
 
     /// An add begins: its APIC ID is bound and held. The byte of a new slot wasn't read.
     #[tactic(auto, using(crate::proofs::Adds::add_facts))]
-    fn begin(&mut self, report: Reported)
-        requires { class_at self.old.layout.apics self.old.monarch.slots (report_of report) ≡ Adds }
+    fn begin_add(&mut self, report: Reported)
+        requires { class_at (facts_of self.old.layout.apics self.old.monarch (report_of report)) (report_of report) ≡ Adds }
         ensures { self.new ≡ record self.old { monarch = adds (report_of report) self.old.monarch } }
     {
         let slot = self.slots.bind(report.apic);
@@ -303,7 +331,35 @@ impl Monarch {
         self.place = Place::Adds;
     }
 
-    /// The next report that isn't passed over is answered, by an outcome or an add. Without one the session ends.
+    /// An eject begins.
+    fn begin_eject(&mut self, report: Reported)
+        requires { class_at (facts_of self.old.layout.apics self.old.monarch (report_of report)) (report_of report) ≡ Ejects }
+        ensures { self.new ≡ record self.old { monarch = ejects (report_of report) self.old.monarch } }
+    {
+        let slot = place(&self.slots, report.apic);
+        self.eject.restart(report.cpu, report.apic, slot);
+        self.place = Place::Ejects;
+    }
+
+    /// A report is answered: by an outcome, an add or an eject.
+    fn answer(&mut self, report: Reported)
+        ensures { self.new ≡ record self.old {
+          monarch =
+              answered (class_at (facts_of self.old.layout.apics self.old.monarch (report_of report)) (report_of report)) (report_of report) self.old.monarch;
+        } }
+    {
+        let facts = gather(&self.slots, self.last.as_slice(), self.features, report);
+        match judge(facts, report) {
+            Class::Tells(outcome) => {
+                self.outcome = outcome;
+                self.place = Place::At(Row::T);
+            }
+            Class::Adds => self.begin_add(report),
+            Class::Ejects => self.begin_eject(report),
+        }
+    }
+
+    /// The next report is answered. Without one the session ends.
     #[tactic(auto, using(crate::proofs::Reports::report_facts))]
     fn take_next(&mut self)
         ensures { self.new ≡ record self.old { monarch = next_report self.old.layout.apics self.old.monarch } }
@@ -314,22 +370,17 @@ impl Monarch {
         };
         let report = *report;
         self.taken += 1;
-        match judge(&self.slots, report) {
-            Class::Tells(outcome) => {
-                self.outcome = outcome;
-                self.place = Place::At(Row::T);
-            }
-            Class::Adds => self.begin(report),
-            Class::PassesOver => self.take_next(),
-        }
+        self.answer(report);
     }
 
-    /// An outcome was told: an APIC ID that was added is known from here on.
+    /// An outcome was told: an APIC ID that was added is known from here on, and one that was ejected is forgotten.
     fn complete(&mut self)
         ensures { self.new ≡ record self.old { monarch = told self.old.monarch.outcome self.old.monarch } }
     {
-        if let Outcome::Added { apic, .. } = self.outcome {
-            self.slots.complete(apic);
+        match self.outcome {
+            Outcome::Added { apic, .. } => self.slots.complete(apic),
+            Outcome::Ejected { apic, .. } => self.slots.forget(apic),
+            Outcome::Refused(_) => {}
         }
     }
 
@@ -381,6 +432,13 @@ impl Monarch {
                     self.place = Place::At(Row::T);
                 }
             }
+            Place::Ejects => {
+                self.eject.feed(answer);
+                if let Some(outcome) = self.eject.outcome() {
+                    self.outcome = outcome;
+                    self.place = Place::At(Row::T);
+                }
+            }
         }
         Phase::More
     }
@@ -401,10 +459,10 @@ fn note(last: &mut [u8], label: Label, slot: u32, answer: Answer)
 
 /// A slot that is bound anew has its byte, which wasn't read.
 fn add_unread(last: &mut Vec<u8>, bound: u32)
-    requires few { bound ≤ 64 }
-    requires room { 64 ≤ vec_capacity last.old }
+    requires few { bound ≤ 512 }
+    requires room { 512 ≤ vec_capacity last.old }
     ensures bytes { last.new.items ≡ (if nat_lt (length last.old.items) bound then last.old.items ++ 2 ∷ [] else last.old.items) }
-    ensures room { 64 ≤ vec_capacity last.new }
+    ensures room { 512 ≤ vec_capacity last.new }
 {
     if last.len() < bound as usize {
         last.push(UNREAD).unwrap();

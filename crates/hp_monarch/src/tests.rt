@@ -9,7 +9,12 @@ use std::alloc::Global;
 use std::process::Abort;
 use std::test::Fail;
 
-pub(crate) fn platform(alloc: Global, boot: &[u32], polls: u32) -> Result<Platform, NoMemory> {
+fn platform(
+    alloc: Global,
+    boot: &[u32],
+    polls: u32,
+    delivery: Delivery,
+) -> Result<Platform, NoMemory> {
     Ok(Platform {
         apic: Ids(vec![in alloc; 0, 4, 8]?),
         boot: Ids(Vec::from_slice(alloc, boot)?),
@@ -20,8 +25,22 @@ pub(crate) fn platform(alloc: Global, boot: &[u32], polls: u32) -> Result<Platfo
         turns: 0,
         modern: true,
         default_smram: true,
-        delivery: Delivery::Prompt,
+        delivery,
+        x2apic: false,
+        ext_tseg: true,
     })
+}
+
+pub(crate) fn start_with(
+    rt: &impl Abort,
+    alloc: Global,
+    boot: &[u32],
+    polls: u32,
+    delivery: Delivery,
+) -> Result<Monarch, NoMemory> {
+    let p = platform(alloc, boot, polls, delivery)?;
+    assert!(rt; fits(&p).is_ok());
+    Monarch::new(alloc, &p)
 }
 
 pub(crate) fn start(
@@ -30,9 +49,7 @@ pub(crate) fn start(
     boot: &[u32],
     polls: u32,
 ) -> Result<Monarch, NoMemory> {
-    let p = platform(alloc, boot, polls)?;
-    assert!(rt; fits(&p).is_ok());
-    Monarch::new(alloc, &p)
+    start_with(rt, alloc, boot, polls, Delivery::Prompt)
 }
 
 /// Whether the access has such an answer.
