@@ -6,7 +6,7 @@ use Rattle.std.proofs.Common.{Option}
 use Rattle.hp_model.specs.Fitting.{FitsWant}
 use Rattle.hp_monarch.specs.Session.{Fits, Session}
 use Rattle.hp_model.specs.declared.labels.Label.{Label}
-use Rattle.hp_model.specs.declared.labels.Label.TheVariants.{F1, F2, F3, F4, F5, F6, R1, R2, R3, R4, R5, R6, S0, S1, S2, S3, S4, C1, C2, C3, C4, C5, C6, NB, N0, N1, N2, N3, N4, N5, N6, N7, N8a, N8b, N9, N10, N11, E0, E1, E2, E3, E4a, E4b, E4c, E4d, E4e, T, E5, E6, E7}
+use Rattle.hp_model.specs.declared.labels.Label.TheVariants.{F1, F2, F3, F4, F5, F6, R1, R2, R3, R4, R5, R6}
 use Rattle.hp_model.specs.Handlers.{Seat, goes, next_at, want_at}
 use Rattle.hp_model.specs.Labels.{Monarch as Monarchs, part_of}
 use Rattle.hp_model.specs.Monarch.{Monarch}
@@ -14,55 +14,14 @@ use Rattle.hp_model.specs.SharedBytes.{Layout}
 
 pub wants_same : (y : Layout) (x z : Seat) (r : Monarch) (l : Label) → part_of l ≡ Monarchs → want_at y x r l ≡ want_at y z r l
 wants_same y x z r F1 e = absurd cc
-wants_same y x z r F2 e = absurd cc
 wants_same y x z r F3 e = absurd cc
-wants_same y x z r F4 e = absurd cc
 wants_same y x z r F5 e = absurd cc
-wants_same y x z r F6 e = absurd cc
 wants_same y x z r R1 e = absurd cc
 wants_same y x z r R2 e = absurd cc
 wants_same y x z r R3 e = absurd cc
 wants_same y x z r R4 e = absurd cc
-wants_same y x z r R5 e = absurd cc
 wants_same y x z r R6 e = absurd cc
-wants_same y x z r S0 e = refl
-wants_same y x z r S1 e = refl
-wants_same y x z r S2 e = refl
-wants_same y x z r S3 e = refl
-wants_same y x z r S4 e = refl
-wants_same y x z r C1 e = refl
-wants_same y x z r C2 e = refl
-wants_same y x z r C3 e = refl
-wants_same y x z r C4 e = refl
-wants_same y x z r C5 e = refl
-wants_same y x z r C6 e = refl
-wants_same y x z r NB e = refl
-wants_same y x z r N0 e = refl
-wants_same y x z r N1 e = refl
-wants_same y x z r N2 e = refl
-wants_same y x z r N3 e = refl
-wants_same y x z r N4 e = refl
-wants_same y x z r N5 e = refl
-wants_same y x z r N6 e = refl
-wants_same y x z r N7 e = refl
-wants_same y x z r N8a e = refl
-wants_same y x z r N8b e = refl
-wants_same y x z r N9 e = refl
-wants_same y x z r N10 e = refl
-wants_same y x z r N11 e = refl
-wants_same y x z r E0 e = refl
-wants_same y x z r E1 e = refl
-wants_same y x z r E2 e = refl
-wants_same y x z r E3 e = refl
-wants_same y x z r E4a e = refl
-wants_same y x z r E4b e = refl
-wants_same y x z r E4c e = refl
-wants_same y x z r E4d e = refl
-wants_same y x z r E4e e = refl
-wants_same y x z r T e = refl
-wants_same y x z r E5 e = refl
-wants_same y x z r E6 e = refl
-wants_same y x z r E7 e = refl
+wants_same y x z r _ e = refl
 
 pub goes_on : (y : Layout) (x : Seat) (r : Monarch) (l : Label) (v : ℕ) → part_of l ≡ Monarchs → next_at y x r l v ≡ goes x (next_at y x r l v).monarch
 goes_on y x r F1 v e = absurd cc
@@ -77,44 +36,7 @@ goes_on y x r R3 v e = absurd cc
 goes_on y x r R4 v e = absurd cc
 goes_on y x r R5 v e = absurd cc
 goes_on y x r R6 v e = absurd cc
-goes_on y x r S0 v e = refl
-goes_on y x r S1 v e = refl
-goes_on y x r S2 v e = refl
-goes_on y x r S3 v e = refl
-goes_on y x r S4 v e = refl
-goes_on y x r C1 v e = refl
-goes_on y x r C2 v e = refl
-goes_on y x r C3 v e = refl
-goes_on y x r C4 v e = refl
-goes_on y x r C5 v e = refl
-goes_on y x r C6 v e = refl
-goes_on y x r NB v e = refl
-goes_on y x r N0 v e = refl
-goes_on y x r N1 v e = refl
-goes_on y x r N2 v e = refl
-goes_on y x r N3 v e = refl
-goes_on y x r N4 v e = refl
-goes_on y x r N5 v e = refl
-goes_on y x r N6 v e = refl
-goes_on y x r N7 v e = refl
-goes_on y x r N8a v e = refl
-goes_on y x r N8b v e = refl
-goes_on y x r N9 v e = refl
-goes_on y x r N10 v e = refl
-goes_on y x r N11 v e = refl
-goes_on y x r E0 v e = refl
-goes_on y x r E1 v e = refl
-goes_on y x r E2 v e = refl
-goes_on y x r E3 v e = refl
-goes_on y x r E4a v e = refl
-goes_on y x r E4b v e = refl
-goes_on y x r E4c v e = refl
-goes_on y x r E4d v e = refl
-goes_on y x r E4e v e = refl
-goes_on y x r T v e = refl
-goes_on y x r E5 v e = refl
-goes_on y x r E6 v e = refl
-goes_on y x r E7 v e = refl
+goes_on y x r _ v e = refl
 
 -- an answer that fits what one who looks sees fits what all see
 pub fits_all : (h : Session) (z : Seat) (l : Label) (answer : Answer) → l ≡ h.monarch.label → part_of l ≡ Monarchs →

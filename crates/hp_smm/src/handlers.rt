@@ -11,13 +11,14 @@ ghost use Rattle.hp_model.specs.Platform.{IsFit};
 ghost use Rattle.hp_model.specs.SharedBytes.{layout_of, tile_in};
 ghost use Rattle.hp_image.specs.Handlers.{part_named};
 ghost use Rattle.hp_model.specs.Fitting.{FitsWant};
+ghost use Rattle.hp_reloc.specs.Relocating.{greatest};
 ghost use Rattle.hp_smm.specs.Rows.{next_for, row_for, seat_for, want_for};
 
 use crate::relocated::{relocated_next, relocated_want};
 use hp_image::{Handler, label_of, mark, place_of};
 use hp_model::{Answer, Label, NoMemory, Platform, Want};
 use hp_monarch::Monarch;
-use hp_reloc::{first_next, first_want};
+use hp_reloc::{first_next, first_want_by};
 use std::alloc::Global;
 use std::marker::Model;
 
@@ -150,12 +151,12 @@ impl Handlers {
 
     /// What is wanted at a label whose row is due.
     fn want_at(&self, s: &Stand, label: Label) -> Want
-        requires apic { s.now.apic ≤ 254 }
+        requires apic { s.now.apic ≤ greatest self.now.layout.x2apic }
         requires row { row_for self.now s.now ≡ Some label }
         ensures { want_at self.now.layout (seat_for self.now s.now) self.now.monarch label ≡ Some result }
     {
         match place_of(label).handler {
-            Handler::First => first_want(label, s.apic, s.base),
+            Handler::First => first_want_by(self.monarch.x2apic(), label, s.apic, s.base),
             Handler::Relocated => {
                 relocated_want(label, self.monarch.tseg(), self.slot_at(s.smbase))
             }
@@ -165,7 +166,7 @@ impl Handlers {
 
     /// What the processor wants; `None` where no handler's row is due.
     pub fn want(&self, s: &Stand) -> Option<Want>
-        requires { s.now.apic ≤ 254 }
+        requires { s.now.apic ≤ greatest self.now.layout.x2apic }
         ensures { result ≡ want_for self.now s.now }
     {
         match self.row(s) {

@@ -11,9 +11,9 @@ use std::process::Abort;
 use std::test::Fail;
 
 // TSEG begins at 0x7f00000, and the tiles at 0x7f20000
-fn platform(alloc: Global) -> Result<Platform, NoMemory> {
+fn platform(alloc: Global, third: u32, x2apic: bool) -> Result<Platform, NoMemory> {
     Ok(Platform {
-        apic: Ids(vec![in alloc; 0, 4, 8]?),
+        apic: Ids(vec![in alloc; 0, 4, third]?),
         boot: Ids(vec![in alloc; 0, 1]?),
         low_memory: 0x8000000,
         tseg_mib: 1,
@@ -23,11 +23,13 @@ fn platform(alloc: Global) -> Result<Platform, NoMemory> {
         modern: true,
         default_smram: true,
         delivery: Delivery::Prompt,
+        x2apic,
+        ext_tseg: true,
     })
 }
 
 fn start(rt: &impl Abort, alloc: Global) -> Result<Handlers, NoMemory> {
-    let p = platform(alloc)?;
+    let p = platform(alloc, 8, false)?;
     assert!(rt; fits(&p).is_ok());
     Handlers::new(alloc, &p)
 }
@@ -83,6 +85,7 @@ fn load(addr: u32) -> Seen {
 }
 
 #[test]
+#[tactic(auto, using(hp_reloc::proofs::Fitting::few_bits))]
 fn the_row_is_that_of_the_handler_that_runs_there(rt: HostRuntime) -> Result<(), Fail> {
     let handlers = start(&rt, rt.alloc())?;
     let swap = Seen::Do(Access::Swap {
@@ -158,6 +161,7 @@ fn has_answer(want: Option<Want>, answer: Answer) -> bool
 }
 
 /// Feeds an answer to a processor at this mark. Answers how far it goes on from its SMBASE, and its base.
+#[tactic(auto, using(hp_reloc::proofs::Fitting::few_bits))]
 fn feed(rt: &impl Abort, handlers: &mut Handlers, s: &Stand, answer: Answer) -> (u32, u32)
     requires { s.now.apic ≤ 254 }
 {
@@ -206,7 +210,32 @@ fn a_processor_gets_its_smbase_and_arrives(rt: HostRuntime) -> Result<(), Fail> 
     Ok(())
 }
 
+// the high half of the first handler's interrupt command is the APIC ID then
 #[test]
+fn under_x2apic_an_smi_goes_to_the_whole_apic_id(rt: HostRuntime) -> Result<(), Fail> {
+    let alloc = rt.alloc();
+    let p = platform(alloc, 70000, true)?;
+    assert!(rt; fits(&p).is_ok());
+    let handlers = Handlers::new(alloc, &p)?;
+    let s = Stand {
+        cpu: 2,
+        apic: 70000,
+        smbase: 0x30000,
+        base: 0,
+        mark: 0x53000005,
+    };
+    let smi = Access::Icr {
+        high: 70000,
+        low: 0x200,
+    };
+    if p.x2apic {
+        assert_eq!(rt; wanted(handlers.want(&s)), Seen::Do(smi));
+    }
+    Ok(())
+}
+
+#[test]
+#[tactic(auto, using(hp_reloc::proofs::Fitting::few_bits))]
 fn a_session_of_two_processors_goes_so(rt: HostRuntime) -> Result<(), Fail> {
     let mut handlers = start(&rt, rt.alloc())?;
     handlers.features(7);
