@@ -6,7 +6,7 @@ use Rattle.hp_model.specs.declared.outcomes.BootFact.{BootFact}
 use Rattle.hp_model.specs.Platform.{IsFit}
 use Rattle.hp_model.specs.Boot.{fact_of, is_booting}
 use Rattle.hp_model.specs.Schedule.{booted, boot_fact}
-use Rattle.hp_boot.specs.Ending.{is_negotiable, hands_over, refusal_of, ended}
+use Rattle.hp_boot.specs.Ending.{is_negotiable, has_size, hands_over, refusal_of, ended}
 use Rattle.hp_boot.proofs.Places.{refusal_by}
 use Rattle.hp_boot.proofs.Form.{boot_stage}
 
@@ -25,25 +25,27 @@ fact_is f fit = ap fact_of (boot_stage f fit) ∙ fact_of-ended (refusal_of f.pl
 pub is_over : (f : File) → IsFit f.platform → is_booting (booted f).scene.state.stage ≡ false
 is_over f fit = ap is_booting (boot_stage f fit) ∙ is_booting-ended (refusal_of f.platform) f.platform.features
 
-none_refuses : (p : Platform) (modern has_default negotiable : Bool) → modern && (has_default && negotiable) ≡ true →
-    refusal_by p modern has_default negotiable ≡ None
-none_refuses p true true true h = refl
-none_refuses p true true false h = cc
-none_refuses p true false negotiable h = cc
-none_refuses p false has_default negotiable h = cc
+none_refuses : (p : Platform) (modern has_default sized negotiable : Bool) → modern && (has_default && (sized && negotiable)) ≡ true →
+    refusal_by p modern has_default sized negotiable ≡ None
+none_refuses p true true true true h = refl
+none_refuses p true true true false h = cc
+none_refuses p true true false negotiable h = cc
+none_refuses p true false sized negotiable h = cc
+none_refuses p false has_default sized negotiable h = cc
 
 pub handed_over : (f : File) → IsFit f.platform → hands_over f.platform ≡ true → boot_fact f ≡ None
-handed_over f fit h = fact_is f fit ∙ none_refuses f.platform f.platform.modern f.platform.default_smram (is_negotiable f.platform.features) h
+handed_over f fit h = fact_is f fit ∙ none_refuses f.platform f.platform.modern f.platform.default_smram (has_size f.platform) (is_negotiable f.platform.features) h
 
-some_refuses : (p : Platform) (modern has_default negotiable : Bool) →
-    refusal_by p modern has_default negotiable ≡ None →
-    modern && (has_default && negotiable) ≡ true
-some_refuses p true true true h = refl
-some_refuses p true true false h = cc
-some_refuses p true false negotiable h = cc
-some_refuses p false has_default negotiable h = cc
+some_refuses : (p : Platform) (modern has_default sized negotiable : Bool) →
+    refusal_by p modern has_default sized negotiable ≡ None →
+    modern && (has_default && (sized && negotiable)) ≡ true
+some_refuses p true true true true h = refl
+some_refuses p true true true false h = cc
+some_refuses p true true false negotiable h = cc
+some_refuses p true false sized negotiable h = cc
+some_refuses p false has_default sized negotiable h = cc
 
 pub handed_over_alone : (f : File) → IsFit f.platform → boot_fact f ≡ None → hands_over f.platform ≡ true
-handed_over_alone f fit h = some_refuses f.platform f.platform.modern f.platform.default_smram (is_negotiable f.platform.features) (sym (fact_is f fit) ∙ h)
+handed_over_alone f fit h = some_refuses f.platform f.platform.modern f.platform.default_smram (has_size f.platform) (is_negotiable f.platform.features) (sym (fact_is f fit) ∙ h)
 
 pub ruleset ends = (boot_stage, fact_is, is_over, handed_over)

@@ -1,23 +1,24 @@
 -- Accesses 1 to 4: the register block, and so the whole boot.
-use Rattle.std.proofs.Common.{◌≡◌, ℕ, Bool, true, false, ◌&&◌, not, Option, Some, None, refl, ap, ◌∙◌, if◌then◌else◌}
+use Rattle.std.proofs.Common.{◌≡◌, ℕ, Bool, true, false, ◌&&◌, not, Option, Some, None, refl, ap, subst, ◌∙◌, arith, if◌then◌else◌}
 use Rattle.std.proofs.lemmas.Bool.{cond_both, ne_eqb}
 use Rattle.hp_model.specs.declared.platforms.Platform.{Platform}
 use Rattle.hp_model.specs.declared.accesses.Access.TheVariants.{In, Out}
-use Rattle.hp_model.specs.declared.accesses.Answer.TheVariants.{Value}
+use Rattle.hp_model.specs.declared.accesses.Answer.TheVariants.{Quiet, Value}
 use Rattle.hp_model.specs.declared.outcomes.BootFact.TheVariants.{NotModern}
 use Rattle.hp_model.specs.View.{locks_start}
 use Rattle.hp_model.specs.Block.{Block, slots_from, block_start, block_write, block_read, cut, is_selected, found_from}
 use Rattle.hp_model.specs.FwCfg.{fw_cfg_start}
-use Rattle.hp_model.specs.Boot.{Stage, Boots, Refused, boot_accesses, boot_access, stage_after, stage_by}
+use Rattle.hp_model.specs.Boot.{Stage, Boots, Refused, boot_accesses, boot_access, stage_after}
 use Rattle.hp_model.specs.Image.{image}
 use Rattle.hp_model.specs.Step.{State, write_block, with_agreed, start}
 use Rattle.hp_model.specs.declared.files.File.{File}
 use Rattle.hp_model.specs.Platform.{IsFit}
-use Rattle.hp_model.specs.Schedule.{booted, scene_start}
-use Rattle.hp_boot.specs.Ending.{is_negotiable, legacy_value, end_of}
+use Rattle.hp_model.specs.Schedule.{boot_turns, booted, scene_start}
+use Rattle.hp_boot.specs.Ending.{has_size, is_negotiable, legacy_value, end_of}
 use Rattle.hp_boot.proofs.Start.{Facts, facts, no_event, legacy_shows}
 use Rattle.hp_boot.proofs.Going.{Ends, ends_refused, made}
-use Rattle.hp_boot.proofs.Places.{at_place, end_by, FromHere, goes}
+use Rattle.hp_boot.proofs.Places.{at_place, end_by, more, rest, goes, makes}
+use Rattle.hp_boot.proofs.Tail.{head_by, head_stage}
 use Rattle.hp_boot.proofs.Area.{area_end}
 
 -- 1 to 3: the register block, modern where the platform has that form
@@ -54,18 +55,18 @@ write_leaves : (s : State) (d : Block) (offset width value : ℕ) → block_writ
 write_leaves s d offset width value writes slots = rw (writes, slots, no_eject) refl
 
 module _ (p : Platform) (f : Facts p) (end : Stage) (modern : Bool) (is : p.modern ≡ modern) where
-  blocks : FromHere p (at_place p (block_by p modern) (locks_start p) (image p) (fw_cfg_start p.features) 3 0) 3 end → FromHere p (start p) 0 end
+  blocks : Ends p (more 12 (rest p)) (at_place p (block_by p modern) (locks_start p) (image p) (fw_cfg_start p.features) 3 0) end → Ends p (more 15 (rest p)) (start p) end
   unfolding boot_access boot_accesses
   blocks later =
       let at : Block → ℕ → State = λ (b : Block) (done : ℕ). at_place p b (locks_start p) (image p) (fw_cfg_start p.features) done 0 in
       let b = block_by p modern in
-      let stage : ℕ → State → State = λ (done : ℕ) (s : State). record (with_agreed s) { stage = Boots done 0 } in
-      goes p f end (start p) (at b 1) 0 0 (Out 0xcd8 4 0) refl refl refl refl
-      (ap (stage 1) (write_leaves (start p) b 0 4 0 (written p modern is) refl)) refl
-      (goes p f end (at b 1) (at b 2) 1 0 (Out 0xcd8 4 0) refl refl refl refl
-      (ap (stage 2) (write_leaves (at b 1) b 0 4 0 (written_again p modern is) refl)) refl
-      (goes p f end (at b 2) (at b 3) 2 0 (Out 0xcdd 1 0) refl refl refl refl
-      (ap (stage 3) (write_leaves (at b 2) b 5 1 0 (command_zero p modern is) refl)) refl
+      let stage : ℕ → State → State = λ (done : ℕ) (s : State). record (with_agreed s) { stage = Boots done 0; disturbed = false } in
+      goes p f end (more 14 (rest p)) (start p) (at b 1) 0 0 (Out 0xcd8 4 0) refl refl refl refl refl refl
+      (makes p f (start p) (at b 1) (Out 0xcd8 4 0) (ap (stage 1) (write_leaves (start p) b 0 4 0 (written p modern is) refl)) (head_stage p.tseg_mib 0 0 Quiet (omega arith)))
+      (goes p f end (more 13 (rest p)) (at b 1) (at b 2) 1 0 (Out 0xcd8 4 0) refl refl refl refl refl refl
+      (makes p f (at b 1) (at b 2) (Out 0xcd8 4 0) (ap (stage 2) (write_leaves (at b 1) b 0 4 0 (written_again p modern is) refl)) (head_stage p.tseg_mib 1 0 Quiet (omega arith)))
+      (goes p f end (more 12 (rest p)) (at b 2) (at b 3) 2 0 (Out 0xcdd 1 0) refl refl refl refl refl refl
+      (makes p f (at b 2) (at b 3) (Out 0xcdd 1 0) (ap (stage 3) (write_leaves (at b 2) b 5 1 0 (command_zero p modern is) refl)) (head_stage p.tseg_mib 2 0 Quiet (omega arith)))
       later))
 
 -- 4: whether the register block is modern
@@ -75,28 +76,35 @@ module _ (p : Platform) (f : Facts p) where
 
   -- the state after 4 accesses, by what the last of them read
   abbrev shown_form : Bool → ℕ → State
-  shown_form modern value = record (at_form modern 4) { stage = stage_after (Value value) (Boots 3 0) }
+  shown_form modern value = record (at_form modern 4) { stage = stage_after p.tseg_mib (Value value) (Boots 3 0) }
 
   reads_form : (modern : Bool) → p.modern ≡ modern → made p f (In 0xcd8 4) (at_form modern 3) ≡ shown_form modern (if modern then 0 else legacy_value p)
   reads_form modern is = ap (shown_form modern) (read p modern is)
 
-  refuses : shown_form false (legacy_value p) ≡ record (at_form false 4) { stage = Refused (NotModern (legacy_value p)) }
-  refuses =
-      ap (λ (none : Bool). record (at_form false 4) { stage = stage_by (if not none then Some (NotModern (legacy_value p)) else None) 3 0 (legacy_value p) })
-      (ne_eqb (legacy_value p) 0 (legacy_shows p f))
+  modern_goes : stage_after p.tseg_mib (Value 0) (Boots 3 0) ≡ Boots 4 0
+  modern_goes = head_stage p.tseg_mib 3 0 (Value 0) (omega arith)
 
-  form_end : (modern : Bool) → p.modern ≡ modern → FromHere p (at_form modern 3) 3 (end_by p modern p.default_smram (is_negotiable p.features))
+  legacy_refuses : stage_after p.tseg_mib (Value (legacy_value p)) (Boots 3 0) ≡ Refused (NotModern (legacy_value p))
+  legacy_refuses =
+      head_stage p.tseg_mib 3 0 (Value (legacy_value p)) (omega arith)
+      ∙ ap (λ (none : Bool). head_by (if not none then Some (NotModern (legacy_value p)) else None) 3 0) (ne_eqb (legacy_value p) 0 (legacy_shows p f))
+
+  form_end : (modern : Bool) → p.modern ≡ modern → Ends p (more 12 (rest p)) (at_form modern 3) (end_by p modern p.default_smram (has_size p) (is_negotiable p.features))
   unfolding boot_access boot_accesses
   form_end true is =
-      goes p f (end_by p true p.default_smram (is_negotiable p.features)) (at_form true 3) (at_form true 4) 3 0 (In 0xcd8 4) refl refl refl refl (reads_form true is) refl
+      goes p f (end_by p true p.default_smram (has_size p) (is_negotiable p.features)) (more 11 (rest p)) (at_form true 3) (at_form true 4) 3 0 (In 0xcd8 4) refl refl refl refl refl refl
+      (reads_form true is ∙ ap (λ (g : Stage). record (at_form true 4) { stage = g }) modern_goes)
       (area_end p f (block_by p true) p.default_smram refl)
   form_end false is =
-      goes p f (Refused (NotModern (legacy_value p))) (at_form false 3) (record (at_form false 4) { stage = Refused (NotModern (legacy_value p)) }) 3 0 (In 0xcd8 4) refl refl refl refl
-      (reads_form false is ∙ refuses) refl
-      (ends_refused p 23 (record (at_form false 4) { stage = Refused (NotModern (legacy_value p)) }) (NotModern (legacy_value p)) refl)
+      let refused = record (at_form false 4) { stage = Refused (NotModern (legacy_value p)) } in
+      goes p f (Refused (NotModern (legacy_value p))) (more 11 (rest p)) (at_form false 3) refused 3 0 (In 0xcd8 4) refl refl refl refl refl refl
+      (reads_form false is ∙ ap (λ (g : Stage). record (at_form false 4) { stage = g }) legacy_refuses)
+      (ends_refused p (more 11 (rest p)) refused (NotModern (legacy_value p)) refl)
 
-  pub boot_end : Ends p 27 (start p) (end_of p)
-  boot_end = blocks p f (end_of p) p.modern refl (form_end p.modern refl)
+  pub boot_end : Ends p (boot_turns p) (start p) (end_of p)
+  boot_end =
+      let turns : more 15 (rest p) ≡ boot_turns p = omega arith in
+      subst (λ (n : ℕ). Ends p n (start p) (end_of p)) turns (blocks p f (end_of p) p.modern refl (form_end p.modern refl))
 
 pub boot_stage : (f : File) → IsFit f.platform → (booted f).scene.state.stage ≡ end_of f.platform
 unfolding booted

@@ -6,6 +6,7 @@ pub mod Start
 pub mod Open
 pub mod Going
 pub mod Places
+pub mod Tail
 pub mod Transfers
 pub mod Features
 pub mod Area

@@ -7,14 +7,14 @@ use Rattle.hp_model.specs.View.{Locks, tseg_size, is_hidden, is_hole}
 use Rattle.hp_model.specs.FwCfg.{FwCfg}
 use Rattle.hp_model.specs.Transfers.{Asked, Move, nothing, to_memory, from_memory, failed, descriptor_at, ask, bytes_stored, bytes_loaded, moved, carried_out, finished, transfer}
 
--- TSEG has at most 8 MiB
-tseg_most : (esmramc : ℕ) → tseg_size esmramc * 0x100000 ≤ 0x800000
-tseg_most esmramc = grind (arith, nat_tests)
+-- TSEG leaves 8 MiB of RAM
+abbrev pub HasRoom : Locks → Type 0
+HasRoom l = tseg_size l.ext_tseg l.esmramc * 0x100000 + 0x800000 ≤ l.low_memory
 
--- of 16 MiB of RAM the lower half is hidden by the default area alone
-module _ (l : Locks) (low : 0x1000000 ≤ l.low_memory) where
+-- so the lower 8 MiB are hidden by the default area alone
+module _ (l : Locks) (room : HasRoom l) where
   shown : (x : ℕ) → x < 0x800000 → ((l.f_smbase == 2) && nat_lt 0x2ffff x) ≡ false → is_hidden l false x ≡ false
-  shown x below outside = let most = tseg_most l.esmramc in grind (arith, nat_tests, most)
+  shown x below outside = grind (arith, nat_tests, room)
 
   pub open_below : (x n : ℕ) → x + n ≤ 0x800000 → ((l.f_smbase == 2) && nat_lt 0x30000 (x + n)) ≡ false → is_hole l false x n ≡ false
   unfolding is_hole
@@ -28,8 +28,8 @@ module _ (l : Locks) (low : 0x1000000 ≤ l.low_memory) where
 abbrev pub IsOpen : Locks → Type 0
 IsOpen l = (x n : ℕ) → x + n ≤ 0x2000 → is_hole l false x n ≡ false
 
-pub IsOpen-memory : (l : Locks) → 0x1000000 ≤ l.low_memory → IsOpen l
-IsOpen-memory l low x n below = open_below l low x n (omega (arith, below)) (grind (arith, nat_tests))
+pub IsOpen-room : (l : Locks) → HasRoom l → IsOpen l
+IsOpen-room l room x n below = open_below l room x n (omega (arith, below)) (grind (arith, nat_tests))
 
 -- a move stays below 0x2000
 abbrev pub is_low : Move → Bool

@@ -1,6 +1,6 @@
 -- Processor 0 stays outside SMM while the machine boots.
 use Rattle.std.proofs.Common.{◌≡◌, ℕ, zero, suc, Bool, true, false, not, ◌==◌, ◌+◌, ◌-◌, List, [], ◌∷◌, replicate, slice_set, Option, Some, None, refl}
-use Rattle.std.specs.Prelude.{slice_index_or}
+use Rattle.std.specs.Prelude.{slice_index_or, ◌++◌, if◌then◌else◌}
 use Rattle.std.specs.List.{list_all}
 use Rattle.std.proofs.lemmas.Bool.{and_parts, cond_both, not-true, and_left}
 use Rattle.hp_model.specs.declared.platforms.Platform.{Platform}
@@ -10,7 +10,7 @@ use Rattle.hp_model.specs.declared.accesses.Access.TheVariants.{Load, Store, Swa
 use Rattle.hp_model.specs.Platform.{count_of, tile}
 use Rattle.hp_model.specs.Cpu.{is_in_smm, absent, booted, cpu_at, boot_cpus, cpus_start}
 use Rattle.hp_model.specs.Block.{block_write, ejected_by}
-use Rattle.hp_model.specs.Boot.{boot_accesses, boot_access}
+use Rattle.hp_model.specs.Boot.{block_accesses, area_accesses, pen_accesses, mark_accesses, gate_accesses, lock_accesses, feature_accesses, last_accesses, boot_accesses, boot_access}
 use Rattle.hp_model.specs.Step.{State, without_ejected, is_on_block, is_fw_cfg_data, is_fw_cfg_selector, is_dma_high, is_dma_low, write_ich9, write_port, access_effect}
 
 abbrev pub IsOutside : List Cpu → Type 0
@@ -68,10 +68,16 @@ at_calm [] k h = refl
 at_calm (a ∷ as') zero h = (and_parts (is_calm a) (list_all is_calm as') h).0
 at_calm (a ∷ as') (suc k) h = at_calm as' k (and_parts (is_calm a) (list_all is_calm as') h).1
 
--- each access of the boot is one
+-- each access of the boot is one, with a TSEG of 48 MiB or not
+all_calm : (mib supported : ℕ) (w : Bool) →
+    list_all is_calm (block_accesses ++ (area_accesses ++ (pen_accesses ++ (mark_accesses ++ (gate_accesses
+    ++ ((if w then CfgWrite 0x50 0xff ∷ CfgRead 0x50 ∷ [] else []) ++ (lock_accesses mib ++ (feature_accesses supported ++ last_accesses)))))))) ≡ true
+all_calm mib supported true = refl
+all_calm mib supported false = refl
+
 pub boot_calm : (mib supported k : ℕ) → is_calm (boot_access mib supported k) ≡ true
 unfolding boot_access boot_accesses
-boot_calm mib supported k = at_calm (boot_accesses mib supported) k refl
+boot_calm mib supported k = at_calm (boot_accesses mib supported) k (all_calm mib supported (mib == 48))
 
 IsOutside-boot : (p : Platform) (slot : ℕ) (bs : List ℕ) (cs : List Cpu) → IsOutside cs → IsOutside (boot_cpus p slot bs cs)
 unfolding boot_cpus

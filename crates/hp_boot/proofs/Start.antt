@@ -1,10 +1,10 @@
 -- A platform that fits, and its machine at the start: processor 0 runs, and no slot has an event.
-use Rattle.std.proofs.Common.{◌≡◌, ◌≢◌, ℕ, zero, suc, true, ◌==◌, ◌+◌, ◌*◌, ◌<◌, ◌≤◌, List, [], ◌∷◌, length, take, replicate, slice_set, None, refl, ap, ◌∙◌, arith, nat_lt}
-use Rattle.std.proofs.lemmas.Bool.{and_parts, ltb-true, eqb-true, false≢true}
-use Rattle.std.proofs.lemmas.Bool.Decides.{nat_tests}
+use Rattle.std.proofs.Common.{◌≡◌, ◌≢◌, ℕ, zero, suc, Bool, true, false, cond, not, ◌&&◌, ◌||◌, ◌==◌, ◌+◌, ◌*◌, ◌%◌, ◌<◌, ◌≤◌, List, [], ◌∷◌, length, take, replicate, slice_set, Option, Some, None, refl, ap, ◌∙◌, arith, nat_le, nat_lt}
+use Rattle.std.proofs.lemmas.Bool.{and_parts, leb-true, ltb-true, eqb-true, false≢true}
+use Rattle.std.specs.List.{list_all}
 use Rattle.hp_model.specs.declared.platforms.Platform.{Platform}
 use Rattle.hp_model.specs.declared.processors.Cpu.{Cpu}
-use Rattle.hp_model.specs.Platform.{IsFit, tile, ascends_from, ascends_from_zero}
+use Rattle.hp_model.specs.Platform.{IsFit, tile, ascends_from, ascends_from_zero, boot_fits, count_of, counts_fit, features_fit, has_room, ids_fit, memory_fits, most_tiles, tiles_fit, tseg_fits}
 use Rattle.hp_model.specs.Cpu.{absent, booted, cpu_at, is_free, boot_cpus, cpus_start}
 use Rattle.hp_model.specs.Block.{bitmap, cut, first_event, first_places, is_in, slots_from}
 use Rattle.hp_boot.specs.Ending.{legacy_value}
@@ -13,16 +13,53 @@ use Rattle.hp_boot.specs.Ending.{legacy_value}
 pub record Facts (p : Platform) : Type 0 where
   pub features : p.features ≤ 7
   pub memory : 0x1000000 ≤ p.low_memory
+  pub room : (p.tseg_mib == 48) ≡ true → 0x4000000 ≤ p.low_memory
   pub first : ascends_from_zero p.boot ≡ true
   pub some : 0 < length p.apic
 
+-- a rule that no platform that fits breaks, and the rules after it
+passed : (b : Bool) (n : ℕ) (rest : Option ℕ) → cond (not b) (Some n) rest ≡ None → (b ≡ true) × (rest ≡ None)
+passed true n rest e = (refl, e)
+passed false n rest e = absurd cc
+
+-- rules 2 and 4 to 8
+record Rules (p : Platform) : Type 0 where
+  counts : counts_fit p ≡ true
+  boot : boot_fits p ≡ true
+  memory : memory_fits p ≡ true
+  tiles : tiles_fit p ≡ true
+  features : features_fit p ≡ true
+
+rules_of : (p : Platform) → IsFit p → Rules p
+rules_of p fit =
+    let two = passed (counts_fit p) 2 _ fit in
+    let three = passed (ids_fit p) 3 _ two.1 in
+    let four = passed (boot_fits p) 4 _ three.1 in
+    let five = passed (memory_fits p) 5 _ four.1 in
+    let six = passed (tseg_fits p) 6 _ five.1 in
+    let seven = passed (tiles_fit p) 7 _ six.1 in
+    let eight = passed (features_fit p) 8 _ seven.1 in
+    record { counts = two.0; boot = four.0; memory = five.0; tiles = seven.0; features = eight.0 }
+
+room_of : (p : Platform) → tiles_fit p ≡ true → (p.tseg_mib == 48) ≡ true → 0x4000000 ≤ p.low_memory
+room_of p tiles size =
+    let fits = and_parts (nat_le (count_of p) (most_tiles p.tseg_mib)) (has_room p) (and_parts (tseg_fits p) (nat_le (count_of p) (most_tiles p.tseg_mib) && has_room p) tiles).1 in
+    by (p.tseg_mib == 48) size fits.1
+  where
+    by : (b : Bool) → b ≡ true → (not b || nat_le 0x4000000 p.low_memory) ≡ true → 0x4000000 ≤ p.low_memory
+    by true e r = leb-true 0x4000000 p.low_memory r
+    by false e r = absurd cc
+
 pub facts : (p : Platform) → IsFit p → Facts p
 facts p fit =
+    let r = rules_of p fit in
+    let size = and_parts (p.low_memory % 0x100000 == 0) (nat_le 0x1000000 p.low_memory && nat_le p.low_memory 0x80000000) r.memory in
     record {
-      features = grind (arith, nat_tests);
-      memory = grind (arith, nat_tests);
-      first = grind (arith, nat_tests);
-      some = grind (arith, nat_tests);
+      features = leb-true p.features 7 r.features;
+      memory = leb-true 0x1000000 p.low_memory (and_parts (nat_le 0x1000000 p.low_memory) (nat_le p.low_memory 0x80000000) size.1).0;
+      room = room_of p r.tiles;
+      first = (and_parts (ascends_from_zero p.boot) (list_all (λ k. nat_lt k (count_of p)) p.boot) r.boot).0;
+      some = ltb-true 0 (count_of p) (and_parts (nat_lt 0 (count_of p)) (nat_le (count_of p) 512) r.counts).0;
     }
 
 -- boot processors in places above 0 leave processor 0
@@ -50,9 +87,13 @@ first_runs p (b ∷ bs) (suc n) first some =
     above_zero p 0 (0 + 1) bs (slice_set (replicate (suc n) absent) b (booted (tile p 0))) parts.1
     ∙ ap (λ (k : ℕ). cpu_at (slice_set (replicate (suc n) absent) k (booted (tile p 0))) 0) (eqb-true b 0 parts.0)
 
-pub starts_free : (p : Platform) → Facts p → is_free (cpu_at (cpus_start p) 0) ≡ true
+booted_free : (late : Bool) (smbase : ℕ) → is_free late (booted smbase) ≡ true
+booted_free true smbase = refl
+booted_free false smbase = refl
+
+pub starts_free : (p : Platform) (late : Bool) → Facts p → is_free late (cpu_at (cpus_start p) 0) ≡ true
 unfolding cpus_start
-starts_free p f = ap is_free (first_runs p p.boot (length p.apic) f.first f.some)
+starts_free p late f = ap (is_free late) (first_runs p p.boot (length p.apic) f.first f.some) ∙ booted_free late (tile p 0)
 
 -- no slot has an event
 pub no_event : (k : ℕ) (apic boot : List ℕ) → first_event (slots_from k apic boot) ≡ None

@@ -1,8 +1,7 @@
 -- A refused boot ends with the access that read the fact's value.
-use Rattle.std.proofs.Common.{◌≡◌, ◌≢◌, ◌⊎◌, inl, inr, ℕ, zero, suc, Bool, true, false, not, ◌==◌, ◌+◌, ◌%◌, List, [], ◌∷◌, replicate, Option, Some, None, refl, sym, ap, subst, ◌∙◌, arith, if◌then◌else◌}
+use Rattle.std.proofs.Common.{◌≡◌, ◌≢◌, ◌⊎◌, inl, inr, ℕ, zero, suc, Bool, true, false, not, ◌&&◌, ◌==◌, ◌+◌, ◌%◌, ◌<◌, List, [], ◌∷◌, replicate, Option, Some, None, refl, sym, ap, subst, ◌∙◌, arith, if◌then◌else◌}
 use Rattle.std.proofs.lemmas.Option.{same_Some, none-some}
-use Rattle.std.proofs.lemmas.Bool.{eqb-false, cond_both}
-use Rattle.std.proofs.lemmas.Bool.Decides.{nat_tests}
+use Rattle.std.proofs.lemmas.Bool.{eqb-false, eqb-true, cond_both}
 use Rattle.hp_model.specs.declared.accesses.Access.TheVariants.{In, CfgRead}
 use Rattle.hp_model.specs.declared.platforms.Platform.{Platform}
 use Rattle.hp_model.specs.declared.accesses.Access.{Access}
@@ -15,15 +14,17 @@ use Rattle.hp_model.specs.declared.entries.Event.TheVariants.{Do}
 use Rattle.hp_model.specs.declared.entries.Entry.{Entry}
 use Rattle.hp_model.specs.declared.files.File.{File}
 use Rattle.hp_model.specs.declared.outcomes.BootFact.{BootFact}
-use Rattle.hp_model.specs.declared.outcomes.BootFact.TheVariants.{NotModern, NoDefaultSmram, NotNegotiated}
+use Rattle.hp_model.specs.declared.outcomes.BootFact.TheVariants.{NotModern, NoDefaultSmram, NotNegotiated, NoExtTseg}
 use Rattle.hp_model.specs.declared.processors.Cpu.{Cpu}
 use Rattle.hp_model.specs.declared.processors.Mode.{Mode}
 use Rattle.hp_model.specs.declared.processors.Mode.TheVariants.{Wait, Running, Halted, Smm}
 use Rattle.hp_model.specs.Cpu.{is_in_smm, address_in, smm_address}
-use Rattle.hp_model.specs.Boot.{Stage, Boots, Refused, Handed, boot_accesses, boot_access, boot_refusal, value_in, stage_after, stage_by, fact_of}
+use Rattle.hp_model.specs.Boot.{Stage, Boots, Refused, Handed, boot_accesses, boot_access, boot_refusal, ext_count, value_in, stage_after, stage_by, fact_of}
 use Rattle.hp_model.specs.Step.{State, After, at, effect_of, answer_to, firmware_led, after, step}
 use Rattle.hp_model.specs.Schedule.{Scene, Made, makes_none, both_make, made_by, event_of, entry_of, act, act_all, booted, boot_fact, boot_turns, scene_start}
 use Rattle.hp_boot.specs.Ending.{reads_fact, IsRefusing, StopsAt}
+use Rattle.hp_boot.proofs.Parts.{at_ext, at_ok}
+use Rattle.hp_boot.proofs.Tail.{head_fact, head_refusal, ok_refusal, wide_refusal}
 use Rattle.hp_boot.proofs.Turns.{all_refused, all_handed, step_either, event_boots, act_boots}
 use Rattle.hp_boot.proofs.Outside.{IsOutside, IsOutside-access, IsOutside-start, boot_calm}
 
@@ -42,36 +43,70 @@ found a wanted made fact value is e = by_test (value == wanted) refl e
     by_test true same e = cc
     by_test false other e = subst (λ (f : BootFact). Reads a (Value value) f) (same_Some (made value) fact e) (is value (eqb-false value wanted other))
 
-where_refused : (done value : ℕ) (fact : BootFact) → boot_refusal done value ≡ Some fact → (done ≡ 3) ⊎ ((done ≡ 5) ⊎ (done ≡ 25))
-where_refused done value fact e = grind (arith, nat_tests)
+-- where a value is refused
+abbrev WhereRefused : ℕ → ℕ → Type 0
+WhereRefused mib done = (done ≡ 3) ⊎ ((done ≡ 5) ⊎ (((mib ≡ 48) × (done ≡ 16)) ⊎ (done ≡ 25 + ext_count mib)))
+
+where_refused : (mib done value : ℕ) (fact : BootFact) → boot_refusal mib done value ≡ Some fact → WhereRefused mib done
+where_refused mib done value fact e = by (done == 3) refl (done == 5) refl (mib == 48) refl (done == 16) refl (done == 25 + ext_count mib) refl e
+  where
+    by : (a : Bool) → (done == 3) ≡ a → (b : Bool) → (done == 5) ≡ b → (c : Bool) → (mib == 48) ≡ c → (d : Bool) → (done == 16) ≡ d → (g : Bool) → (done == 25 + ext_count mib) ≡ g →
+        (if a && not (value == 0) then Some (NotModern value)
+        else if b && not (value == 1) then Some (NoDefaultSmram value)
+        else if (c && d) && not (value == 0x30) then Some (NoExtTseg value)
+        else if g && not (value == 1) then Some (NotNegotiated value)
+        else None) ≡ Some fact → WhereRefused mib done
+    by true h b i c j d k g l e = inl (eqb-true done 3 h)
+    by false h true i c j d k g l e = inr (inl (eqb-true done 5 i))
+    by false h false i true j true k g l e = inr (inr (inl (eqb-true mib 48 j, eqb-true done 16 k)))
+    by false h false i true j false k true l e = inr (inr (inr (eqb-true done (25 + ext_count mib) l)))
+    by false h false i true j false k false l e = absurd cc
+    by false h false i false j d k true l e = inr (inr (inr (eqb-true done (25 + ext_count mib) l)))
+    by false h false i false j d k false l e = absurd cc
 
 module _ (in_smm : Bool) (s : State) (fact : BootFact) (mib supported : ℕ) where
   abbrev answer : ℕ → Answer
   answer done = answer_to in_smm (boot_access mib supported done) s
 
   abbrev Claim : ℕ → Type 0
-  Claim done = boot_refusal done (value_in (answer done)) ≡ Some fact → Reads (boot_access mib supported done) (answer done) fact
+  Claim done = boot_refusal mib done (value_in (answer done)) ≡ Some fact → Reads (boot_access mib supported done) (answer done) fact
+
+  -- what is read there, where the access is this one
+  abbrev ClaimOf : Access → ℕ → Type 0
+  ClaimOf a done = boot_refusal mib done (value_in (answer_to in_smm a s)) ≡ Some fact → Reads a (answer_to in_smm a s) fact
+
+  claimed : (a : Access) (done : ℕ) → boot_access mib supported done ≡ a → ClaimOf a done → Claim done
+  claimed a done is h = subst (λ (b : Access). ClaimOf b done) (sym is) h
+
+  -- the refusal of the value, where the place is known
+  refused_head : (done : ℕ) (v : ℕ) → done < 16 → boot_refusal mib done v ≡ Some fact → head_fact done v ≡ Some fact
+  refused_head done v early e = sym (head_refusal mib done v early) ∙ e
 
   at_block : Claim 3
   unfolding boot_access boot_accesses
-  at_block e = found (In 0xcd8 4) 0 NotModern fact _ (λ v ne. record { same = refl; refuses = ne }) e
+  at_block e = found (In 0xcd8 4) 0 NotModern fact _ (λ v ne. record { same = refl; refuses = ne }) (refused_head 3 _ (omega arith) e)
 
   at_area : Claim 5
   unfolding boot_access boot_accesses
-  at_area e = found (CfgRead 0x9c) 1 NoDefaultSmram fact _ (λ v ne. record { same = refl; refuses = ne }) e
+  at_area e = found (CfgRead 0x9c) 1 NoDefaultSmram fact _ (λ v ne. record { same = refl; refuses = ne }) (refused_head 5 _ (omega arith) e)
 
-  at_features : Claim 25
-  unfolding boot_access boot_accesses
-  at_features e = found (In 0x511 1) 1 NotNegotiated fact _ (λ v ne. record { same = refl; refuses = ne }) e
+  at_size : mib ≡ 48 → Claim 16
+  at_size size = claimed (CfgRead 0x50) 16 (at_ext mib supported 16 size refl) (λ e. found (CfgRead 0x50) 0x30 NoExtTseg fact _ (λ v ne. record { same = refl; refuses = ne }) (sym (wide_refusal mib _ size) ∙ e))
+
+  at_features : Claim (25 + ext_count mib)
+  at_features =
+      claimed (In 0x511 1) (25 + ext_count mib) (at_ok mib supported (25 + ext_count mib) refl)
+      (λ e. found (In 0x511 1) 1 NotNegotiated fact _ (λ v ne. record { same = refl; refuses = ne }) (sym (ok_refusal mib _) ∙ e))
 
   -- the access that read the value that the boot is refused for
   reads : (done : ℕ) → Claim done
-  reads done e = by_place (where_refused done (value_in (answer done)) fact e)
+  reads done e = by_place (where_refused mib done (value_in (answer done)) fact e)
     where
-      by_place : (done ≡ 3) ⊎ ((done ≡ 5) ⊎ (done ≡ 25)) → Reads (boot_access mib supported done) (answer done) fact
+      by_place : WhereRefused mib done → Reads (boot_access mib supported done) (answer done) fact
       by_place (inl is) = subst Claim (sym is) at_block e
       by_place (inr (inl is)) = subst Claim (sym is) at_area e
-      by_place (inr (inr is)) = subst Claim (sym is) at_features e
+      by_place (inr (inr (inl is))) = subst Claim (sym is.1) (at_size is.0) e
+      by_place (inr (inr (inr is))) = subst Claim (sym is) at_features e
 
 no_address : (c : Cpu) → is_in_smm c.mode ≡ false → smm_address c ≡ None
 no_address c h = by_mode c.mode c.present h
@@ -102,8 +137,8 @@ module _ (p : Platform) (w : Scene) (fact : BootFact) (done supported : ℕ) (bo
   abbrev value : ℕ
   value = value_in then_after.answer
 
-  stage_then : then_after.state.stage ≡ stage_by (boot_refusal done value) done supported value
-  stage_then = ap (stage_after then_after.answer) boots
+  stage_then : then_after.state.stage ≡ stage_by p.tseg_mib (boot_refusal p.tseg_mib done value) done supported value
+  stage_then = ap (stage_after p.tseg_mib then_after.answer) boots
 
   outside_then : IsOutside then_after.state.cpus
   outside_then =
@@ -115,7 +150,7 @@ module _ (p : Platform) (w : Scene) (fact : BootFact) (done supported : ℕ) (bo
       ap (λ (e : Event). entry_of w e then_after) (event_boots p w done supported boots)
       ∙ ap (λ (a : Option ℕ). record { event = Do 0 next; at = a; answer = then_after.answer }) (no_address (at w.state 0) outside)
 
-  stops_here : boot_refusal done value ≡ Some fact → StopsAt fact turn.entries
+  stops_here : boot_refusal p.tseg_mib done value ≡ Some fact → StopsAt fact turn.entries
   stops_here e =
       let found = reads (is_in_smm (at w.state 0).mode) w.state fact p.tseg_mib supported done e in
       record { front = []; stops = ap (λ (x : Entry). x ∷ []) (entry_then ∙ found.same); refuses = found.refuses }
@@ -124,31 +159,31 @@ module _ (p : Platform) (w : Scene) (fact : BootFact) (done supported : ℕ) (bo
     abbrev both : Made
     both = both_make turn (act_all p turn.scene more)
 
-    refused_here : (f : BootFact) → boot_refusal done value ≡ Some f → Stops fact both
+    refused_here : (f : BootFact) → boot_refusal p.tseg_mib done value ≡ Some f → Stops fact both
     refused_here f e h =
-        let refused : then_after.state.stage ≡ Refused f = stage_then ∙ ap (λ (r : Option BootFact). stage_by r done supported value) e in
+        let refused : then_after.state.stage ≡ Refused f = stage_then ∙ ap (λ (r : Option BootFact). stage_by p.tseg_mib r done supported value) e in
         let all : both ≡ turn = ap (both_make turn) (all_refused p turn.scene f more refused) in
         let same : f ≡ fact = same_Some f fact (sym (ap fact_of refused) ∙ sym (ap (λ (m : Made). fact_of m.scene.state.stage) all) ∙ h) in
         subst (λ (m : Made). StopsAt fact m.entries) (sym all) (stops_here (e ∙ ap Some same))
 
-    goes_on : boot_refusal done value ≡ None → Stops fact both
-    goes_on e h = by_last (done == 26) refl
+    goes_on : boot_refusal p.tseg_mib done value ≡ None → Stops fact both
+    goes_on e h = by_last (done == 26 + ext_count p.tseg_mib) refl
       where
-        stage_is : (b : Bool) → (done == 26) ≡ b →
-            then_after.state.stage ≡ (if b then Handed (supported % 8) else Boots (done + 1) (if done == 20 then value else supported))
+        stage_is : (b : Bool) → (done == 26 + ext_count p.tseg_mib) ≡ b →
+            then_after.state.stage ≡ (if b then Handed (supported % 8) else Boots (done + 1) (if done == 20 + ext_count p.tseg_mib then value else supported))
         stage_is b is =
             stage_then
-            ∙ ap (λ (r : Option BootFact). stage_by r done supported value) e
-            ∙ ap (λ (c : Bool). if c then Handed (supported % 8) else Boots (done + 1) (if done == 20 then value else supported)) is
+            ∙ ap (λ (r : Option BootFact). stage_by p.tseg_mib r done supported value) e
+            ∙ ap (λ (c : Bool). if c then Handed (supported % 8) else Boots (done + 1) (if done == 20 + ext_count p.tseg_mib then value else supported)) is
 
-        by_last : (b : Bool) → (done == 26) ≡ b → StopsAt fact both.entries
+        by_last : (b : Bool) → (done == 26 + ext_count p.tseg_mib) ≡ b → StopsAt fact both.entries
         by_last true last = absurd (none-some fact (sym (ap fact_of (all_handed p turn.scene (supported % 8) more (stage_is true last))) ∙ h))
-        by_last false on = stops_more _ fact _ (later (done + 1) (if done == 20 then value else supported) (stage_is false on) h)
+        by_last false on = stops_more _ fact _ (later (done + 1) (if done == 20 + ext_count p.tseg_mib then value else supported) (stage_is false on) h)
 
     stops_then : Stops fact both
-    stops_then = by_refusal (boot_refusal done value) refl
+    stops_then = by_refusal (boot_refusal p.tseg_mib done value) refl
       where
-        by_refusal : (r : Option BootFact) → boot_refusal done value ≡ r → Stops fact both
+        by_refusal : (r : Option BootFact) → boot_refusal p.tseg_mib done value ≡ r → Stops fact both
         by_refusal (Some f) e = refused_here f e
         by_refusal None e = goes_on e
 
@@ -179,4 +214,4 @@ stops (suc n) p w fact done supported boots outside h =
 
 pub boot_stops : (f : File) (fact : BootFact) → boot_fact f ≡ Some fact → StopsAt fact (booted f).entries
 unfolding boot_fact booted
-boot_stops f fact h = stops boot_turns f.platform (scene_start f) fact 0 0 refl (IsOutside-start f.platform) h
+boot_stops f fact h = stops (boot_turns f.platform) f.platform (scene_start f) fact 0 0 refl (IsOutside-start f.platform) h

@@ -10,7 +10,7 @@ use Rattle.hp_boot.proofs.Open.{is_low}
 
 -- 16 MiB of RAM with nothing locked
 abbrev pub bare : Locks
-bare = record { low_memory = 0x1000000; has_default = false; f_smbase = 0; smram = 0; esmramc = 0 }
+bare = record { low_memory = 0x1000000; has_default = false; f_smbase = 0; smram = 0; esmramc = 0; has_ext = false; ext_tseg = 0 }
 
 -- the descriptor that asks for the supported features, in memory
 abbrev pub asks : List Write → List Write

@@ -49,7 +49,7 @@ act_handed p w requested a at = by_step (step_either p w.state (event_of p w a))
     by_step (inl none) = ap (λ (o : Option After). (made_by p w a o).scene.state.stage) none ∙ at
     by_step (inr some) =
         ap (λ (o : Option After). (made_by p w a o).scene.state.stage) some
-        ∙ ap (stage_after (answer_of w.state (event_of p w a))) at
+        ∙ ap (stage_after p.tseg_mib (answer_of w.state (event_of p w a))) at
 
 pub all_handed : (p : Platform) (w : Scene) (requested : ℕ) (as' : List Actor) → w.state.stage ≡ Handed requested → (act_all p w as').scene.state.stage ≡ Handed requested
 unfolding act_all

@@ -2,11 +2,11 @@
 
 ghost use Rattle.std.specs.Prelude.{◌≡◌, true, ◌<◌};
 ghost use Rattle.hp_model.specs.Platform.{IsFit};
-ghost use Rattle.hp_model.specs.Boot.{boot_start, is_booting, boot_next, boot_refusal, value_in, stage_after, stage_by};
+ghost use Rattle.hp_model.specs.Boot.{boot_count, boot_start, is_booting, boot_next, boot_refusal, value_in, stage_after, stage_by};
 ghost use Rattle.hp_model.specs.Fitting.{FitsAccess};
 ghost use Rattle.hp_boot.specs.Booting.{stage_view, told_of, IsBefore, IsRead};
 
-use crate::table::access;
+use crate::table::{access, ext_count};
 use hp_model::{Access, Answer, BootFact, Platform};
 use std::marker::Model;
 
@@ -45,7 +45,7 @@ impl Model for Boot {
 
     ghost view = { λ b. record { mib = b.tseg_mib; stage = model.stage_view b.place } };
 
-    ghost invariant = { λ b. model.IsBefore b.place };
+    ghost invariant = { λ b. model.IsBefore b.tseg_mib b.place };
 }
 
 /// The value in an answer, 0 where there is none.
@@ -59,30 +59,36 @@ fn value_of(answer: Answer) -> u64
 }
 
 /// What the value is refused for that the access after `done` accesses read.
-fn refusal(done: u8, value: u64) -> Option<BootFact>
-    requires { IsRead done value }
-    ensures { result ≡ boot_refusal done value }
+fn refusal(mib: u32, done: u8, value: u64) -> Option<BootFact>
+    requires { IsRead mib done value }
+    ensures { result ≡ boot_refusal mib done value }
 {
-    match (done, value) {
-        (3, 1..) => Some(BootFact::NotModern(value as u32)),
-        (5, 0 | 2..) => Some(BootFact::NoDefaultSmram(value as u8)),
-        (25, 0 | 2..) => Some(BootFact::NotNegotiated(value as u8)),
-        _ => None,
+    if done == 3 && value != 0 {
+        Some(BootFact::NotModern(value as u32))
+    } else if done == 5 && value != 1 {
+        Some(BootFact::NoDefaultSmram(value as u8))
+    } else if mib == 48 && done == 16 && value != 0x30 {
+        Some(BootFact::NoExtTseg(value as u8))
+    } else if done == 25 + ext_count(mib) && value != 1 {
+        Some(BootFact::NotNegotiated(value as u8))
+    } else {
+        None
     }
 }
 
 /// Where the boot stands once the access after `done` accesses read `value`.
-fn after(done: u8, supported: u64, value: u64) -> Place
-    requires before { done < 27 }
-    requires read { IsRead done value }
-    ensures stage { stage_view result ≡ stage_by (boot_refusal done value) done supported value }
-    ensures before { IsBefore result }
+fn after(mib: u32, done: u8, supported: u64, value: u64) -> Place
+    requires before { done < boot_count mib }
+    requires read { IsRead mib done value }
+    ensures stage { stage_view result ≡ stage_by mib (boot_refusal mib done value) done supported value }
+    ensures before { IsBefore mib result }
 {
-    match refusal(done, value) {
+    let ext = ext_count(mib);
+    match refusal(mib, done, value) {
         Some(fact) => Place::Refused(fact),
-        None if done == 26 => Place::Handed(supported % 8),
-        None if done == 20 => Place::Boots {
-            done: 21,
+        None if done == 26 + ext => Place::Handed(supported % 8),
+        None if done == 20 + ext => Place::Boots {
+            done: done + 1,
             supported: value,
         },
         None => Place::Boots {
@@ -122,11 +128,11 @@ impl Boot {
     pub fn feed(&mut self, answer: Answer) -> BootStage
         requires booting { is_booting self.old.stage ≡ true }
         requires fits { FitsAccess (boot_next self.old.mib self.old.stage) answer }
-        ensures step { self.new ≡ record self.old { stage = stage_after answer self.old.stage } }
+        ensures step { self.new ≡ record self.old { stage = stage_after self.old.mib answer self.old.stage } }
         ensures told { result ≡ told_of self.new.stage }
     {
         if let Place::Boots { done, supported } = self.place {
-            self.place = after(done, supported, value_of(answer));
+            self.place = after(self.tseg_mib, done, supported, value_of(answer));
         }
         self.stage()
     }

@@ -11,9 +11,9 @@ ghost use Rattle.hp_model.specs.Step.{State, step};
 ghost use Rattle.hp_model.specs.Schedule.{booted, boot_fact};
 ghost use Rattle.hp_boot.specs.Ending.{hands_over, refusal_of, end_of, StopsAt};
 
-/// On each platform that fits the boot is over after its 27 turns, with the fact that the platform says, or handed over with
-/// all supported features requested. So a platform is handed over that is modern, whose default area can be locked and whose
-/// features negotiate.
+/// On each platform that fits the boot is over after its 27 turns, 29 with a TSEG of 48 MiB, with the fact that the platform says, or
+/// handed over with all supported features requested. So a platform is handed over that is modern, whose default area can be
+/// locked, whose TSEG can have its size and whose features negotiate.
 #[tactic(auto, using(crate::proofs::Ends::ends))]
 pub fn boot_ends()
     ensures stage { (f : File) → IsFit f.platform → (booted f).scene.state.stage ≡ end_of f.platform }
@@ -35,7 +35,7 @@ pub fn nothing_steps_after_a_refusal()
 {}
 
 /// A boot that is refused ends with the access that read the fact's value, on processor 0 outside SMM, and the value isn't
-/// the one that the boot goes on with: 0 of command data 2, 1 of register 9c and of features-ok.
+/// the one that the boot goes on with: 0 of command data 2, 1 of register 9c and of features-ok, 30 of register 50.
 #[tactic(auto, using(crate::proofs::Stops::boot_stops))]
 pub fn boot_stops_at_its_fact()
     ensures { (f : File) (fact : BootFact) → boot_fact f ≡ Some fact → StopsAt fact (booted f).entries }

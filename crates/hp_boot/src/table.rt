@@ -1,9 +1,10 @@
-//! The 27 accesses of the boot sequence (own rule), by number.
+//! The accesses of the boot sequence (own rule), by number: 27, and 29 with a TSEG of 48 MiB.
 
-ghost use Rattle.std.specs.Prelude.{◌≡◌, ◌<◌, slice_index_or};
+ghost use Rattle.std.specs.Prelude.{◌≡◌, ℕ, ◌<◌, ◌≤◌, slice_index_or};
 ghost use Rattle.hp_model.specs.declared.accesses.Access.TheVariants as access;
 ghost use Rattle.hp_model.specs.Labels.{mark_of};
-ghost use Rattle.hp_model.specs.Boot.{tseg_enabled, block_accesses, area_accesses, mark_accesses, lock_accesses, feature_accesses, boot_access};
+ghost use Rattle.hp_model.specs.Boot.{tseg_enabled, block_accesses, area_accesses, mark_accesses, gate_accesses, ext_accesses, ext_count as count_of_ext, lock_accesses, feature_accesses, boot_access, boot_count};
+ghost use Rattle.hp_boot.specs.Booting.{tail_accesses};
 
 use hp_image::mark;
 use hp_model::{Access, Label};
@@ -82,26 +83,55 @@ fn mark_access(place: u8) -> Access
     }
 }
 
-/// Register 9e for a TSEG of 1, 2 or 8 MiB: T_EN and the size.
+/// The gate is closed, and the default area is locked.
+fn gate_access(place: u8) -> Access
+    ensures { result ≡ slice_index_or gate_accesses place access.Nop }
+{
+    match place {
+        0 => store(0x30000, 8, 0xffffffffffffffff),
+        1 => cfg_write(0x9c, 0x02),
+        _ => Access::Nop,
+    }
+}
+
+/// A TSEG of 48 MiB is asked for, and register 50 tells whether there can be one.
+fn ext_access(place: u8) -> Access
+    ensures { result ≡ slice_index_or (ext_accesses 48) place access.Nop }
+{
+    match place {
+        0 => cfg_write(0x50, 0xff),
+        1 => Access::CfgRead { reg: 0x50 },
+        _ => Access::Nop,
+    }
+}
+
+/// How many accesses a TSEG of so many MiB makes more.
+pub fn ext_count(mib: u32) -> u8
+    ensures value { result ≡ count_of_ext mib }
+    ensures few { result ≤ 2 }
+{
+    if mib == 48 { 2 } else { 0 }
+}
+
+/// Register 9e for a TSEG of 1, 2, 8 or 48 MiB: T_EN and the size.
 fn esmramc(mib: u32) -> u8
     ensures { result ≡ tseg_enabled mib }
 {
     match mib {
         1 => 1,
         2 => 3,
-        _ => 5,
+        8 => 5,
+        _ => 7,
     }
 }
 
-/// The gate is closed, and the default area and TSEG are locked.
+/// TSEG is locked.
 fn lock_access(mib: u32, place: u8) -> Access
     ensures { result ≡ slice_index_or (lock_accesses mib) place access.Nop }
 {
     match place {
-        0 => store(0x30000, 8, 0xffffffffffffffff),
-        1 => cfg_write(0x9c, 0x02),
-        2 => cfg_write(0x9e, esmramc(mib)),
-        3 => cfg_write(0x9d, 0x18),
+        0 => cfg_write(0x9e, esmramc(mib)),
+        1 => cfg_write(0x9d, 0x18),
         _ => Access::Nop,
     }
 }
@@ -125,11 +155,11 @@ fn feature_access(supported: u64, place: u8) -> Access
     }
 }
 
-/// The access after `done` accesses, with a TSEG of `mib` MiB, where access 21 answered `supported`.
-#[tactic(auto, using(crate::proofs::Parts::parts))]
-pub fn access(mib: u32, supported: u64, done: u8) -> Access
-    requires { done < 27 }
-    ensures { result ≡ boot_access mib supported done }
+/// The first 15 accesses.
+#[tactic(auto, using(crate::proofs::Parts::heads))]
+fn head_access(done: u8) -> Access
+    requires { done < 15 }
+    ensures { (mib supported : ℕ) → result ≡ boot_access mib supported done }
 {
     match done {
         0..=3 => block_access(done),
@@ -137,9 +167,36 @@ pub fn access(mib: u32, supported: u64, done: u8) -> Access
         // the pen's mark
         6 => store(0x9f000, 4, 0x4e4550),
         7..=12 => mark_access(done - 7),
-        13..=16 => lock_access(mib, done - 13),
-        17..=25 => feature_access(supported, done - 17),
+        _ => gate_access(done - 13),
+    }
+}
+
+/// The last 12 accesses.
+#[tactic(auto, using(crate::proofs::Parts::tails))]
+fn tail_access(mib: u32, supported: u64, place: u8) -> Access
+    requires { place < 12 }
+    ensures { result ≡ slice_index_or (tail_accesses mib supported) place access.Nop }
+{
+    match place {
+        0..=1 => lock_access(mib, place),
+        2..=10 => feature_access(supported, place - 2),
         // SMIs are enabled: GBL_SMI_EN and APMC_EN
         _ => port_write(0x630, 4, 0x21),
+    }
+}
+
+/// The access after `done` accesses, with a TSEG of `mib` MiB, where access 21 answered `supported`.
+#[tactic(auto, using(crate::proofs::Parts::parts))]
+pub fn access(mib: u32, supported: u64, done: u8) -> Access
+    requires { done < boot_count mib }
+    ensures { result ≡ boot_access mib supported done }
+{
+    let tail = 15 + ext_count(mib);
+    if done < 15 {
+        head_access(done)
+    } else if done < tail {
+        ext_access(done - 15)
+    } else {
+        tail_access(mib, supported, done - tail)
     }
 }

@@ -22,6 +22,8 @@ fn platform(alloc: Global, tseg_mib: u32) -> Result<Platform, NoMemory> {
         modern: true,
         default_smram: true,
         delivery: Delivery::Prompt,
+        x2apic: false,
+        ext_tseg: true,
     })
 }
 
@@ -102,6 +104,20 @@ fn rows(esmramc: u8, supported: u64, requested: u64, ok: u64) -> [(Access, Answe
         port_read(0x511, 1, ok),
         port_write(0x630, 4, 0x21),
     ]
+}
+
+/// Those of a boot with a TSEG of 48 MiB: `ext` is what register 50 reads.
+fn wide_rows(ext: u64) -> [(Access, Answer); 29] {
+    let narrow = rows(7, 7, 7, 1);
+    let mut wide = [cfg_write(0x50, 0xff); 29];
+    for place in 0..15usize {
+        wide[place] = narrow[place];
+    }
+    wide[16] = (Access::CfgRead { reg: 0x50 }, Answer::Value(ext));
+    for place in 15..27usize {
+        wide[place + 2] = narrow[place];
+    }
+    wide
 }
 
 /// Feeds the answer to the access that the boot is to want.
@@ -185,6 +201,42 @@ fn register_9e_tells_the_size_of_tseg(rt: HostRuntime) -> Result<(), Fail> {
         let stage = boot_through(&rt, rt.alloc(), tseg_mib, &all, 27)?;
         assert_eq!(rt; stage, BootStage::Handed(3), "{tseg_mib} MiB");
     }
+    Ok(())
+}
+
+#[test]
+fn a_tseg_of_48_mib_is_handed_over_by_the_29th_access(rt: HostRuntime) -> Result<(), Fail> {
+    let all = wide_rows(0x30);
+    let before = boot_through(&rt, rt.alloc(), 48, &all, 28)?;
+    assert_eq!(rt; before, BootStage::More);
+    let after = boot_through(&rt, rt.alloc(), 48, &all, 29)?;
+    assert_eq!(rt; after, BootStage::Handed(7));
+    Ok(())
+}
+
+#[test]
+fn a_tseg_of_48_mib_that_there_is_not_refuses(rt: HostRuntime) -> Result<(), Fail> {
+    for value in [0u8, 1, 0x2f, 0x31, 0xff] {
+        let all = wide_rows(u64::from(value));
+        let before = boot_through(&rt, rt.alloc(), 48, &all, 16)?;
+        assert_eq!(rt; before, BootStage::More, "value {value}");
+        let after = boot_through(&rt, rt.alloc(), 48, &all, 17)?;
+        assert_eq!(rt;
+            after,
+            BootStage::Refused(BootFact::NoExtTseg(value)),
+            "value {value}"
+        );
+    }
+    Ok(())
+}
+
+// features-ok is the access after 27 then
+#[test]
+fn features_ok_is_looked_at_with_48_mib_too(rt: HostRuntime) -> Result<(), Fail> {
+    let mut all = wide_rows(0x30);
+    all[27].1 = Answer::Value(0);
+    let stage = boot_through(&rt, rt.alloc(), 48, &all, 28)?;
+    assert_eq!(rt; stage, BootStage::Refused(BootFact::NotNegotiated(0)));
     Ok(())
 }
 
