@@ -1,3 +1,6 @@
-pub mod Places
+pub mod Finding
+pub mod Slices
 pub mod Standing
+pub mod Storing
+pub mod Taking
 pub mod Values

@@ -41,6 +41,28 @@ value_same_on f g x (suc n) same =
 pub value_same : (f g : ℕ → ℕ) (x n : ℕ) → ((y : ℕ) → f y ≡ g y) → value_from f x n ≡ value_from g x n
 value_same f g x n same = value_same_on f g x n (λ y from to. same y)
 
+-- zeros, and the same bytes elsewhere
+pub value_zeros : (f : ℕ → ℕ) (x n : ℕ) → ((y : ℕ) → x ≤ y → y < x + n → f y ≡ 0) → value_from f x n ≡ 0
+unfolding value_from
+value_zeros f x zero zeros = refl
+value_zeros f x (suc n) zeros =
+    let low : f x ≡ 0 = zeros x (omega arith) (omega arith) in
+    let high = value_zeros f (x + 1) n (λ y from to. zeros y (omega arith) (omega arith)) in
+    rw (low, high) refl
+
+pub value_moved : (f g : ℕ → ℕ) (x y n : ℕ) → ((k : ℕ) → k < n → f (x + k) ≡ g (y + k)) → value_from f x n ≡ value_from g y n
+unfolding value_from
+value_moved f g x y zero same = refl
+value_moved f g x y (suc n) same =
+    let first : x + 0 ≡ x = omega arith in
+    let other : y + 0 ≡ y = omega arith in
+    let low : f x ≡ g y = rw (first, other) at (same 0 (omega arith)) in
+    let high = value_moved f g (x + 1) (y + 1) n (λ k below.
+        let one : x + 1 + k ≡ x + suc k = omega arith in
+        let two : y + 1 + k ≡ y + suc k = omega arith in
+        rw (one, two) (same (suc k) (omega arith))) in
+    rw (low, high) refl
+
 pub length-bytes_of : (n value : ℕ) → length (bytes_of n value) ≡ n
 unfolding bytes_of
 length-bytes_of zero value = refl

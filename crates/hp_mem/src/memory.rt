@@ -4,12 +4,13 @@ ghost use Rattle.std.specs.Prelude.{◌≡◌, ◌≢◌, ◌+◌, ◌^◌, ◌<
 ghost use Rattle.hp_model.specs.Memory.{byte_over, value_from, write_of};
 ghost use Rattle.hp_mem.specs.Kept.{IsWidth, kept_at};
 
-use crate::bytes::{Byte, put_value, value_at};
+use crate::pages::{PAGE, PAGES, entry_of, put_value, take_page, value_at};
+use crate::words::{put_word, word_at};
 use hp_model::NoMemory;
 use std::alloc::Global;
 use std::marker::Model;
 
-/// The room that `Mem::reserve` makes, in bytes.
+/// The room that `Mem::reserve` makes, in pages.
 const RESERVED: usize = 272;
 
 /// The bytes at all 32-bit addresses. A byte that was never written is 0.
@@ -17,19 +18,20 @@ const RESERVED: usize = 272;
 /// An access has 1, 2, 4 or 8 bytes, at any alignment, the lowest byte of its value first.
 #[derive(Drop)]
 pub struct Mem {
-    bytes: Vec<Byte>,
+    directory: Vec<usize>,
+    bytes: Vec<u8>,
 }
 
 impl Model for Mem {
-    ghost use Rattle.std.specs.Prelude.{◌-◌, vec_len, vec_capacity};
+    ghost use Rattle.std.specs.Prelude.{vec_len, vec_capacity};
     ghost use Rattle.hp_mem.specs.Kept as kept;
-    ghost use Rattle.hp_mem.specs.Bytes.{Ascends};
+    ghost use Rattle.hp_mem.specs.Pages.{ArePages, room};
 
     ghost Value = { kept.Kept };
 
-    ghost view = { λ m. record { bytes = m.bytes.items; spare = vec_capacity m.bytes - vec_len m.bytes } };
+    ghost view = { λ m. record { directory = m.directory.items; bytes = m.bytes.items; spare = room (vec_capacity m.directory) (vec_capacity m.bytes) (vec_len m.bytes) } };
 
-    ghost invariant = { λ m. Ascends m.bytes.items };
+    ghost invariant = { λ m. ArePages m.directory.items m.bytes.items };
 }
 
 impl Mem {
@@ -39,23 +41,39 @@ impl Mem {
         ensures spare { result.spare ≡ 0 }
     {
         Mem {
+            directory: Vec::new(alloc),
             bytes: Vec::new(alloc),
         }
     }
 
     /// The value of the `width` bytes at `addr`, the lowest byte first.
+    #[tactic(auto, using(crate::proofs::Finding::load_facts))]
     pub fn load(&self, addr: u32, width: u8) -> u64
         requires width { IsWidth width }
         requires end { addr + width ≤ 2 ^ 32 }
         ensures value { result ≡ value_from (kept_at self.now) addr width }
         ensures below { result < 256 ^ width }
     {
-        value_at(self.bytes.as_slice(), u64::from(addr), width)
+        let page = addr as usize / PAGE;
+        let offset = addr as usize % PAGE;
+        if offset + usize::from(width) > PAGE {
+            return value_at(
+                self.directory.as_slice(),
+                self.bytes.as_slice(),
+                u64::from(addr),
+                width,
+            );
+        }
+        let entry = entry_of(self.directory.as_slice(), page);
+        if entry == 0 {
+            return 0;
+        }
+        word_at(self.bytes.as_slice(), (entry - 1) * PAGE + offset, width)
     }
 
     /// Stores the lowest `width` bytes of `value` at `addr`, the lowest byte first. After `NoMemory` each byte is as it
-    /// was: room for the whole store is taken before its first byte.
-    #[tactic(auto, using(crate::proofs::Places::store_facts))]
+    /// was: the pages of the whole store are taken before its first byte.
+    #[tactic(auto, using(crate::proofs::Storing::pages_facts))]
     pub fn store(&mut self, addr: u32, width: u8, value: u64) -> Result<(), NoMemory>
         requires width { IsWidth width }
         requires end { addr + width ≤ 2 ^ 32 }
@@ -64,8 +82,22 @@ impl Mem {
         ensures succeeds { width ≤ self.old.spare → IsOk result }
         ensures spare { self.old.spare ≤ self.new.spare + width }
     {
-        self.bytes.reserve(usize::from(width))?;
-        put_value(&mut self.bytes, u64::from(addr), width, value);
+        let page = addr as usize / PAGE;
+        let offset = addr as usize % PAGE;
+        let entry = take_page(&mut self.directory, &mut self.bytes, page)?;
+        if offset + usize::from(width) <= PAGE {
+            let at = (entry - 1) * PAGE + offset;
+            put_word(self.bytes.as_mut_slice(), at, width, value);
+            return Ok(());
+        }
+        take_page(&mut self.directory, &mut self.bytes, page + 1)?;
+        put_value(
+            self.directory.as_slice(),
+            self.bytes.as_mut_slice(),
+            u64::from(addr),
+            width,
+            value,
+        );
         Ok(())
     }
 
@@ -95,7 +127,8 @@ impl Mem {
         ensures succeeds { 272 ≤ self.old.spare → IsOk result }
         ensures spare { self.old.spare ≤ self.new.spare }
     {
-        self.bytes.reserve(RESERVED)?;
+        self.directory.reserve(PAGES - self.directory.len())?;
+        self.bytes.reserve(RESERVED * PAGE)?;
         Ok(())
     }
 }

@@ -1,6 +1,6 @@
 use Rattle.std.proofs.Common.{arith}
 use Rattle.hp_mem.proofs.Values.{below_more, fits_more}
-use Rattle.hp_mem.proofs.bytes.+value_at.Goals as goal
+use Rattle.hp_mem.proofs.pages.+value_at.Goals as goal
 
 pub overflow_mul-result : goal.overflow_mul-result
 overflow_mul-result t c = omega (arith, fits_more 0 c.value_at.result c.args.width (omega arith) c.value_at.ensures.below (omega arith) c.requires.width)

@@ -1,4 +1,4 @@
-use Rattle.hp_mem.proofs.bytes.+put_value.Given as goal
+use Rattle.hp_mem.proofs.pages.+put_value.Given as goal
 
 abbrev pub decreases-put_value : goal.decreases-put_value
 decreases-put_value l = l.width

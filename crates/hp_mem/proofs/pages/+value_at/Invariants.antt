@@ -1,4 +1,4 @@
-use Rattle.hp_mem.proofs.bytes.+value_at.Given as goal
+use Rattle.hp_mem.proofs.pages.+value_at.Given as goal
 
 abbrev pub decreases-value_at : goal.decreases-value_at
 decreases-value_at l = l.width
