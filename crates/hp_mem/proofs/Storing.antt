@@ -1,17 +1,17 @@
 -- What a store leaves at each address.
-use Rattle.std.proofs.Common.{◌≡◌, ℕ, zero, suc, ◌+◌, ◌-◌, ◌*◌, ◌/◌, ◌%◌, ◌<◌, ◌≤◌, ◌==◌, List, [], ◌∷◌, length, slice_index, slice_index_or, refl, sym, ap, ◌∙◌, true, false, if◌then◌else◌, arith}
+use Rattle.std.proofs.Common.{◌≡◌, ℕ, zero, suc, ◌+◌, ◌-◌, ◌/◌, ◌%◌, ◌<◌, ◌≤◌, List, length, slice_index, refl, sym, ap, ◌∙◌, arith}
 use Rattle.std.proofs.lemmas.Bool.Decides.{nat_tests}
 use Rattle.hp_model.specs.Memory.{Write, byte_over, bytes_of, write_of}
-use Rattle.hp_mem.specs.Pages.{ArePages, Covers, entry, place, byte_by, byte_in}
+use Rattle.hp_mem.specs.Pages.{ArePages, Covers, entry, place, byte_in}
 use Rattle.hp_mem.proofs.Finding.{by_none, by_entry, within_bytes}
 use Rattle.hp_mem.proofs.Values.{length-bytes_of}
 
 pub same_pages : (directory old new : List ℕ) → ArePages directory old → length new ≡ length old → ArePages directory new
 same_pages directory old new pages len = record {
-    whole = rw len pages.whole;
-    within = λ page. rw len (pages.within page);
-    distinct = pages.distinct;
-    few = pages.few
+  whole = rw len pages.whole;
+  within = λ page. rw len (pages.within page);
+  distinct = pages.distinct;
+  few = pages.few;
 }
 
 -- a write in one page, by what it leaves at a place
@@ -23,7 +23,7 @@ pub stored_in_page : (directory old new : List ℕ) (addr width value e : ℕ) �
     ((k : ℕ) → slice_index new k ≡ byte_over (write_of (place e addr) width value) (slice_index old) k) →
     (x : ℕ) → byte_in directory new x ≡ byte_over (write_of addr width value) (byte_in directory old) x
 stored_in_page directory old new addr width value e pages is some fits written x = none_or_some (entry directory (x / 4096)) refl
-    where
+  where
     none_or_some : (f : ℕ) → entry directory (x / 4096) ≡ f → byte_in directory new x ≡ byte_over (write_of addr width value) (byte_in directory old) x
     none_or_some zero is_f =
         let apart : x / 4096 ≡ addr / 4096 → e ≡ 0 = λ same. is ∙ rw (← same) is_f in

@@ -58,9 +58,9 @@ value_moved f g x y (suc n) same =
     let other : y + 0 ≡ y = omega arith in
     let low : f x ≡ g y = rw (first, other) at (same 0 (omega arith)) in
     let high = value_moved f g (x + 1) (y + 1) n (λ k below.
-        let one : x + 1 + k ≡ x + suc k = omega arith in
-        let two : y + 1 + k ≡ y + suc k = omega arith in
-        rw (one, two) (same (suc k) (omega arith))) in
+    let one : x + 1 + k ≡ x + suc k = omega arith in
+    let two : y + 1 + k ≡ y + suc k = omega arith in
+    rw (one, two) (same (suc k) (omega arith))) in
     rw (low, high) refl
 
 pub length-bytes_of : (n value : ℕ) → length (bytes_of n value) ≡ n

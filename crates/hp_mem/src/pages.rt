@@ -106,11 +106,7 @@ fn add_zeros(bytes: &mut Vec<u8>) -> Result<(), NoMemory>
 #[cold]
 #[inline(never)]
 #[tactic(auto, using(crate::proofs::Taking::reach_facts))]
-fn add_page(
-    directory: &mut Vec<usize>,
-    bytes: &mut Vec<u8>,
-    page: usize,
-) -> Result<usize, NoMemory>
+fn add_page(directory: &mut Vec<usize>, bytes: &mut Vec<u8>, page: usize) -> Result<usize, NoMemory>
     requires pages { ArePages directory.old.items bytes.old.items }
     requires page { page < 2 ^ 20 }
     requires missing { entry directory.old.items page ≡ 0 }
@@ -129,7 +125,11 @@ fn add_page(
 }
 
 /// The entry of a page, which is added if it isn't there. No byte changes, whatever the answer.
-pub fn take_page(directory: &mut Vec<usize>, bytes: &mut Vec<u8>, page: usize) -> Result<usize, NoMemory>
+pub fn take_page(
+    directory: &mut Vec<usize>,
+    bytes: &mut Vec<u8>,
+    page: usize,
+) -> Result<usize, NoMemory>
     requires pages { ArePages directory.old.items bytes.old.items }
     requires page { page < 2 ^ 20 }
     ensures pages { ArePages directory.new.items bytes.new.items }

@@ -1,4 +1,4 @@
-use Rattle.std.proofs.Common.{arith, refl}
+use Rattle.std.proofs.Common.{◌≡◌, arith}
 use Rattle.hp_mem.proofs.Slices.{put_1, put_2, put_4, put_8}
 use Rattle.hp_mem.proofs.words.put_word.Goals as goal
 
