@@ -124,3 +124,25 @@ fn reserved_room_takes_34_stores_of_8_bytes(rt: HostRuntime) -> Result<(), Fail>
     mem.reserve()?;
     Ok(())
 }
+
+/// Addresses far apart, each in a page of its own.
+fn scattered(place: u32) -> u32
+    ensures { result + 1 ≤ 2 ^ 32 }
+{
+    place.wrapping_mul(0x00f0_e1ff)
+}
+
+#[test]
+fn reserved_room_takes_a_byte_in_each_of_272_pages(rt: HostRuntime) -> Result<(), Fail> {
+    let mut mem = Mem::new(rt.alloc());
+    mem.store(0x5, 1, 0xff)?;
+    mem.reserve()?;
+    for place in 0..272u32 {
+        mem.store(scattered(place), 1, u64::from(place % 251) + 1)?;
+    }
+    for place in 0..272u32 {
+        assert_eq!(rt; mem.load(scattered(place), 1), u64::from(place % 251) + 1);
+    }
+    assert_eq!(rt; mem.load(0x5, 1), 0xff);
+    Ok(())
+}
