@@ -1,3 +1,4 @@
+pub mod Comparing
 pub mod Finding
 pub mod Slices
 pub mod Standing

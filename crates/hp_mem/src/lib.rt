@@ -4,6 +4,7 @@
 mod laws;
 mod memory;
 mod pages;
+mod same;
 #[cfg(test)]
 mod tests;
 mod words;

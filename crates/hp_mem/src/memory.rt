@@ -1,12 +1,14 @@
 //! Memory: its loads and stores, and the room that it takes.
 
-ghost use Rattle.std.specs.Prelude.{◌≡◌, ◌≢◌, ◌+◌, ◌^◌, ◌<◌, ◌≤◌, ℕ, IfOk, IsOk, OnErr, OnOk};
+ghost use Rattle.std.specs.Prelude.{◌≡◌, ◌≢◌, ◌↔◌, ◌+◌, ◌^◌, ◌<◌, ◌≤◌, ℕ, IfOk, IsOk, IsTrue, OnErr, OnOk};
 ghost use Rattle.hp_model.specs.Memory.{byte_over, value_from, write_of};
 ghost use Rattle.hp_mem.specs.Kept.{IsWidth, kept_at};
+ghost use Rattle.hp_mem.specs.Same.{SameOutside};
 
 use crate::pages::{PAGE, PAGES, entry_of, put_value, take_page, value_at};
+use crate::same::are_same_pages;
 use crate::words::{put_word, word_at};
-use hp_model::NoMemory;
+use hp_model::{NoMemory, Span};
 use std::alloc::Global;
 use std::marker::Model;
 
@@ -130,5 +132,18 @@ impl Mem {
         self.directory.reserve(PAGES - self.directory.len())?;
         self.bytes.reserve(RESERVED * PAGE)?;
         Ok(())
+    }
+
+    /// Whether both memories have the same byte at each address outside the spans. It takes no memory.
+    pub fn same_outside(&self, other: &Mem, hidden: &[Span]) -> bool
+        ensures same { IsTrue result ↔ SameOutside (kept_at self.now) (kept_at other.now) hidden.now }
+    {
+        are_same_pages(
+            self.directory.as_slice(),
+            self.bytes.as_slice(),
+            other.directory.as_slice(),
+            other.bytes.as_slice(),
+            hidden,
+        )
     }
 }

@@ -4,6 +4,7 @@ ghost use Rattle.hp_mem.specs.Kept.{IsWidth};
 ghost use Rattle.std.specs.Prelude.{◌≡◌, ◌+◌, ◌^◌, ◌≤◌, IsTrue};
 
 use crate::Mem;
+use hp_model::Span;
 use std::test::Fail;
 
 /// A store that was made.
@@ -144,5 +145,37 @@ fn reserved_room_takes_a_byte_in_each_of_272_pages(rt: HostRuntime) -> Result<()
         assert_eq!(rt; mem.load(scattered(place), 1), u64::from(place % 251) + 1);
     }
     assert_eq!(rt; mem.load(0x5, 1), 0xff);
+    Ok(())
+}
+
+#[test]
+fn memories_are_the_same_outside_what_differs(rt: HostRuntime) -> Result<(), Fail> {
+    let mut one = Mem::new(rt.alloc());
+    let mut other = Mem::new(rt.alloc());
+    let none: [Span; 0] = [];
+    assert!(rt; one.same_outside(&other, &none));
+    one.store(0x1ffc, 8, 0x1122334455667788)?;
+    other.store(0x70000000, 2, 0)?;
+    other.store(0x1ffc, 8, 0x1122334455667788)?;
+    assert!(rt; one.same_outside(&other, &none) && other.same_outside(&one, &none));
+    other.store(0x3000, 1, 7)?;
+    other.store(0x3fff, 1, 7)?;
+    assert!(rt; !one.same_outside(&other, &none) && !other.same_outside(&one, &none));
+    let page = [Span {
+        from: 0x3000,
+        to: 0x3fff,
+    }];
+    assert!(rt; one.same_outside(&other, &page) && other.same_outside(&one, &page));
+    let short = [
+        Span {
+            from: 0x3000,
+            to: 0x3ffe,
+        },
+        Span {
+            from: 0,
+            to: 0x2fff,
+        },
+    ];
+    assert!(rt; !one.same_outside(&other, &short) && !other.same_outside(&one, &short));
     Ok(())
 }

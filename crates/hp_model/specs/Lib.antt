@@ -14,6 +14,7 @@ pub mod Fitting
 pub mod SharedBytes
 pub mod Image
 pub mod Slots
+pub mod Spans
 pub mod Collection
 pub mod Add
 pub mod Eject

@@ -12,6 +12,7 @@ mod outcomes;
 mod platforms;
 mod processors;
 mod rules;
+mod spans;
 
 pub use accesses::{Access, Answer, Steps, Want};
 pub use entries::{Actor, Entry, Event};
@@ -24,3 +25,4 @@ pub use outcomes::{BootFact, Outcome, Refusal, Step};
 pub use platforms::{Delivery, Ids, Platform};
 pub use processors::{Cpu, Ipi, Kind, Mode, Target};
 pub use rules::{Rule, fits};
+pub use spans::Span;
