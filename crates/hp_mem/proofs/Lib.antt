@@ -3,5 +3,4 @@ pub mod Finding
 pub mod Slices
 pub mod Standing
 pub mod Storing
-pub mod Taking
 pub mod Values

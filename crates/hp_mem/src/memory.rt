@@ -20,7 +20,9 @@ const RESERVED: usize = 272;
 /// An access has 1, 2, 4 or 8 bytes, at any alignment, the lowest byte of its value first.
 #[derive(Drop)]
 pub struct Mem {
+    /// The entry of each page, by its number, as far as the highest page that was stored in.
     directory: Vec<usize>,
+    /// The pages that were stored in, one after the other.
     bytes: Vec<u8>,
 }
 

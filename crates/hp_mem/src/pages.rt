@@ -73,7 +73,6 @@ pub fn put_value(directory: &[usize], bytes: &mut [u8], addr: u64, width: u8, va
 }
 
 /// Makes the directory reach to a page. No entry changes, whatever the answer.
-#[tactic(auto, using(crate::proofs::Taking::reach_facts))]
 fn reach_page(directory: &mut Vec<usize>, page: usize) -> Result<(), NoMemory>
     requires few { vec_len directory.old ≤ 2 ^ 20 }
     requires page { page < 2 ^ 20 }
@@ -90,7 +89,6 @@ fn reach_page(directory: &mut Vec<usize>, page: usize) -> Result<(), NoMemory>
 }
 
 /// Adds a page of zeros at the end.
-#[tactic(auto, using(crate::proofs::Taking::reach_facts))]
 fn add_zeros(bytes: &mut Vec<u8>) -> Result<(), NoMemory>
     ensures bytes { (k : ℕ) → slice_index bytes.new.items k ≡ slice_index bytes.old.items k }
     ensures added { OnOk result (vec_len bytes.new ≡ vec_len bytes.old + 4096) }
@@ -105,7 +103,6 @@ fn add_zeros(bytes: &mut Vec<u8>) -> Result<(), NoMemory>
 /// Adds a page of zeros, where there is none yet, and answers its entry. No byte changes, whatever the answer.
 #[cold]
 #[inline(never)]
-#[tactic(auto, using(crate::proofs::Taking::reach_facts))]
 fn add_page(directory: &mut Vec<usize>, bytes: &mut Vec<u8>, page: usize) -> Result<usize, NoMemory>
     requires pages { ArePages directory.old.items bytes.old.items }
     requires page { page < 2 ^ 20 }
