@@ -3,9 +3,10 @@
 ghost use Rattle.std.specs.Prelude.{◌≡◌, ◌≢◌, ◌↔◌, ◌+◌, ◌^◌, ◌<◌, ◌≤◌, ℕ, IfOk, IsOk, IsTrue, OnErr, OnOk};
 ghost use Rattle.hp_model.specs.Memory.{byte_over, value_from, write_of};
 ghost use Rattle.hp_mem.specs.Kept.{IsWidth, kept_at};
+ghost use Rattle.hp_mem.specs.Pages.{entry};
 ghost use Rattle.hp_mem.specs.Same.{SameOutside};
 
-use crate::pages::{PAGE, PAGES, entry_of, put_value, take_page, value_at};
+use crate::pages::{PAGE, PAGES, add_zeros, entry_of, put_value, reach_page, value_at};
 use crate::same::are_same_pages;
 use crate::words::{put_word, word_at};
 use hp_model::{NoMemory, Span};
@@ -75,6 +76,41 @@ impl Mem {
         word_at(self.bytes.as_slice(), (entry - 1) * PAGE + offset, width)
     }
 
+    /// Adds a page of zeros, where there is none yet, and answers its entry. No byte changes, whatever the answer.
+    #[cold]
+    #[inline(never)]
+    fn add_page(&mut self, page: usize) -> Result<usize, NoMemory>
+        requires page { page < 2 ^ 20 }
+        requires missing { entry self.old.directory page ≡ 0 }
+        ensures added { IfOk result (λ e. (0 < e) × (entry self.new.directory page ≡ e)) }
+        ensures kept { (q : ℕ) → 0 < entry self.old.directory q → entry self.new.directory q ≡ entry self.old.directory q }
+        ensures unchanged { (x : ℕ) → kept_at self.new x ≡ kept_at self.old x }
+        ensures succeeds { 1 ≤ self.old.spare → IsOk result }
+        ensures spare { self.old.spare ≤ self.new.spare + 1 }
+    {
+        reach_page(&mut self.directory, page)?;
+        let entry = self.bytes.len() / PAGE + 1;
+        add_zeros(&mut self.bytes)?;
+        self.directory[page] = entry;
+        Ok(entry)
+    }
+
+    /// The entry of a page, which is added if it isn't there. No byte changes, whatever the answer.
+    fn take_page(&mut self, page: usize) -> Result<usize, NoMemory>
+        requires page { page < 2 ^ 20 }
+        ensures taken { IfOk result (λ e. (0 < e) × (entry self.new.directory page ≡ e)) }
+        ensures kept { (q : ℕ) → 0 < entry self.old.directory q → entry self.new.directory q ≡ entry self.old.directory q }
+        ensures unchanged { (x : ℕ) → kept_at self.new x ≡ kept_at self.old x }
+        ensures succeeds { 1 ≤ self.old.spare → IsOk result }
+        ensures spare { self.old.spare ≤ self.new.spare + 1 }
+    {
+        let entry = entry_of(self.directory.as_slice(), page);
+        if entry == 0 {
+            return self.add_page(page);
+        }
+        Ok(entry)
+    }
+
     /// Stores the lowest `width` bytes of `value` at `addr`, the lowest byte first. After `NoMemory` each byte is as it
     /// was: the pages of the whole store are taken before its first byte.
     #[tactic(auto, using(crate::proofs::Storing::pages_facts))]
@@ -88,13 +124,13 @@ impl Mem {
     {
         let page = addr as usize / PAGE;
         let offset = addr as usize % PAGE;
-        let entry = take_page(&mut self.directory, &mut self.bytes, page)?;
+        let entry = self.take_page(page)?;
         if offset + usize::from(width) <= PAGE {
             let at = (entry - 1) * PAGE + offset;
             put_word(self.bytes.as_mut_slice(), at, width, value);
             return Ok(());
         }
-        take_page(&mut self.directory, &mut self.bytes, page + 1)?;
+        self.take_page(page + 1)?;
         put_value(
             self.directory.as_slice(),
             self.bytes.as_mut_slice(),

@@ -1,8 +1,8 @@
-//! Pages of 4 KiB: finding one, taking one, and values over the end of a page.
+//! Pages of 4 KiB: finding one, room for one more, and values over the end of a page.
 
-ghost use Rattle.std.specs.Prelude.{◌≡◌, ◌+◌, ◌-◌, ◌*◌, ◌/◌, ◌%◌, ◌^◌, ◌<◌, ◌≤◌, ℕ, length, slice_index, vec_len, vec_capacity, IsOk, IfOk, OnOk, OnErr};
+ghost use Rattle.std.specs.Prelude.{◌≡◌, ◌+◌, ◌-◌, ◌*◌, ◌/◌, ◌%◌, ◌^◌, ◌<◌, ◌≤◌, ℕ, length, slice_index, vec_len, vec_capacity, IsOk, OnOk, OnErr};
 ghost use Rattle.hp_model.specs.Memory.{byte_over, value_from, write_of};
-ghost use Rattle.hp_mem.specs.Pages.{ArePages, Covers, entry, place, byte_in, room};
+ghost use Rattle.hp_mem.specs.Pages.{ArePages, Covers, entry, place, byte_in};
 
 use crate::words::put_word;
 use hp_model::NoMemory;
@@ -73,7 +73,7 @@ pub fn put_value(directory: &[usize], bytes: &mut [u8], addr: u64, width: u8, va
 }
 
 /// Makes the directory reach to a page. No entry changes, whatever the answer.
-fn reach_page(directory: &mut Vec<usize>, page: usize) -> Result<(), NoMemory>
+pub fn reach_page(directory: &mut Vec<usize>, page: usize) -> Result<(), NoMemory>
     requires few { vec_len directory.old ≤ 2 ^ 20 }
     requires page { page < 2 ^ 20 }
     ensures entries { (q : ℕ) → entry directory.new.items q ≡ entry directory.old.items q }
@@ -89,7 +89,7 @@ fn reach_page(directory: &mut Vec<usize>, page: usize) -> Result<(), NoMemory>
 }
 
 /// Adds a page of zeros at the end.
-fn add_zeros(bytes: &mut Vec<u8>) -> Result<(), NoMemory>
+pub fn add_zeros(bytes: &mut Vec<u8>) -> Result<(), NoMemory>
     ensures bytes { (k : ℕ) → slice_index bytes.new.items k ≡ slice_index bytes.old.items k }
     ensures added { OnOk result (vec_len bytes.new ≡ vec_len bytes.old + 4096) }
     ensures no_memory { OnErr result (vec_len bytes.new ≡ vec_len bytes.old) }
@@ -98,47 +98,4 @@ fn add_zeros(bytes: &mut Vec<u8>) -> Result<(), NoMemory>
 {
     bytes.resize(bytes.len() + PAGE, 0)?;
     Ok(())
-}
-
-/// Adds a page of zeros, where there is none yet, and answers its entry. No byte changes, whatever the answer.
-#[cold]
-#[inline(never)]
-fn add_page(directory: &mut Vec<usize>, bytes: &mut Vec<u8>, page: usize) -> Result<usize, NoMemory>
-    requires pages { ArePages directory.old.items bytes.old.items }
-    requires page { page < 2 ^ 20 }
-    requires missing { entry directory.old.items page ≡ 0 }
-    ensures pages { ArePages directory.new.items bytes.new.items }
-    ensures added { IfOk result (λ e. (0 < e) × (entry directory.new.items page ≡ e)) }
-    ensures kept { (q : ℕ) → 0 < entry directory.old.items q → entry directory.new.items q ≡ entry directory.old.items q }
-    ensures unchanged { (x : ℕ) → byte_in directory.new.items bytes.new.items x ≡ byte_in directory.old.items bytes.old.items x }
-    ensures succeeds { 1 ≤ room (vec_capacity directory.old) (vec_capacity bytes.old) (vec_len bytes.old) → IsOk result }
-    ensures spare { room (vec_capacity directory.old) (vec_capacity bytes.old) (vec_len bytes.old) ≤ room (vec_capacity directory.new) (vec_capacity bytes.new) (vec_len bytes.new) + 1 }
-{
-    reach_page(directory, page)?;
-    let entry = bytes.len() / PAGE + 1;
-    add_zeros(bytes)?;
-    directory[page] = entry;
-    Ok(entry)
-}
-
-/// The entry of a page, which is added if it isn't there. No byte changes, whatever the answer.
-pub fn take_page(
-    directory: &mut Vec<usize>,
-    bytes: &mut Vec<u8>,
-    page: usize,
-) -> Result<usize, NoMemory>
-    requires pages { ArePages directory.old.items bytes.old.items }
-    requires page { page < 2 ^ 20 }
-    ensures pages { ArePages directory.new.items bytes.new.items }
-    ensures taken { IfOk result (λ e. (0 < e) × (entry directory.new.items page ≡ e)) }
-    ensures kept { (q : ℕ) → 0 < entry directory.old.items q → entry directory.new.items q ≡ entry directory.old.items q }
-    ensures unchanged { (x : ℕ) → byte_in directory.new.items bytes.new.items x ≡ byte_in directory.old.items bytes.old.items x }
-    ensures succeeds { 1 ≤ room (vec_capacity directory.old) (vec_capacity bytes.old) (vec_len bytes.old) → IsOk result }
-    ensures spare { room (vec_capacity directory.old) (vec_capacity bytes.old) (vec_len bytes.old) ≤ room (vec_capacity directory.new) (vec_capacity bytes.new) (vec_len bytes.new) + 1 }
-{
-    let entry = entry_of(directory.as_slice(), page);
-    if entry == 0 {
-        return add_page(directory, bytes, page);
-    }
-    Ok(entry)
 }
