@@ -33,3 +33,4 @@ pub mod Exact
 pub mod Safety
 pub mod Schedule
 pub mod Text
+pub mod Visible

@@ -1,0 +1,6 @@
+//! Secrecy of locked memory: what it holds is not to be seen from outside SMM.
+#![tactic(auto)]
+
+mod laws;
+
+pub use laws::{a_step_keeps_secrets, runs_keep_secrets};
