@@ -3,6 +3,7 @@ use Rattle.std.proofs.Common.{ℕ, zero, suc, ◌≡◌, ◌+◌, ◌*◌, ◌-�
 use Rattle.std.specs.Prelude.{slice_index_or}
 use Rattle.hp_model.specs.Memory.{Write, covers, byte_at, bytes_of, value_from, write_of}
 use Rattle.hp_model.specs.View.{Locks, is_locked, is_hidden, is_hole, ones, loaded, stored, swapped}
+use Rattle.hp_secrecy.specs.Shielded.{AreLocked}
 
 -- each byte that isn't locked is the same in both
 abbrev pub AlikeBytes : Locks → List Write → List Write → Type 0
@@ -34,10 +35,7 @@ unfolding bytes_of
 length-bytes_of zero v = refl
 length-bytes_of (suc n) v = omega (arith, length-bytes_of n (v / 256))
 
-abbrev pub AllLocked : Locks → ℕ → ℕ → Type 0
-AllLocked l a n = (x : ℕ) → (nat_le a x && nat_lt x (a + n)) ≡ true → is_locked l x ≡ true
-
-pub store_unseen : (l : Locks) (in_smm : Bool) (a n v : ℕ) (ws : List Write) → AllLocked l a n → AlikeBytes l (stored l in_smm a n v ws) ws
+pub store_unseen : (l : Locks) (in_smm : Bool) (a n v : ℕ) (ws : List Write) → AreLocked l a n → AlikeBytes l (stored l in_smm a n v ws) ws
 store_unseen l in_smm a n v ws locked = by_hole (is_hole l in_smm a n)
   where
     missed : (x : ℕ) (inside : Bool) → (nat_le a x && nat_lt x (a + n)) ≡ inside → is_locked l x ≡ false → inside ≡ false
@@ -84,7 +82,7 @@ swap_both l a old new ws vs h =
     by_test false = h
 
 -- and one of locked bytes alone, whoever makes it
-pub swap_unseen : (l : Locks) (in_smm : Bool) (a old new : ℕ) (ws : List Write) → AllLocked l a 8 → AlikeBytes l (swapped l in_smm a old new ws) ws
+pub swap_unseen : (l : Locks) (in_smm : Bool) (a old new : ℕ) (ws : List Write) → AreLocked l a 8 → AlikeBytes l (swapped l in_smm a old new ws) ws
 swap_unseen l in_smm a old new ws locked = by_test (loaded l in_smm (byte_at ws) a 8 == old)
   where
     by_test : (t : Bool) → AlikeBytes l (cond t (stored l in_smm a 8 new ws) ws) ws

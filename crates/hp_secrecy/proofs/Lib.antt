@@ -6,3 +6,4 @@ pub mod Saves
 pub mod Steps
 pub mod Swaps
 pub mod Transfers
+pub mod Worked

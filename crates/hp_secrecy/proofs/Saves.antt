@@ -11,8 +11,8 @@ use Rattle.hp_model.specs.SaveArea.{smbase_field, revision_field, rip_field, rev
 use Rattle.hp_model.specs.SharedBytes.{layout_of}
 use Rattle.hp_model.specs.Handlers.{slot_at, is_tile}
 use Rattle.hp_model.specs.Step.{State}
-use Rattle.hp_secrecy.specs.Shielded.{is_base, IsShielded}
-use Rattle.hp_secrecy.proofs.Bytes.{AlikeBytes, AllLocked, bytes_then, store_unseen}
+use Rattle.hp_secrecy.specs.Shielded.{is_base, IsShielded, AreLocked}
+use Rattle.hp_secrecy.proofs.Bytes.{AlikeBytes, bytes_then, store_unseen}
 
 passed : (b : Bool) (n : ℕ) (rest : Option ℕ) → cond (not b) (Some n) rest ≡ None → (b ≡ true) × (rest ≡ None)
 passed true n rest e = (refl, e)
@@ -63,7 +63,7 @@ in_tseg : (base top x : ℕ) → base ≤ x → x < top → ((nat_le 0x30000 x &
 in_tseg base top x low high = grind (arith, nat_tests)
 
 -- the gate is locked
-pub gate_locked : (p : Platform) (s : State) → IsShielded p s → AllLocked s.locks 0x30000 8
+pub gate_locked : (p : Platform) (s : State) → IsShielded p s → AreLocked s.locks 0x30000 8
 gate_locked p s h x e = in_range p s x h (in_gate x (tseg p) p.low_memory e)
   where
     in_gate : (x base top : ℕ) → (nat_le 0x30000 x && nat_lt x 0x30008) ≡ true → ((nat_le 0x30000 x && nat_lt x 0x50000) || (nat_le base x && nat_lt x top)) ≡ true
@@ -91,7 +91,7 @@ based_locked p s b x tiles h e low high = elim (either (b == 0x30000) (is_tile (
     within base n k b x top is less room high = omega (arith, is, less, room, high)
 
 -- and so are the three fields
-field_locked : (p : Platform) (s : State) (b field n : ℕ) → HasTiles p → IsShielded p s → is_base (layout_of p) b ≡ true → field + n ≤ 0x10000 → AllLocked s.locks (b + field) n
+field_locked : (p : Platform) (s : State) (b field n : ℕ) → HasTiles p → IsShielded p s → is_base (layout_of p) b ≡ true → field + n ≤ 0x10000 → AreLocked s.locks (b + field) n
 field_locked p s b field n tiles h e small x inside = based_locked p s b x tiles h e (from b field n x inside) (to b field n x small inside)
   where
     from : (b field n x : ℕ) → (nat_le (b + field) x && nat_lt x (b + field + n)) ≡ true → b ≤ x

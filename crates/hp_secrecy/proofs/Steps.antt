@@ -8,12 +8,14 @@ use Rattle.hp_model.specs.declared.processors.Cpu.{Cpu}
 use Rattle.hp_model.specs.declared.processors.Mode.{Mode}
 use Rattle.hp_model.specs.declared.processors.Mode.TheVariants.{Wait, Running, Halted, Smm}
 use Rattle.hp_model.specs.declared.accesses.Access.{Access}
+use Rattle.hp_model.specs.declared.accesses.Access.TheVariants.{Load, Store, Swap, In, Out, CfgRead, CfgWrite, Icr, Halt, Nop}
 use Rattle.hp_model.specs.declared.accesses.Answer.{Answer}
 use Rattle.hp_model.specs.declared.accesses.Answer.TheVariants.{Quiet}
 use Rattle.hp_model.specs.declared.labels.Label.{Label}
 use Rattle.hp_model.specs.declared.entries.Event.{Event}
 use Rattle.hp_model.specs.declared.entries.Event.TheVariants.{Insert, Remove, Do, TakeSmi, TakeInit, Resume, Tell}
 use Rattle.hp_model.specs.Platform.{IsFit, count_of, is_late}
+use Rattle.hp_model.specs.View.{stored, swapped}
 use Rattle.hp_model.specs.Cpu.{cpu_at, is_running, is_outside, is_in_smm, may_take_smi, take_smi, may_take_init, take_init, resumed}
 use Rattle.hp_model.specs.SaveArea.{saved, saved_smbase, saved_rip}
 use Rattle.hp_model.specs.Boot.{Stage, Boots, Refused, Handed, is_handed, stage_after, value_in}
@@ -21,12 +23,12 @@ use Rattle.hp_model.specs.SharedBytes.{layout_of}
 use Rattle.hp_model.specs.Handlers.{Next, next_at}
 use Rattle.hp_model.specs.Step.{State, After, at, is_normal, stands_in_smm, may_access, can_do, is_enabled, seat, row_at, wanted, is_that_access, is_handlers, is_wanted, wanted_in, access_effect, enter_smm, answer_of, answer_to, effect_of, go_on, with_next, row_led, handlers_led, firmware_led, is_disturbed_by, after, step}
 use Rattle.hp_model.specs.Visible.{visible_mode, visible_cpu, IsAlike, is_made_in_smm}
-use Rattle.hp_secrecy.specs.Shielded.{IsShielded}
-use Rattle.hp_secrecy.proofs.Bytes.{AlikeBytes, bytes_then, bytes_back}
+use Rattle.hp_secrecy.specs.Shielded.{IsShielded, StaysInside}
+use Rattle.hp_secrecy.proofs.Bytes.{AlikeBytes, bytes_then, bytes_back, store_unseen, swap_unseen}
 use Rattle.hp_secrecy.proofs.Cpus.{AlikeCpu, AlikeCpus, alike_at, alike_set, alike_unseen, go_on_unseen, smm_visible, in_smm_alike}
 use Rattle.hp_secrecy.proofs.Saves.{HasTiles, has_tiles, saved_unseen}
 use Rattle.hp_secrecy.proofs.Swaps.{handler_swaps_gate}
-use Rattle.hp_secrecy.proofs.Effects.{alike_cpus, alike_insert, alike_removal, alike_access, same_answer}
+use Rattle.hp_secrecy.proofs.Effects.{alike_cpus, alike_writes, alike_insert, alike_removal, alike_access, same_answer}
 
 alike_same : (s : State) → IsAlike s s
 alike_same s = record { cpus = refl; memory = λ x free. refl; locks = refl; block = refl; ich9 = refl; fw_cfg = refl; stage = refl }
@@ -135,6 +137,29 @@ alike_after p e s t tiles shut closed may can want h = by_stage s.stage t.stage 
         subst (λ g. IsAlike (ended p s e (Handed requested)) (ended p t e g)) same
         (record { cpus = led.cpus; memory = led.memory; locks = led.locks; block = led.block; ich9 = led.ich9; fw_cfg = led.fw_cfg; stage = refl })
 
+-- an access that stays inside locked memory is not seen at all
+inside_unseen : (p : Platform) (k : ℕ) (in_smm : Bool) (a : Access) (s : State) → StaysInside s.locks a → IsAlike (access_effect p k in_smm a s) s
+inside_unseen p k in_smm (Load addr width) s inside = alike_same s
+inside_unseen p k in_smm (Store addr width value) s inside = alike_writes s s (stored s.locks in_smm addr width value s.writes) s.writes (alike_same s) (store_unseen s.locks in_smm addr width value s.writes inside)
+inside_unseen p k in_smm (Swap addr old new) s inside = alike_writes s s (swapped s.locks in_smm addr old new s.writes) s.writes (alike_same s) (swap_unseen s.locks in_smm addr old new s.writes inside)
+inside_unseen p k in_smm (In port width) s inside = absurd inside
+inside_unseen p k in_smm (Out port width value) s inside = absurd inside
+inside_unseen p k in_smm (CfgRead reg) s inside = alike_same s
+inside_unseen p k in_smm (CfgWrite reg value) s inside = absurd inside
+inside_unseen p k in_smm (Icr high low) s inside = absurd inside
+inside_unseen p k in_smm Halt s inside = absurd inside
+inside_unseen p k in_smm Nop s inside = alike_same s
+
+after_unseen : (p : Platform) (e : Event) (s : State) → is_handed s.stage ≡ true → IsAlike (effect_of p s e) s → IsAlike (after p s e).state s
+after_unseen p e s handed effect = by_stage s.stage handed refl
+  where
+    by_stage : (g : Stage) → is_handed g ≡ true → s.stage ≡ g → IsAlike (ended p s e g) s
+    by_stage (Boots done supported) h is = absurd cc
+    by_stage (Refused fact) h is = absurd cc
+    by_stage (Handed requested) h is =
+        let led = alike_then (handlers_led p s e (effect_of p s e)) (effect_of p s e) s (led_unseen p s e (effect_of p s e)) effect in
+        record { cpus = led.cpus; memory = led.memory; locks = led.locks; block = led.block; ich9 = led.ich9; fw_cfg = led.fw_cfg; stage = sym is }
+
 pub same_answers : (p : Platform) (e : Event) (s t : State) → is_made_in_smm s e ≡ false → IsAlike s t → answer_of s e ≡ answer_of t e
 same_answers p (Insert k) s t out h = refl
 same_answers p (Remove k) s t out h = refl
@@ -172,6 +197,11 @@ answer_alike p s t e a b h here there out =
     let f = stepped p s e a here in
     let g = stepped p t e b there in
     ap (λ x. x.answer) (sym f.is) ∙ same_answers p e s t out h ∙ ap (λ x. x.answer) g.is
+
+pub inside_alike : (p : Platform) (s : State) (k : ℕ) (a : Access) (b : After) → is_handed s.stage ≡ true → StaysInside s.locks a → step p s (Do k a) ≡ Some b → IsAlike b.state s
+inside_alike p s k a b handed inside is =
+    let f = stepped p s (Do k a) b is in
+    subst (λ x. IsAlike x.state s) f.is (after_unseen p (Do k a) s handed (inside_unseen p k (is_in_smm (at s k).mode) a s inside))
 
 -- the machine can do an event in both or in neither
 pub stands_alike : (c d : Cpu) → AlikeCpu c d → stands_in_smm c ≡ stands_in_smm d

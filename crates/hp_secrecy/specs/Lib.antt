@@ -1,1 +1,2 @@
 pub mod Shielded
+pub mod Worked

@@ -1,9 +1,11 @@
 -- States in which nothing that happens shows what locked memory holds.
-use Rattle.std.specs.Prelude.{ℕ, ◌≡◌, Bool, true, ◌||◌, ◌==◌, List, map, ◌++◌, Some}
+use Rattle.std.specs.Prelude.{ℕ, ◌≡◌, Bool, true, ◌&&◌, ◌||◌, ◌==◌, nat_lt, nat_le, ◌+◌, List, map, ◌++◌, Some}
 use Rattle.hp_model.specs.declared.platforms.Platform.{Platform}
+use Rattle.hp_model.specs.declared.accesses.Access.{Access}
+use Rattle.hp_model.specs.declared.accesses.Access.TheVariants.{Load, Store, Swap, In, Out, CfgRead, CfgWrite, Icr, Halt, Nop}
 use Rattle.hp_model.specs.declared.entries.Event.{Event}
 use Rattle.hp_model.specs.declared.entries.Entry.{Entry}
-use Rattle.hp_model.specs.View.{tseg_size}
+use Rattle.hp_model.specs.View.{Locks, tseg_size, is_locked}
 use Rattle.hp_model.specs.Boot.{is_handed}
 use Rattle.hp_model.specs.SharedBytes.{Layout, layout_of}
 use Rattle.hp_model.specs.Handlers.{is_tile}
@@ -45,6 +47,22 @@ events_of es = map (λ (e : Entry). e.event) es
 pub record GoAlike (s t : State) (es fs : List Entry) : Type 0 where
   pub states : IsAlike s t
   pub entries : map visible_entry es ≡ map visible_entry fs
+
+-- an access that reaches locked memory alone, or nothing
+abbrev pub AreLocked : Locks → ℕ → ℕ → Type 0
+AreLocked l addr width = (x : ℕ) → (nat_le addr x && nat_lt x (addr + width)) ≡ true → is_locked l x ≡ true
+
+abbrev pub StaysInside : Locks → Access → Type 0
+StaysInside l (Load addr width) = Unit {0}
+StaysInside l (Store addr width value) = AreLocked l addr width
+StaysInside l (Swap addr expected desired) = AreLocked l addr 8
+StaysInside l (In port width) = ⊥
+StaysInside l (Out port width value) = ⊥
+StaysInside l (CfgRead reg) = Unit {0}
+StaysInside l (CfgWrite reg value) = ⊥
+StaysInside l (Icr high low) = ⊥
+StaysInside l Halt = ⊥
+StaysInside l Nop = Unit {0}
 
 -- two runs of a platform, that lead to states which agree in all that is visible, and from the hand-over on go on by the same events
 pub record GoOnAlike (p : Platform) (xs ys es fs : List Entry) (s t u v : State) : Type 0 where

@@ -3,4 +3,6 @@
 
 mod laws;
 
-pub use laws::{a_step_keeps_secrets, runs_keep_secrets};
+pub use laws::{
+    a_step_keeps_secrets, runs_keep_secrets, what_is_done_inside_is_not_seen, worked_twins,
+};
