@@ -1,6 +1,6 @@
 //! The registers behind ICH9's ports (QEMU, ICH9 LPC).
 
-ghost use Rattle.std.specs.Prelude.{◌≡◌, ◌<◌, ◌==◌, ◌%◌, ◌^◌, bit_and, true, if◌then◌else◌};
+ghost use Rattle.std.specs.Prelude.{◌≡◌, ◌↔◌, IsTrue, ◌<◌, ◌==◌, ◌%◌, ◌^◌, bit_and, true, if◌then◌else◌};
 ghost use Rattle.hp_model.specs.Ich9.{cleared, ich9_read, ich9_start, ich9_write, raises_smi, with_event};
 
 use crate::flags::SmiEn;
@@ -70,6 +70,16 @@ impl Ich9 {
             smi_en: SmiEn(0),
             gpe_status: 0,
         }
+    }
+
+    /// Whether the two are the same, register for register.
+    pub fn same(&self, other: &Ich9) -> bool
+        ensures { IsTrue result ↔ (self.now ≡ other.now) }
+    {
+        self.apm_cnt == other.apm_cnt
+            && self.apm_sts == other.apm_sts
+            && self.smi_en.bits() == other.smi_en.bits()
+            && self.gpe_status == other.gpe_status
     }
 
     /// What a write of the SMI command raises.
