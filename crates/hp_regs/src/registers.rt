@@ -1,13 +1,13 @@
 //! The register block, with reads and writes by offset.
 
-ghost use Rattle.std.specs.Prelude.{◌≡◌, ◌<◌, IfOk, length};
+ghost use Rattle.std.specs.Prelude.{◌≡◌, ◌↔◌, ◌<◌, IfOk, IsTrue, length};
 ghost use Rattle.hp_model.specs.Platform.{IsFit};
 ghost use Rattle.hp_model.specs.Block.{is_selected as names_processor, cut as cut_to, read_data, modern_read, block_read, write_control, write_command, write_data, modern_write, block_write, ejected_by, block_start, with_insert, with_removal};
 ghost use Rattle.hp_regs.specs.Ports.{IsWidth};
 
 use crate::flags::Control;
 use crate::slots::{
-    Slot, control_at, insert_at, keep_data_at, legacy_bitmap, request_removal_at, search,
+    Slot, are_same, control_at, insert_at, keep_data_at, legacy_bitmap, request_removal_at, search,
     slots_at_boot, status_at,
 };
 use hp_model::{NoMemory, Platform};
@@ -132,6 +132,18 @@ impl Block {
         ensures { self.new ≡ with_removal self.old s }
     {
         request_removal_at(self.slots.as_mut_slice(), s as usize);
+    }
+
+    /// Whether the two blocks are the same, register for register.
+    pub fn same(&self, other: &Block) -> bool
+        ensures { IsTrue result ↔ (self.now ≡ other.now) }
+    {
+        self.can_switch == other.can_switch
+            && self.modern == other.modern
+            && self.selector == other.selector
+            && self.command == other.command
+            && self.apic.as_slice() == other.apic.as_slice()
+            && are_same(self.slots.as_slice(), other.slots.as_slice())
     }
 
     /// Whether the selector names a possible processor.

@@ -1,6 +1,6 @@
 //! What the block keeps of one processor, and of all by place.
 
-ghost use Rattle.std.specs.Prelude.{◌≡◌, ◌<◌, ◌≤◌, ◌==◌, ◌&&◌, not, true, IfOk, IfSome, length, slice_index_or, slice_set};
+ghost use Rattle.std.specs.Prelude.{◌≡◌, ◌↔◌, ◌<◌, ◌≤◌, ◌==◌, ◌&&◌, not, true, IfOk, IfSome, IsTrue, length, slice_index_or, slice_set};
 ghost use Rattle.std.specs.List.{list_any, position};
 ghost use Rattle.hp_model.specs.Block.{no_slot, has_event as shows_event, status as status_of, controlled, with_data, found, bitmap as bits_of, first_places, slots_from};
 
@@ -46,6 +46,17 @@ impl Slot {
             ost_event: 0,
             ost_status: 0,
         }
+    }
+
+    fn is_same(&self, other: &Slot) -> bool
+        ensures { IsTrue result ↔ (self.now ≡ other.now) }
+    {
+        self.enabled == other.enabled
+            && self.inserting == other.inserting
+            && self.removing == other.removing
+            && self.ejecting == other.ejecting
+            && self.ost_event == other.ost_event
+            && self.ost_status == other.ost_status
     }
 
     fn is_enabled(&self) -> bool
@@ -221,4 +232,16 @@ fn is_among(place: usize, boot: &[u32]) -> bool
     ensures { result ≡ list_any (λ x. x == place) boot.now }
 {
     boot.iter().any(|other| *other as usize == place)
+}
+
+/// Whether two lists keep the same, place by place.
+pub fn are_same(slots: &[Slot], others: &[Slot]) -> bool
+    ensures { IsTrue result ↔ (slots.now ≡ others.now) }
+{
+    match (slots, others) {
+        ([], []) => true,
+        ([slot, slots @ ..], [other, others @ ..]) => slot.is_same(other)
+            && are_same(slots, others),
+        _ => false,
+    }
 }
