@@ -1,6 +1,6 @@
 //! The device: the selected item and the place in it, the features, and the high half of an address.
 
-ghost use Rattle.std.specs.Prelude.{◌≡◌, ◌≤◌, ◌+◌, ◌++◌, true, false, Some, None, ◌&&◌, ◌==◌, nat_le, length, take, replicate};
+ghost use Rattle.std.specs.Prelude.{◌≡◌, ◌↔◌, IsTrue, ◌≤◌, ◌+◌, ◌++◌, true, false, Some, None, ◌&&◌, ◌==◌, nat_le, length, take, replicate};
 ghost use Rattle.hp_model.specs.FwCfg.{fw_cfg_start, selected, advanced, next_byte, next_bytes as bytes_ahead, little_value, with_high, without_high, dma_address, item_of};
 ghost use Rattle.hp_model.specs.Transfers.{finished};
 ghost use Rattle.hp_fwcfg.specs.Items.{bytes_in};
@@ -75,6 +75,18 @@ impl FwCfg {
             negotiated: None,
             high: 0,
         }
+    }
+
+    /// Whether the two are the same: features, selection and its offset, request, and high half.
+    pub fn same(&self, other: &FwCfg) -> bool
+        ensures { IsTrue result ↔ (self.now ≡ other.now) }
+    {
+        self.supported.bits() == other.supported.bits()
+            && self.key == other.key
+            && self.offset == other.offset
+            && self.requested == other.requested
+            && self.negotiated == other.negotiated
+            && self.high == other.high
     }
 
     /// The selected item. A key that no file has names an empty one (own rule).
