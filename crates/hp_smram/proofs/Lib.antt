@@ -1,3 +1,4 @@
 pub mod Bits
 pub mod Reach
 pub mod Writes
+pub mod Spans

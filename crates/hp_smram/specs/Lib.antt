@@ -1,3 +1,4 @@
 pub mod Memory
 pub mod Reach
 pub mod Writes
+pub mod Spans

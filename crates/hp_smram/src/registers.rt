@@ -1,12 +1,15 @@
 //! The registers that lock memory, and what an access finds.
 
-ghost use Rattle.std.specs.Prelude.{◌≡◌, ◌↔◌, ◌<◌, ◌+◌, true, false, nat_le, bit_and, ◌≤◌, ◌^◌};
-ghost use Rattle.hp_model.specs.View.{f_smbase_written, ext_tseg_written, is_fixed as has_lock, lock_write, lock_read, is_hole, is_in_default as default_byte, is_in_tseg as tseg_byte};
+ghost use Rattle.std.specs.Prelude.{◌≡◌, ◌↔◌, ℕ, IsTrue, ◌<◌, ◌+◌, true, false, nat_le, bit_and, ◌≤◌, ◌^◌};
+ghost use Rattle.hp_model.specs.View.{f_smbase_written, ext_tseg_written, is_fixed as has_lock, lock_write, lock_read, is_hole, is_in_default as default_byte, is_in_tseg as tseg_byte, is_locked};
+ghost use Rattle.hp_model.specs.Spans.{is_in_spans};
 ghost use Rattle.hp_smram.specs.Memory.{IsMemorySize, locks_of};
+ghost use Rattle.hp_smram.specs.Spans.{default_span, tseg_span, locked_spans, spans_in};
 ghost use Rattle.hp_smram.specs.Reach.{IsWidth, HidesSome, has_byte, is_between};
 
 use crate::flags::{Esmramc, FSmbase, Smram, tseg_mib};
 use bitflags::Flags;
+use hp_model::Span;
 use std::marker::Model;
 
 /// The largest TSEG, which register 50 asks for (own rule), and the RAM that it needs.
@@ -134,6 +137,58 @@ impl Locks {
             0x50 if !self.is_fixed() => self.write_ext_tseg(value),
             _ => {}
         }
+    }
+
+    /// Whether the two are the same, register for register.
+    pub fn same(&self, other: &Locks) -> bool
+        ensures { IsTrue result ↔ (self.now ≡ other.now) }
+    {
+        self.low_memory == other.low_memory
+            && self.has_default == other.has_default
+            && self.f_smbase.bits() == other.f_smbase.bits()
+            && self.smram.bits() == other.smram.bits()
+            && self.esmramc.bits() == other.esmramc.bits()
+            && self.has_ext == other.has_ext
+            && self.ext_tseg == other.ext_tseg
+    }
+
+    #[tactic(auto, using(crate::proofs::Spans::span_facts))]
+    fn locked_default(&self) -> Option<Span>
+        ensures { result ≡ default_span self.now }
+    {
+        if self.f_smbase.contains(FSmbase::LCK) {
+            Some(Span {
+                from: 0x30000,
+                to: 0x4ffff,
+            })
+        } else {
+            None
+        }
+    }
+
+    #[tactic(auto, using(crate::proofs::Spans::span_facts))]
+    fn locked_tseg(&self) -> Option<Span>
+        ensures { result ≡ tseg_span self.now }
+    {
+        let mib = tseg_mib(self.ext_tseg, self.esmramc);
+        if mib > 0 && self.smram.bits() == Smram::LOCKED.bits() {
+            Some(Span {
+                from: self.low_memory - mib * 0x100000,
+                to: self.low_memory - 1,
+            })
+        } else {
+            None
+        }
+    }
+
+    /// The default area and TSEG, each where it is locked.
+    pub fn locked(&self) -> [Option<Span>; 2]
+        ensures spans { result ≡ locked_spans self.now }
+        ensures bytes { (x : ℕ) → is_in_spans (spans_in result) x ≡ is_locked self.now x }
+    {
+        // brings in what is known of the registers
+        let _ = &self.low_memory;
+        [self.locked_default(), self.locked_tseg()]
     }
 
     /// The first address past RAM.
