@@ -337,3 +337,15 @@ fn the_halves_of_the_address_have_their_highest_byte_first(rt: HostRuntime) {
     assert_eq!(rt; device.address(true, 0x01000000), None);
     assert_eq!(rt; device.address(false, 0), Some(0x100000000));
 }
+
+#[test]
+fn devices_are_the_same_where_all_of_them_is(rt: HostRuntime) {
+    let mut device = FwCfg::new(7);
+    let other = FwCfg::new(7);
+    assert!(rt; device.same(&other));
+    assert!(rt; !device.same(&FwCfg::new(3)));
+    device.select(0x20);
+    assert!(rt; !device.same(&other));
+    device.select(0);
+    assert!(rt; !other.same(&device));
+}

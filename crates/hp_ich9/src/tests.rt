@@ -145,3 +145,16 @@ fn a_processor_event_stays_until_a_1_is_written_to_bit_2(rt: HostRuntime) {
     let _ = ich9.out(0x620, 1, 0xff);
     assert_eq!(rt; ich9.inp(0x620, 1), 0);
 }
+
+#[test]
+fn two_are_the_same_where_their_registers_are(rt: HostRuntime) {
+    let mut ich9 = Ich9::new();
+    let other = Ich9::new();
+    assert!(rt; ich9.same(&other));
+    let _ = ich9.out(0x630, 4, 0x40);
+    assert!(rt; !ich9.same(&other));
+    let _ = ich9.out(0x630, 4, 0);
+    assert!(rt; ich9.same(&other));
+    ich9.gpe(2);
+    assert!(rt; !other.same(&ich9));
+}

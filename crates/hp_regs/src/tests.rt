@@ -287,3 +287,18 @@ fn the_legacy_form_reads_a_bitmap_until_a_0_switches(rt: HostRuntime) -> Result<
     ];
     run(&rt, rt.alloc(), 10, 4, false, &few)
 }
+
+#[test]
+fn blocks_are_the_same_where_their_registers_are(rt: HostRuntime) -> Result<(), Fail> {
+    let alloc = rt.alloc();
+    let p = platform(alloc, 3, 1, true)?;
+    let wider = platform(alloc, 4, 1, true)?;
+    assert!(rt; fits(&p).is_ok() && fits(&wider).is_ok());
+    let mut block = Block::new(alloc, &p)?;
+    let other = Block::new(alloc, &p)?;
+    assert!(rt; block.same(&other));
+    assert!(rt; !block.same(&Block::new(alloc, &wider)?));
+    let _ = block.write(0, 4, 0);
+    assert!(rt; !block.same(&other));
+    Ok(())
+}

@@ -3,6 +3,7 @@
 ghost use Rattle.hp_smram.specs.Reach.{IsWidth};
 
 use crate::registers::{Locks, Touch};
+use hp_model::Span;
 use std::process::Abort;
 
 const LOW_MEMORY: u32 = 0x8000000;
@@ -205,4 +206,32 @@ fn registers_keep_their_bits_until_d_lck(rt: HostRuntime) {
         locks.write(reg, 0xff);
         assert_eq!(rt; locks.read(reg), 0, "register {reg:x}");
     }
+}
+
+/// Whether a range is this one.
+fn is_range(span: Option<Span>, from: u32, to: u32) -> bool {
+    match span {
+        Some(span) => span.from == from && span.to == to,
+        None => false,
+    }
+}
+
+#[test]
+fn locked_ranges_are_listed_once_they_are_locked(rt: HostRuntime) {
+    let [area, tseg] = locks_after(&[(0x9c, 0xff), (0x9e, 3), (0x9d, 0x10)]).locked();
+    assert!(rt; area.is_none() && tseg.is_none());
+    let [area, tseg] = locks_after(&[(0x9d, 0x18)]).locked();
+    assert!(rt; area.is_none() && tseg.is_none());
+    let [area, tseg] = locks_after(&[(0x9c, 0xff), (0x9c, 2), (0x9e, 3), (0x9d, 0x18)]).locked();
+    assert!(rt; is_range(area, 0x30000, 0x4ffff));
+    assert!(rt; is_range(tseg, 0x7e00000, 0x7ffffff));
+}
+
+#[test]
+fn locks_are_the_same_where_their_registers_are(rt: HostRuntime) {
+    let writes = [(0x9c, 0xff), (0x50, 0xff), (0x9e, 7)];
+    let locks = locks_after(&writes);
+    assert!(rt; locks.same(&locks_after(&writes)));
+    assert!(rt; !locks.same(&locks_after(&writes[1..])));
+    assert!(rt; !locks.same(&Locks::new(LOW_MEMORY, true, false)));
 }
