@@ -1,0 +1,36 @@
+-- Numbers of so many hexadecimal digits.
+use Rattle.std.proofs.Common.{◌≡◌, ℕ, ◌+◌, ◌*◌, ◌^◌, ◌<◌, ◌≤◌, List, length, drop, get_or, Some, None, arith}
+use Rattle.std.proofs.lemmas.Grind.{pow_more}
+use Rattle.std.proofs.lemmas.List.{drop_more, drop_all}
+use Rattle.std.proofs.Math.Nat.{pow-le-pow_right}
+use Rattle.hp_reading.specs.Forms.{hex_digit, hex_onto}
+
+-- the value has at most so many digits
+pub record IsBelow (value digits : ℕ) : Type 0 where
+  pub below : value < 16 ^ digits
+
+pub below_none : IsBelow 0 0
+below_none = record { below = omega arith }
+
+pub below_digit : (value digits digit : ℕ) → IsBelow value digits → digit < 16 → IsBelow (value * 16 + digit) (digits + 1)
+below_digit value digits digit h d = record { below = rw (pow_more 16 digits) (omega (arith, h.below)) }
+
+pub below_fits : (value digits : ℕ) → IsBelow value digits → digits < 16 → value < 2 ^ 60
+below_fits value digits h d =
+    let more : 16 ^ digits ≤ 16 ^ 15 = pow-le-pow_right (omega arith) {i = digits} {j = 15} (omega arith) in
+    omega (arith, h.below)
+
+-- one more digit was read
+pub hex_more : (value : ℕ) (text : List ℕ) (i digit d : ℕ) → i < length text → Some digit ≡ hex_digit (get_or text i d)
+    → hex_onto value (drop i text) ≡ hex_onto (value * 16 + digit) (drop (i + 1) text)
+hex_more value text i digit d h is = rw (drop_more text i d h, ← is)
+
+-- what stands there is no digit
+pub hex_stop : (value : ℕ) (text : List ℕ) (i d : ℕ) → i < length text → None ≡ hex_digit (get_or text i d)
+    → hex_onto value (drop i text) ≡ None
+hex_stop value text i d h is = rw (drop_more text i d h, ← is)
+
+pub hex_done : (value : ℕ) (text : List ℕ) (i : ℕ) → length text ≤ i → hex_onto value (drop i text) ≡ Some value
+hex_done value text i h = rw (drop_all i text h)
+
+pub ruleset hex_steps = (below_none, below_digit, below_fits, hex_more, hex_stop, hex_done)

@@ -1,0 +1,5 @@
+pub mod Digits
+pub mod HexText
+pub mod Decimals
+pub mod Front
+pub mod Filled

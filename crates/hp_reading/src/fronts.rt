@@ -1,0 +1,106 @@
+//! Words and numbers at the front of a text.
+
+ghost use Rattle.std.specs.Prelude.{◌≡◌, ◌≤◌, ◌<◌, ◌^◌, length, IfSome, option_map};
+ghost use Rattle.hp_reading.specs.Forms.{past as text_past, hex_digit, hex_onto, hex_front, is_decimal as decimal_digit, decimal_onto, decimal_front};
+
+/// What follows a word at the front of the text.
+#[tactic(auto, unfolding(crate::specs::Forms::past))]
+pub fn past<'a>(text: &'a [u8], word: &[u8]) -> Option<&'a [u8]>
+    ensures { option_map (λ rest. rest.now) result ≡ text_past word.now text.now }
+{
+    match word {
+        [] => Some(text),
+        [first, others @ ..] => match text {
+            [byte, rest @ ..] => if *first == *byte {
+                past(rest, others)
+            } else {
+                None
+            },
+            [] => None,
+        },
+    }
+}
+
+fn digit_of(byte: u8) -> Option<u8>
+    ensures value { result ≡ hex_digit byte }
+    ensures small { IfSome result (λ digit. digit < 16) }
+{
+    match byte {
+        b'0'..=b'9' => Some(byte - b'0'),
+        b'a'..=b'f' => Some(byte - 87),
+        _ => None,
+    }
+}
+
+/// The number whose hexadecimal digits the whole text is.
+#[tactic(auto, using(crate::proofs::Digits::hex_steps))]
+fn value_of(text: &[u8]) -> Option<u64>
+    requires { length text.now ≤ 16 }
+    ensures value { result ≡ hex_onto 0 text.now }
+    ensures small { IfSome result (λ value. value < 16 ^ length text.now) }
+{
+    let mut value: u64 = 0;
+    for byte in text {
+        match digit_of(*byte) {
+            Some(digit) => value = value * 16 + digit as u64,
+            None => return None,
+        }
+    }
+    Some(value)
+}
+
+/// The number of so many hexadecimal digits at the front, and what follows it.
+#[tactic(auto, unfolding(crate::specs::Forms::hex_front))]
+pub fn hex(text: &[u8], digits: usize) -> Option<(u64, &[u8])>
+    requires { digits ≤ 16 }
+    ensures value { option_map (λ p. (p.0, p.1.now)) result ≡ hex_front digits text.now }
+    ensures small { IfSome result (λ p. p.0 < 16 ^ digits) }
+{
+    if text.len() < digits {
+        return None;
+    }
+    let (front, rest) = text.split_at(digits);
+    let value = value_of(front)?;
+    Some((value, rest))
+}
+
+fn is_decimal(byte: u8) -> bool
+    ensures { result ≡ decimal_digit byte }
+{
+    b'0' <= byte && byte <= b'9'
+}
+
+/// Further digits, read onto the value of those before them.
+fn onto(text: &[u8], most: u64, value: u64) -> Option<(u64, &[u8])>
+    requires { value ≤ most }
+    ensures value { option_map (λ p. (p.0, p.1.now)) result ≡ decimal_onto most value text.now }
+    ensures small { IfSome result (λ p. p.0 ≤ most) }
+{
+    let [first, rest @ ..] = text else {
+        return Some((value, text));
+    };
+    if !is_decimal(*first) {
+        return Some((value, text));
+    }
+    let more = value as u128 * 10 + (*first - b'0') as u128;
+    if more <= most as u128 {
+        onto(rest, most, more as u64)
+    } else {
+        None
+    }
+}
+
+/// The decimal number without leading zeros at the front, which is at most `most`, and what follows it.
+#[tactic(auto, unfolding(crate::specs::Forms::decimal_front))]
+pub fn decimal(text: &[u8], most: u64) -> Option<(u64, &[u8])>
+    ensures value { option_map (λ p. (p.0, p.1.now)) result ≡ decimal_front most text.now }
+    ensures small { IfSome result (λ p. p.0 ≤ most) }
+{
+    let [first, rest @ ..] = text else {
+        return None;
+    };
+    if *first == b'0' {
+        return Some((0, rest));
+    }
+    if is_decimal(*first) { onto(text, most, 0) } else { None }
+}

@@ -1,0 +1,10 @@
+//! Reading traces: the grammar of the lines of a trace, and a reader that is given line by line.
+#![tactic(auto)]
+
+mod accesses;
+mod entries;
+mod fronts;
+mod groups;
+mod outcomes;
+
+pub use entries::{end_number, read_entry};
