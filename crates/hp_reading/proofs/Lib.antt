@@ -6,3 +6,5 @@ pub mod Filled
 pub mod Rows
 pub mod Widths
 pub mod AccessLines
+pub mod OutcomeLines
+pub mod EntryLines

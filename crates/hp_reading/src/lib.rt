@@ -5,6 +5,8 @@ mod accesses;
 mod entries;
 mod fronts;
 mod groups;
+mod laws;
 mod outcomes;
 
 pub use entries::{end_number, read_entry};
+pub use laws::entries_are_read_as_spelled;
