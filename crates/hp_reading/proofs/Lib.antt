@@ -8,3 +8,5 @@ pub mod Widths
 pub mod AccessLines
 pub mod OutcomeLines
 pub mod EntryLines
+pub mod Numbers
+pub mod HeaderLines

@@ -2,6 +2,8 @@
 
 ghost use Rattle.std.specs.Prelude.{◌≡◌, ◌↔◌, ℕ, List, Some};
 ghost use Rattle.hp_model.specs.declared.entries.Entry.{Entry};
+ghost use Rattle.hp_model.specs.declared.platforms.Platform.{Platform};
+ghost use Rattle.hp_reading.specs.Header.{head_of, IsHeader};
 ghost use Rattle.hp_reading.specs.Lines.{entry_of};
 ghost use Rattle.hp_reading.specs.Written.{IsLine};
 
@@ -9,4 +11,9 @@ ghost use Rattle.hp_reading.specs.Written.{IsLine};
 /// such entry has one line, and a line one entry.
 pub fn entries_are_read_as_spelled()
     ensures { (text : List ℕ) (e : Entry) → (entry_of text ≡ Some e) ↔ IsLine text e }
+{}
+
+/// The texts that are read as a platform are exactly the headers of those that fit. So a header names one platform.
+pub fn headers_are_read_as_spelled()
+    ensures { (text : List ℕ) (p : Platform) → (head_of text ≡ Some p) ↔ IsHeader text p }
 {}

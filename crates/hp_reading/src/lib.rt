@@ -5,8 +5,10 @@ mod accesses;
 mod entries;
 mod fronts;
 mod groups;
+mod headers;
 mod laws;
 mod outcomes;
 
 pub use entries::{end_number, read_entry};
-pub use laws::entries_are_read_as_spelled;
+pub use headers::read_head;
+pub use laws::{entries_are_read_as_spelled, headers_are_read_as_spelled};
