@@ -10,3 +10,4 @@ pub mod OutcomeLines
 pub mod EntryLines
 pub mod Numbers
 pub mod HeaderLines
+pub mod Heads

@@ -2,3 +2,4 @@ pub mod Forms
 pub mod Lines
 pub mod Written
 pub mod Header
+pub mod Reader

@@ -3,12 +3,16 @@
 
 mod accesses;
 mod entries;
+mod faults;
 mod fronts;
 mod groups;
 mod headers;
 mod laws;
 mod outcomes;
+mod readers;
 
 pub use entries::{end_number, read_entry};
+pub use faults::LineFault;
 pub use headers::read_head;
 pub use laws::{entries_are_read_as_spelled, headers_are_read_as_spelled};
+pub use readers::{Piece, Reader};
