@@ -11,3 +11,5 @@ pub mod EntryLines
 pub mod Numbers
 pub mod HeaderLines
 pub mod Heads
+pub mod Feeds
+pub mod TraceLines

@@ -3,3 +3,4 @@ pub mod Lines
 pub mod Written
 pub mod Header
 pub mod Reader
+pub mod Trace
