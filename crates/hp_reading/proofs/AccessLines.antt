@@ -1,18 +1,18 @@
 -- The text of an access with its answer, written and read.
-use Rattle.std.proofs.Common.{◌≡◌, ℕ, ◌*◌, ◌^◌, ◌<◌, nat_lt, ◌&&◌, Bool, true, false, List, [], ◌∷◌, ◌++◌, codes, Option, Some, None, refl, sym, ap, subst, ◌∙◌}
+use Rattle.std.proofs.Common.{◌≡◌, ℕ, ◌*◌, ◌^◌, nat_lt, ◌&&◌, Bool, true, false, List, [], ◌∷◌, ◌++◌, codes, Some, refl, subst, ◌∙◌}
 use Rattle.std.proofs.lemmas.Bool.{and_parts, and_from}
-use Rattle.std.proofs.lemmas.Option.{none-some, same_Some, option_and_then_some}
+use Rattle.std.proofs.lemmas.Option.{none-some, option_and_then_some}
 use Rattle.hp_model.specs.declared.accesses.Access.{Access}
 use Rattle.hp_model.specs.declared.accesses.Access.TheVariants.{Load, Store, Swap, In, Out, CfgRead, CfgWrite, Icr, Halt, Nop}
 use Rattle.hp_model.specs.declared.accesses.Answer.{Answer}
 use Rattle.hp_model.specs.declared.accesses.Answer.TheVariants.{Quiet, Value}
-use Rattle.hp_model.specs.Step.{is_normal, is_memory_width, is_port_width}
+use Rattle.hp_model.specs.Step.{is_memory_width, is_port_width}
 use Rattle.hp_model.specs.Text.{spell, access_pieces, value_of}
 use Rattle.hp_reading.specs.declared.accesses.Made.{Made}
-use Rattle.hp_reading.specs.Forms.{past, Field, fits, filled, is_sound}
+use Rattle.hp_reading.specs.Forms.{past, fits, filled}
 use Rattle.hp_reading.specs.Lines.{only, quiet, answered, digits_and, load_form, store_form, in_form, out_form, swap_form, memory_width, port_width, load_line, store_line, in_line, out_line, swap_line, read_line, write_line, icr_line, access_of}
 use Rattle.hp_reading.specs.Lines as lines
-use Rattle.hp_reading.specs.Written.{fields_fit, answer_fits, access_fits}
+use Rattle.hp_reading.specs.Written.{fields_fit, access_fits}
 use Rattle.hp_reading.proofs.Rows.{row_is, only_is, two-filled, four-filled, two_is, four_is}
 use Rattle.hp_reading.proofs.Widths.{IsMemoryGlyph, IsPortGlyph, memory_is, port_is, memory_glyph, port_glyph}
 
@@ -116,7 +116,7 @@ reads_swap addr expected desired seen h =
     let (small, more) = and_parts (nat_lt addr (2 ^ 32)) _ fields in
     let (old, new) = and_parts (nat_lt expected (2 ^ 64)) (nat_lt desired (2 ^ 64)) more in
     at_swap _ ∙ four-filled swap_form (λ addr expected desired seen. answered (Swap addr expected desired) seen) addr expected desired seen refl
-      (and_from (nat_lt addr (2 ^ 32)) _ small (and_from (nat_lt expected (2 ^ 64)) _ old (both _ _ new value)))
+    (and_from (nat_lt addr (2 ^ 32)) _ small (and_from (nat_lt expected (2 ^ 64)) _ old (both _ _ new value)))
 
 pub reads_access : (a : Access) (answer : Answer) → access_fits a answer ≡ true → Reads a answer
 reads_access (Load addr w) Quiet h = not_quiet (is_memory_width w) (nat_lt addr (2 ^ 32)) h

@@ -1,6 +1,6 @@
 -- Decimal text, written and read.
 use Rattle.std.proofs.Common.{◌≡◌, ℕ, ◌+◌, ◌-◌, ◌*◌, ◌/◌, ◌%◌, ◌^◌, ◌==◌, ◌<◌, ◌≤◌, nat_le, ◌&&◌, not, Bool, true, false, List, [], ◌∷◌, ◌++◌, Option, Some, None, if◌then◌else◌, refl, sym, ap, ◌∙◌, arith, append_assoc, append-nil}
-use Rattle.std.proofs.lemmas.Bool.{eqb-true, eqb-false, and_parts, and_from, leb-true, le-leb}
+use Rattle.std.proofs.lemmas.Bool.{eqb-true, and_parts, leb-true, le-leb}
 use Rattle.std.proofs.lemmas.Bool.Decides.{nat_tests}
 use Rattle.std.proofs.lemmas.Fmt.{decimal_digit, decimal_step, decimal_by_steps}
 use Rattle.std.proofs.lemmas.Option.{none-some, same_Some}
@@ -33,6 +33,7 @@ onto-decimal most n text small h = decimal_by_steps (λ n ds. n ≤ most → (te
     one n small h text =
         let same : 0 * 10 + n ≡ n = omega arith in
         onto-digit most 0 n text small (omega arith) ∙ rw same refl
+
     more : (n : ℕ) (ds : List ℕ) → 10 ≤ n → (n / 10 ≤ most → (text : List ℕ) → decimal_onto most 0 (ds ++ text) ≡ decimal_onto most (n / 10) text)
         → n ≤ most → (text : List ℕ) → decimal_onto most 0 ((ds ++ ((48 + n % 10) ∷ [])) ++ text) ≡ decimal_onto most n text
     more n ds big before h text =
@@ -54,6 +55,7 @@ begins-decimal n above small = decimal_by_steps (λ n ds. 0 < n → begins ds �
   where
     one : (n : ℕ) → n < 10 → 0 < n → begins ((48 + n) ∷ []) ≡ true
     one n small above = grind (arith, nat_tests)
+
     more : (n : ℕ) (ds : List ℕ) → 10 ≤ n → (0 < n / 10 → begins ds ≡ true) → 0 < n → begins (ds ++ ((48 + n % 10) ∷ [])) ≡ true
     more n ds big before above = begins-append ds _ (before (omega arith))
 

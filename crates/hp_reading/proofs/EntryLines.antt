@@ -1,28 +1,26 @@
 -- The line of an entry, written and read.
-use Rattle.std.proofs.Common.{◌≡◌, ℕ, ◌^◌, ◌==◌, ◌<◌, ◌≤◌, nat_lt, nat_le, ◌&&◌, Bool, true, false, List, [], ◌∷◌, ◌++◌, codes, Option, Some, None, option_map, option_and_then, if◌then◌else◌, refl, sym, ap, subst, ◌∙◌, append_assoc, arith, ◌↔◌}
+use Rattle.std.proofs.Common.{◌≡◌, ℕ, ◌^◌, ◌==◌, nat_le, ◌&&◌, Bool, true, false, List, [], ◌∷◌, ◌++◌, codes, Option, Some, None, option_map, option_and_then, if◌then◌else◌, refl, sym, ap, subst, ◌∙◌, append_assoc, arith, ◌↔◌}
 use Rattle.std.proofs.lemmas.Bool.{and_parts, and_from, ltb-true, lt-ltb, leb-true, le-leb, eqb-true}
 use Rattle.std.proofs.lemmas.List.{append_cancel_right}
-use Rattle.std.proofs.lemmas.Option.{none-some, same_Some, option_and_then_some}
+use Rattle.std.proofs.lemmas.Option.{none-some, option_and_then_some}
 use Rattle.std.specs.Fmt.{decimal}
 use Rattle.hp_model.specs.declared.accesses.Access.{Access}
 use Rattle.hp_model.specs.declared.accesses.Access.TheVariants.{Load, Store, Swap, In, Out, CfgRead, CfgWrite, Icr, Halt, Nop}
 use Rattle.hp_model.specs.declared.accesses.Answer.{Answer}
 use Rattle.hp_model.specs.declared.accesses.Answer.TheVariants.{Quiet, Value}
-use Rattle.hp_model.specs.declared.outcomes.Outcome.{Outcome}
 use Rattle.hp_model.specs.declared.entries.Event.{Event}
 use Rattle.hp_model.specs.declared.entries.Event.TheVariants.{Insert, Remove, Do, TakeSmi, TakeInit, Resume, Tell}
 use Rattle.hp_model.specs.declared.entries.Entry.{Entry}
-use Rattle.hp_model.specs.Text.{Piece, hex, spell, access_pieces, value_of, at_pieces, cpu_pieces, actor_pieces, event_pieces, line_of, line_text}
-use Rattle.hp_reading.specs.declared.accesses.Made.{Made}
+use Rattle.hp_model.specs.Text.{Piece, hex, spell, access_pieces, value_of, actor_pieces, event_pieces, line_of, line_text}
 use Rattle.hp_reading.specs.Forms.{past, hex_front, decimal_front}
 use Rattle.hp_reading.specs.Lines.{most32, most64, row, only, entry, accessed, access_of, access_line, outcome_of, told_line, outside_line, inside_line, behind_address, address_line, behind_cpu, cpu_line, one_decimal, host_line, entry_of}
 use Rattle.hp_reading.specs.Lines as lines
-use Rattle.hp_reading.specs.Written.{has_32, is_quiet, is_outside, is_inside, is_either, access_fits, outcome_fits, is_written, is_well_formed, IsLine}
-use Rattle.hp_reading.proofs.Front.{past-word, past_is, mapped, front-hex, hex_is}
+use Rattle.hp_reading.specs.Written.{has_32, is_either, access_fits, outcome_fits, is_written, is_well_formed, IsLine}
+use Rattle.hp_reading.proofs.Front.{past-word, mapped, front-hex, hex_is}
 use Rattle.hp_reading.proofs.Decimals.{front-decimal, front_is}
 use Rattle.hp_reading.proofs.Rows.{row_is, only_is, one-filled, one_is}
-use Rattle.hp_reading.proofs.AccessLines.{reads_access, IsAccess, access_is}
-use Rattle.hp_reading.proofs.OutcomeLines.{to_32, from_32, reads_outcome, IsOutcome, outcome_is}
+use Rattle.hp_reading.proofs.AccessLines.{reads_access, access_is}
+use Rattle.hp_reading.proofs.OutcomeLines.{to_32, from_32, reads_outcome, outcome_is}
 
 -- the text of a line, with its pieces in one list
 abbrev pub entry_pieces : Entry → List Piece
@@ -228,9 +226,9 @@ outside_access_is cpu t e made =
 outside_is : (cpu : ℕ) (t : List ℕ) (e : Entry) → outside_line cpu t ≡ Some e → IsStepOut cpu t e
 outside_is cpu t e found =
     row_is (IsStepOut cpu) (codes "smi") t (only (entry (TakeSmi cpu) None)) _ e found
-      (λ rest is. only_is (IsStepOut cpu) (codes "smi") rest (entry (TakeSmi cpu) None) e is (record { small = λ h. and_from (has_32 cpu) true h refl; spelled = refl }))
+    (λ rest is. only_is (IsStepOut cpu) (codes "smi") rest (entry (TakeSmi cpu) None) e is (record { small = λ h. and_from (has_32 cpu) true h refl; spelled = refl }))
     (λ found. row_is (IsStepOut cpu) (codes "init") t (only (entry (TakeInit cpu) None)) _ e found
-      (λ rest is. only_is (IsStepOut cpu) (codes "init") rest (entry (TakeInit cpu) None) e is (record { small = λ h. and_from (has_32 cpu) true h refl; spelled = refl }))
+    (λ rest is. only_is (IsStepOut cpu) (codes "init") rest (entry (TakeInit cpu) None) e is (record { small = λ h. and_from (has_32 cpu) true h refl; spelled = refl }))
     (λ found. outside_access_is cpu t e found))
 
 inside_access_is : (cpu at : ℕ) (t : List ℕ) (e : Entry) → access_line cpu (Some at) t ≡ Some e → IsStepIn cpu at t e
@@ -260,8 +258,8 @@ told_is cpu at t e found = by (cpu == 0) refl found
 inside_is : (cpu at : ℕ) (t : List ℕ) (e : Entry) → inside_line cpu at t ≡ Some e → IsStepIn cpu at t e
 inside_is cpu at t e found =
     row_is (IsStepIn cpu at) (codes "rsm") t (only (entry (Resume cpu) (Some at))) _ e found
-      (λ rest is. only_is (IsStepIn cpu at) (codes "rsm") rest (entry (Resume cpu) (Some at)) e is
-        (record { small = λ h k. and_from (has_32 cpu) _ h (and_from (has_32 at) true k refl); spelled = refl }))
+    (λ rest is. only_is (IsStepIn cpu at) (codes "rsm") rest (entry (Resume cpu) (Some at)) e is
+    (record { small = λ h k. and_from (has_32 cpu) _ h (and_from (has_32 at) true k refl); spelled = refl }))
     (λ found. row_is (IsStepIn cpu at) (codes "tell ") t (told_line cpu at) _ e found (λ rest is. told_is cpu at rest e is)
     (λ found. inside_access_is cpu at t e found))
 
@@ -273,7 +271,7 @@ record IsBehind (cpu at : ℕ) (t : List ℕ) (e : Entry) : Type 0 where
 behind_address_is : (cpu at : ℕ) (t : List ℕ) (e : Entry) → behind_address cpu at t ≡ Some e → IsBehind cpu at t e
 behind_address_is cpu at t e found =
     row_is (IsBehind cpu at) (codes " ") t (inside_line cpu at) None e found
-      (λ rest is. let step = inside_is cpu at rest e is in record { small = step.small; spelled = step.spelled })
+    (λ rest is. let step = inside_is cpu at rest e is in record { small = step.small; spelled = step.spelled })
     (λ none. absurd (none-some e none))
 
 address_is : (cpu : ℕ) (t : List ℕ) (e : Entry) → address_line cpu t ≡ Some e → IsStep cpu (codes " @" ++ t) e
@@ -288,7 +286,7 @@ behind_is : (cpu : ℕ) (t : List ℕ) (e : Entry) → behind_cpu cpu t ≡ Some
 behind_is cpu t e found =
     row_is (IsStep cpu) (codes " @") t (address_line cpu) _ e found (λ rest is. address_is cpu rest e is)
     (λ found. row_is (IsStep cpu) (codes " ") t (outside_line cpu) None e found
-      (λ rest is. let step = outside_is cpu rest e is in record { small = step.small; spelled = step.spelled })
+    (λ rest is. let step = outside_is cpu rest e is in record { small = step.small; spelled = step.spelled })
     (λ none. absurd (none-some e none)))
 
 cpu_is : (t : List ℕ) (e : Entry) → cpu_line t ≡ Some e → IsEntry (codes "p" ++ t) e
@@ -302,17 +300,19 @@ cpu_is t e found =
 host_is : (t : List ℕ) (e : Entry) → host_line t ≡ Some e → IsEntry (codes "host " ++ t) e
 host_is t e found =
     row_is (λ t e. IsEntry (codes "host " ++ t) e) (codes "insert ") t (lines.one (one_decimal most32) (λ cpu. entry (Insert cpu) None)) _ e found
-      (λ rest is. one_is (one_decimal most32) rest e refl (λ cpu. entry (Insert cpu) None) is
-      (λ k fit is same. subst (IsEntry (codes "host " ++ (codes "insert " ++ rest))) same (host_fits k fit rest is)))
+    (λ rest is. one_is (one_decimal most32) rest e refl (λ cpu. entry (Insert cpu) None) is
+    (λ k fit is same. subst (IsEntry (codes "host " ++ (codes "insert " ++ rest))) same (host_fits k fit rest is)))
     (λ found. row_is (λ t e. IsEntry (codes "host " ++ t) e) (codes "remove ") t (lines.one (one_decimal most32) (λ cpu. entry (Remove cpu) None)) None e found
-      (λ rest is. one_is (one_decimal most32) rest e refl (λ cpu. entry (Remove cpu) None) is
-      (λ k fit is same. subst (IsEntry (codes "host " ++ (codes "remove " ++ rest))) same (host_leaves k fit rest is)))
+    (λ rest is. one_is (one_decimal most32) rest e refl (λ cpu. entry (Remove cpu) None) is
+    (λ k fit is same. subst (IsEntry (codes "host " ++ (codes "remove " ++ rest))) same (host_leaves k fit rest is)))
     (λ none. absurd (none-some e none)))
   where
     cpu_small : (k : ℕ) → (nat_le k most32 && true) ≡ true → has_32 k ≡ true
     cpu_small k fit = let (small, last) = and_parts (nat_le k most32) true fit in from_32 k small
+
     host_fits : (k : ℕ) → (nat_le k most32 && true) ≡ true → (rest : List ℕ) → rest ≡ decimal k ++ [] → IsEntry (codes "host " ++ (codes "insert " ++ rest)) (entry (Insert k) None)
     host_fits k fit rest is = record { fit = and_from (has_32 k) true (cpu_small k fit) refl; spelled = rw is refl }
+
     host_leaves : (k : ℕ) → (nat_le k most32 && true) ≡ true → (rest : List ℕ) → rest ≡ decimal k ++ [] → IsEntry (codes "host " ++ (codes "remove " ++ rest)) (entry (Remove k) None)
     host_leaves k fit rest is = record { fit = and_from (has_32 k) true (cpu_small k fit) refl; spelled = rw is refl }
 
@@ -329,6 +329,7 @@ lines_are_read t e = (there, back)
   where
     there : entry_of t ≡ Some e → IsLine t e
     there found = let is = entry_is t e found in record { well_formed = is.fit; spelled = ap line_of is.spelled ∙ sym (line_text-pieces e) }
+
     back : IsLine t e → entry_of t ≡ Some e
     back is =
         let same : t ≡ spell (entry_pieces e) = append_cancel_right t (spell (entry_pieces e)) (10 ∷ []) (is.spelled ∙ line_text-pieces e) in

@@ -1,5 +1,5 @@
 -- No line holds a line feed before its end.
-use Rattle.std.proofs.Common.{◌≡◌, ℕ, zero, suc, ◌/◌, ◌%◌, ◌==◌, ◌<◌, ◌&&◌, not, Bool, true, false, List, [], ◌∷◌, ◌++◌, codes, Option, Some, None, if◌then◌else◌, refl, sym, ap, ◌∙◌, arith}
+use Rattle.std.proofs.Common.{◌≡◌, ℕ, zero, suc, ◌/◌, ◌%◌, ◌==◌, ◌<◌, ◌&&◌, not, Bool, true, false, List, [], ◌∷◌, ◌++◌, codes, Option, Some, None, if◌then◌else◌, refl, arith}
 use Rattle.std.proofs.lemmas.Bool.{and_parts, and_from}
 use Rattle.std.proofs.lemmas.Bool.Decides.{nat_tests}
 use Rattle.std.specs.Fmt.{decimal, digits, digits_onto, digit_glyph}
@@ -15,7 +15,7 @@ use Rattle.hp_model.specs.declared.outcomes.Outcome.TheVariants.{Added, Ejected,
 use Rattle.hp_model.specs.declared.entries.Event.{Event}
 use Rattle.hp_model.specs.declared.entries.Event.TheVariants.{Insert, Remove, Do, TakeSmi, TakeInit, Resume, Tell}
 use Rattle.hp_model.specs.declared.entries.Entry.{Entry}
-use Rattle.hp_model.specs.Text.{Piece, word, number, hexadecimal, spell, spell_piece, hex, numbers_text, truth_text, ext_pieces, delivery_pieces, x2apic_pieces, head_pieces, access_pieces, value_of, at_pieces, refusal_pieces, outcome_pieces, actor_pieces, event_pieces}
+use Rattle.hp_model.specs.Text.{Piece, word, number, hexadecimal, spell, hex, numbers_text, truth_text, ext_pieces, delivery_pieces, x2apic_pieces, head_pieces, access_pieces, value_of, at_pieces, refusal_pieces, outcome_pieces, actor_pieces, event_pieces}
 use Rattle.hp_reading.proofs.EntryLines.{entry_pieces}
 
 abbrev pub has_none : List ℕ → Bool
@@ -42,6 +42,7 @@ none-onto (suc k) n text h = by (n / 10 == 0) (none-onto k (n / 10) (digit_glyph
   where
     more : has_none (digit_glyph false (n % 10) ∷ text) ≡ true
     more = and_from _ (has_none text) (glyph_is_none (n % 10) (omega arith)) h
+
     by : (t : Bool) → (has_none (digit_glyph false (n % 10) ∷ text) ≡ true → has_none (digits_onto k 10 false (n / 10) (digit_glyph false (n % 10) ∷ text)) ≡ true)
         → has_none (if t then digit_glyph false (n % 10) ∷ text else digits_onto k 10 false (n / 10) (digit_glyph false (n % 10) ∷ text)) ≡ true
     by true later = more
@@ -153,12 +154,12 @@ free-delivery (Late lag) = refl
 pub none-header : (p : Platform) → has_none (spell (head_pieces p)) ≡ true
 none-header p =
     none-spell (head_pieces p)
-      (and_from (has_none (numbers_text p.apic)) _ (none-numbers p.apic)
-      (and_from (has_none (numbers_text p.boot)) _ (none-numbers p.boot)
-      (free-append (ext_pieces p.ext_tseg) _ (free-ext p.ext_tseg)
-      (and_from (has_none (truth_text p.modern)) _ (none-truth p.modern)
-      (and_from (has_none (truth_text p.default_smram)) _ (none-truth p.default_smram)
-      (free-append (delivery_pieces p.delivery) _ (free-delivery p.delivery) (free-x2apic p.x2apic)))))))
+    (and_from (has_none (numbers_text p.apic)) _ (none-numbers p.apic)
+    (and_from (has_none (numbers_text p.boot)) _ (none-numbers p.boot)
+    (free-append (ext_pieces p.ext_tseg) _ (free-ext p.ext_tseg)
+    (and_from (has_none (truth_text p.modern)) _ (none-truth p.modern)
+    (and_from (has_none (truth_text p.default_smram)) _ (none-truth p.default_smram)
+    (free-append (delivery_pieces p.delivery) _ (free-delivery p.delivery) (free-x2apic p.x2apic)))))))
 
 pub none-end : (n : ℕ) → has_none (spell (word (codes "end ") ∷ number n ∷ [])) ≡ true
 none-end n = none-spell (word (codes "end ") ∷ number n ∷ []) refl

@@ -1,5 +1,5 @@
 -- Forms, filled and read.
-use Rattle.std.proofs.Common.{◌≡◌, ℕ, ◌*◌, ◌^◌, ◌<◌, ◌≤◌, nat_lt, nat_le, ◌&&◌, not, Bool, true, false, List, [], ◌∷◌, ◌++◌, Option, Some, None, option_map, option_and_then, refl, sym, ap, ◌∙◌}
+use Rattle.std.proofs.Common.{◌≡◌, ℕ, ◌^◌, nat_lt, nat_le, ◌&&◌, true, List, [], ◌∷◌, ◌++◌, Some, option_map, option_and_then, refl, ap, ◌∙◌}
 use Rattle.std.proofs.lemmas.Bool.{ltb-true, lt-ltb, leb-true, le-leb, and_parts, and_from}
 use Rattle.std.proofs.lemmas.Option.{none-some, same_Some, option_and_then_some}
 use Rattle.std.specs.Fmt.{decimal}
@@ -27,7 +27,7 @@ read-filled (decimals most ∷ fs) (v ∷ vs) sound fit =
     let (clear, rest) = and_parts (begins_clear fs) (is_sound fs) more in
     let (here, later) = and_parts (nat_le v most) (fits fs vs) fit in
     ap (option_and_then (λ p. option_map (λ vs. p.0 ∷ vs) (read fs p.1)))
-      (front-decimal most v (spell (filled fs vs)) (ltb-true most (2 ^ 64) small) (leb-true v most here) (clear-filled fs vs clear))
+    (front-decimal most v (spell (filled fs vs)) (ltb-true most (2 ^ 64) small) (leb-true v most here) (clear-filled fs vs clear))
     ∙ ap (option_map (λ vs. v ∷ vs)) (read-filled fs vs rest later)
 read-filled (digits n ∷ fs) [] sound fit = cc
 read-filled (digits n ∷ fs) (v ∷ vs) sound fit =

@@ -1,6 +1,6 @@
 -- The header, written and read.
-use Rattle.std.proofs.Common.{◌≡◌, ℕ, zero, suc, ◌+◌, ◌*◌, ◌%◌, ◌^◌, ◌==◌, ◌<◌, ◌≤◌, nat_lt, nat_le, ◌&&◌, ◌||◌, not, Bool, true, false, List, [], ◌∷◌, ◌++◌, length, codes, Option, Some, None, option_map, option_and_then, if◌then◌else◌, cond, refl, sym, ap, subst, ◌∙◌, append_assoc, append-nil, arith, ◌↔◌}
-use Rattle.std.proofs.lemmas.Bool.{and_parts, and_from, ltb-true, lt-ltb, leb-true, le-leb, eqb-true}
+use Rattle.std.proofs.Common.{◌≡◌, ℕ, zero, suc, ◌+◌, ◌%◌, ◌^◌, ◌==◌, ◌<◌, ◌≤◌, nat_lt, nat_le, ◌&&◌, not, Bool, true, false, List, [], ◌∷◌, ◌++◌, length, codes, Option, Some, None, option_map, option_and_then, if◌then◌else◌, cond, refl, sym, ap, subst, ◌∙◌, append_assoc, append-nil, arith, ◌↔◌}
+use Rattle.std.proofs.lemmas.Bool.{and_parts, and_from, ltb-true, leb-true, le-leb, eqb-true}
 use Rattle.std.proofs.lemmas.Bool.Decides.{nat_tests}
 use Rattle.std.proofs.lemmas.List.{append_cancel_right}
 use Rattle.std.proofs.lemmas.Option.{none-some, same_Some, option_and_then_some}
@@ -56,7 +56,7 @@ numbers-text (suc n) (x ∷ (y ∷ ys)) made text few some small space =
     let front : (decimal x ++ (codes "," ++ numbers_text (y ∷ ys))) ++ text ≡ decimal x ++ (codes "," ++ tail) = append_assoc (decimal x) (codes "," ++ numbers_text (y ∷ ys)) text in
     ap (λ t. option_and_then (λ p. row (past (codes ",") p.1) (λ rest. numbers_onto n (made ++ p.0 ∷ []) rest) (Some (made ++ p.0 ∷ [], p.1))) (decimal_front most32 t)) front
     ∙ (ap (option_and_then (λ p. row (past (codes ",") p.1) (λ rest. numbers_onto n (made ++ p.0 ∷ []) rest) (Some (made ++ p.0 ∷ [], p.1))))
-        (front-decimal most32 x (codes "," ++ tail) (omega arith) (leb-true x most32 here) refl)
+    (front-decimal most32 x (codes "," ++ tail) (omega arith) (leb-true x most32 here) refl)
     ∙ (ap (λ o. row o (λ rest. numbers_onto n (made ++ x ∷ []) rest) (Some (made ++ x ∷ [], codes "," ++ tail))) (found_comma tail)
     ∙ (numbers-text n (y ∷ ys) (made ++ x ∷ []) text (omega (arith, few)) (omega arith) more space
     ∙ ap (λ ns. Some (ns, text)) (append_assoc made (x ∷ []) (y ∷ ys)))))
@@ -156,6 +156,7 @@ truth_is b rest text e = row_is Is (codes "true") text (λ rest. Some (true, res
   where
     Is : List ℕ → Bool × List ℕ → Type 0
     Is text p = text ≡ truth_text p.0 ++ p.1
+
     found : (a : Bool) (t : List ℕ) → some_truth (a, t) ≡ Some (b, rest) → truth_text a ++ t ≡ truth_text b ++ rest
     found a t e = ap (λ p. truth_text p.0 ++ p.1) (same_Some (a, t) (b, rest) e)
 
@@ -189,9 +190,11 @@ x2apic_is b text e = row_is Is (codes " x2apic=true") text (only true) _ b e the
   where
     Is : List ℕ → Bool → Type 0
     Is text b = text ≡ spell (x2apic_pieces b)
+
     there : (rest : List ℕ) → only true rest ≡ Some b → Is (codes " x2apic=true" ++ rest) b
     there [] e = subst (Is (codes " x2apic=true" ++ [])) (same_Some true b e) refl
     there (c ∷ rest) e = absurd (none-some b e)
+
     nothing : (t : List ℕ) → only false t ≡ Some b → Is t b
     nothing [] e = subst (Is []) (same_Some false b e) refl
     nothing (c ∷ rest) e = absurd (none-some b e)
@@ -210,7 +213,7 @@ unfolding delivery_front
 delivery-text Prompt text h clear = rw (past-word (codes " delivery=prompt") text) refl
 delivery-text (Late lag) text h clear =
     let there : spell (delivery_pieces (Late lag)) ++ text ≡ codes " delivery=late lag=" ++ (decimal lag ++ text) =
-      append_assoc (codes " delivery=late lag=") (decimal lag ++ []) text ∙ ap (λ ds. codes " delivery=late lag=" ++ (ds ++ text)) (append-nil (decimal lag)) in
+    append_assoc (codes " delivery=late lag=") (decimal lag ++ []) text ∙ ap (λ ds. codes " delivery=late lag=" ++ (ds ++ text)) (append-nil (decimal lag)) in
     rw there (rw (prompt_is_not_late (decimal lag ++ text), decimal_after-text (codes " delivery=late lag=") most32 lag text (omega arith) (leb-true lag most32 h) clear) refl)
 
 delivery_is : (d : Delivery) (rest text : List ℕ) → delivery_front text ≡ Some (d, rest) → text ≡ spell (delivery_pieces d) ++ rest
@@ -320,47 +323,47 @@ sizes_are : (text rest : List ℕ) (s : Sizes) → sizes_front text ≡ Some (s,
 unfolding sizes_front
 sizes_are text rest s e =
     option_and_then_some (λ low. option_map (λ tseg. (record { low_memory = low.0; tseg_mib = tseg.0; ext_tseg = (ext_front tseg.1).0 }, (ext_front tseg.1).1))
-      (decimal_after (codes " tseg=") most32 low.1)) (hex_after (codes " low=") 8 text) (s, rest) e
+    (decimal_after (codes " tseg=") most32 low.1)) (hex_after (codes " low=") 8 text) (s, rest) e
     (λ low found more. mapped (λ tseg. (record { low_memory = low.0; tseg_mib = tseg.0; ext_tseg = (ext_front tseg.1).0 }, (ext_front tseg.1).1))
-      (decimal_after (codes " tseg=") most32 low.1) (s, rest) more
+    (decimal_after (codes " tseg=") most32 low.1) (s, rest) more
     (λ tseg behind same.
     hex_after_is (codes " low=") 8 low.0 low.1 text found
     ∙ (ap (λ t. codes " low=" ++ (hex 8 low.0 ++ t)) (decimal_after_is (codes " tseg=") most32 tseg.0 tseg.1 low.1 (omega arith) behind
-      ∙ ap (λ t. codes " tseg=" ++ (decimal tseg.0 ++ t)) (ext_is tseg.1))
+    ∙ ap (λ t. codes " tseg=" ++ (decimal tseg.0 ++ t)) (ext_is tseg.1))
     ∙ ap (λ q. sizes_text q.0.low_memory q.0.tseg_mib q.0.ext_tseg q.1) same)))
 
 counts_are : (text rest : List ℕ) (n : Counts) → counts_front text ≡ Some (n, rest) → text ≡ counts_text n.features n.polls n.turns rest
 unfolding counts_front
 counts_are text rest n e =
     option_and_then_some (λ features. option_and_then (λ polls. option_map (λ turns. (record { features = features.0; polls = polls.0; turns = turns.0 }, turns.1))
-      (decimal_after (codes " turns=") most32 polls.1)) (decimal_after (codes " polls=") most32 features.1)) (decimal_after (codes " features=") most64 text) (n, rest) e
+    (decimal_after (codes " turns=") most32 polls.1)) (decimal_after (codes " polls=") most32 features.1)) (decimal_after (codes " features=") most64 text) (n, rest) e
     (λ features found more. option_and_then_some (λ polls. option_map (λ turns. (record { features = features.0; polls = polls.0; turns = turns.0 }, turns.1))
-      (decimal_after (codes " turns=") most32 polls.1)) (decimal_after (codes " polls=") most32 features.1) (n, rest) more
+    (decimal_after (codes " turns=") most32 polls.1)) (decimal_after (codes " polls=") most32 features.1) (n, rest) more
     (λ polls behind more. mapped (λ turns. (record { features = features.0; polls = polls.0; turns = turns.0 }, turns.1)) (decimal_after (codes " turns=") most32 polls.1) (n, rest) more
     (λ turns last same.
     decimal_after_is (codes " features=") most64 features.0 features.1 text (omega arith) found
     ∙ (ap (λ t. codes " features=" ++ (decimal features.0 ++ t)) (decimal_after_is (codes " polls=") most32 polls.0 polls.1 features.1 (omega arith) behind
-      ∙ ap (λ t. codes " polls=" ++ (decimal polls.0 ++ t)) (decimal_after_is (codes " turns=") most32 turns.0 turns.1 polls.1 (omega arith) last))
+    ∙ ap (λ t. codes " polls=" ++ (decimal polls.0 ++ t)) (decimal_after_is (codes " turns=") most32 turns.0 turns.1 polls.1 (omega arith) last))
     ∙ ap (λ q. counts_text q.0.features q.0.polls q.0.turns q.1) same))))
 
 kinds_are : (text : List ℕ) (k : Kinds) → kinds_of text ≡ Some k → text ≡ kinds_text k.modern k.default_smram k.delivery k.x2apic
 unfolding kinds_of
 kinds_are text k e =
     option_and_then_some (λ modern. option_and_then (λ smram. option_and_then (λ delivery. option_map
-      (λ x2apic. record { modern = modern.0; default_smram = smram.0; delivery = delivery.0; x2apic = x2apic })
-      (x2apic_of delivery.1)) (delivery_front smram.1)) (truth_after (codes " smram=") modern.1)) (truth_after (codes " modern=") text) k e
+    (λ x2apic. record { modern = modern.0; default_smram = smram.0; delivery = delivery.0; x2apic = x2apic })
+    (x2apic_of delivery.1)) (delivery_front smram.1)) (truth_after (codes " smram=") modern.1)) (truth_after (codes " modern=") text) k e
     (λ modern found more. option_and_then_some (λ smram. option_and_then (λ delivery. option_map
-      (λ x2apic. record { modern = modern.0; default_smram = smram.0; delivery = delivery.0; x2apic = x2apic })
-      (x2apic_of delivery.1)) (delivery_front smram.1)) (truth_after (codes " smram=") modern.1) k more
+    (λ x2apic. record { modern = modern.0; default_smram = smram.0; delivery = delivery.0; x2apic = x2apic })
+    (x2apic_of delivery.1)) (delivery_front smram.1)) (truth_after (codes " smram=") modern.1) k more
     (λ smram behind more. option_and_then_some (λ delivery. option_map
-      (λ x2apic. record { modern = modern.0; default_smram = smram.0; delivery = delivery.0; x2apic = x2apic })
-      (x2apic_of delivery.1)) (delivery_front smram.1) k more
+    (λ x2apic. record { modern = modern.0; default_smram = smram.0; delivery = delivery.0; x2apic = x2apic })
+    (x2apic_of delivery.1)) (delivery_front smram.1) k more
     (λ delivery later more. mapped (λ x2apic. record { modern = modern.0; default_smram = smram.0; delivery = delivery.0; x2apic = x2apic }) (x2apic_of delivery.1) k more
     (λ x2apic last same.
     truth_after_is (codes " modern=") modern.0 modern.1 text found
     ∙ (ap (λ t. codes " modern=" ++ (truth_text modern.0 ++ t)) (truth_after_is (codes " smram=") smram.0 smram.1 modern.1 behind
-      ∙ ap (λ t. codes " smram=" ++ (truth_text smram.0 ++ t)) (delivery_is delivery.0 delivery.1 smram.1 later
-        ∙ ap (λ t. spell (delivery_pieces delivery.0) ++ t) (x2apic_is x2apic delivery.1 last)))
+    ∙ ap (λ t. codes " smram=" ++ (truth_text smram.0 ++ t)) (delivery_is delivery.0 delivery.1 smram.1 later
+    ∙ ap (λ t. spell (delivery_pieces delivery.0) ++ t) (x2apic_is x2apic delivery.1 last)))
     ∙ ap (λ k. kinds_text k.modern k.default_smram k.delivery k.x2apic) same)))))
 
 behind_are : (apic boot text : List ℕ) (p : Platform) → behind_ids apic boot text ≡ Some p
@@ -368,15 +371,15 @@ behind_are : (apic boot text : List ℕ) (p : Platform) → behind_ids apic boot
 unfolding behind_ids
 behind_are apic boot text p e =
     option_and_then_some (λ sizes. option_and_then (λ counts. option_map (λ kinds. platform_of apic boot sizes.0 counts.0 kinds)
-      (kinds_of counts.1)) (counts_front sizes.1)) (sizes_front text) p e
+    (kinds_of counts.1)) (counts_front sizes.1)) (sizes_front text) p e
     (λ sizes found more. option_and_then_some (λ counts. option_map (λ kinds. platform_of apic boot sizes.0 counts.0 kinds)
-      (kinds_of counts.1)) (counts_front sizes.1) p more
+    (kinds_of counts.1)) (counts_front sizes.1) p more
     (λ counts behind more. mapped (λ kinds. platform_of apic boot sizes.0 counts.0 kinds) (kinds_of counts.1) p more
     (λ kinds last same.
     ap (λ t. codes "platform apic=" ++ (numbers_text apic ++ (codes " boot=" ++ (numbers_text boot ++ t))))
-      (sizes_are text sizes.1 sizes.0 found
-      ∙ ap (λ t. sizes_text sizes.0.low_memory sizes.0.tseg_mib sizes.0.ext_tseg t)
-        (counts_are sizes.1 counts.1 counts.0 behind ∙ ap (λ t. counts_text counts.0.features counts.0.polls counts.0.turns t) (kinds_are counts.1 kinds last)))
+    (sizes_are text sizes.1 sizes.0 found
+    ∙ ap (λ t. sizes_text sizes.0.low_memory sizes.0.tseg_mib sizes.0.ext_tseg t)
+    (counts_are sizes.1 counts.1 counts.0 behind ∙ ap (λ t. counts_text counts.0.features counts.0.polls counts.0.turns t) (kinds_are counts.1 kinds last)))
     ∙ ap parts_text same)))
 
 named_is : (text : List ℕ) (p : Platform) → named_by text ≡ Some p → text ≡ parts_text p
@@ -490,6 +493,7 @@ headers_are_read text p = (there, back)
         (λ q found more.
         let is = fitting_is q p (first_broken q) refl more in
         record { fit = is.1; spelled = ap line_of (named_is text q found ∙ (ap parts_text is.0 ∙ sym (parts_are p))) })
+
     back : IsHeader text p → head_of text ≡ Some p
     back is =
         let same : text ≡ parts_text p = append_cancel_right text (spell (head_pieces p)) (10 ∷ []) is.spelled ∙ parts_are p in

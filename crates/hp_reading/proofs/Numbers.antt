@@ -1,5 +1,5 @@
 -- One more number of a header.
-use Rattle.std.proofs.Common.{◌≡◌, ℕ, zero, suc, ◌-◌, ◌<◌, ◌≤◌, List, [], ◌∷◌, ◌++◌, codes, Option, Some, None, option_and_then, refl}
+use Rattle.std.proofs.Common.{◌≡◌, ℕ, zero, suc, ◌-◌, ◌<◌, ◌≤◌, List, [], ◌∷◌, ◌++◌, codes, Some, None, option_and_then, refl}
 use native.Mathlib.Numerals.{unary_clauses}
 use Rattle.hp_reading.specs.Forms.{past, decimal_front}
 use Rattle.hp_reading.specs.Lines.{most32, row}

@@ -1,5 +1,5 @@
 -- Rows of the grammar: a word at the front and numbers in a form, written and read.
-use Rattle.std.proofs.Common.{◌≡◌, ℕ, Bool, true, List, [], ◌∷◌, ◌++◌, Option, Some, None, option_and_then, sym, ap, subst, refl}
+use Rattle.std.proofs.Common.{◌≡◌, ℕ, true, List, [], ◌∷◌, ◌++◌, Option, Some, None, option_and_then, sym, ap, subst, refl}
 use Rattle.std.proofs.lemmas.Option.{none-some, same_Some, option_and_then_some}
 use Rattle.hp_model.specs.Text.{spell}
 use Rattle.hp_reading.specs.Forms.{past, Field, read, filled, fits, is_sound, of_one, of_two, of_three, of_four}

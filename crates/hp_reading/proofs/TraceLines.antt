@@ -1,6 +1,6 @@
 -- A whole trace, written and read.
-use Rattle.std.proofs.Common.{◌≡◌, ℕ, zero, suc, ◌+◌, ◌^◌, ◌==◌, ◌<◌, ◌≤◌, nat_lt, nat_le, ◌&&◌, not, Bool, true, false, List, [], ◌∷◌, ◌++◌, length, codes, Option, Some, None, option_map, option_and_then, if◌then◌else◌, refl, sym, ap, subst, ◌∙◌, append_assoc, append-nil, arith, ◌↔◌}
-use Rattle.std.proofs.lemmas.Bool.{and_parts, and_from, eqb-true, eq-eqb, ltb-true, lt-ltb, leb-true, le-leb}
+use Rattle.std.proofs.Common.{◌≡◌, ℕ, suc, ◌+◌, ◌^◌, ◌==◌, ◌<◌, nat_lt, nat_le, not, Bool, true, false, List, [], ◌∷◌, ◌++◌, length, codes, Option, Some, None, option_map, if◌then◌else◌, refl, sym, ap, subst, ◌∙◌, append_assoc, arith, ◌↔◌}
+use Rattle.std.proofs.lemmas.Bool.{and_parts, and_from, eqb-true, eq-eqb, ltb-true, lt-ltb}
 use Rattle.std.proofs.lemmas.List.{append_cancel_right}
 use Rattle.std.proofs.lemmas.Option.{none-some, same_Some, option_and_then_some}
 use Rattle.std.specs.List.{list_all}
@@ -8,13 +8,13 @@ use Rattle.std.specs.Fmt.{decimal}
 use Rattle.hp_model.specs.declared.platforms.Platform.{Platform}
 use Rattle.hp_model.specs.declared.entries.Entry.{Entry}
 use Rattle.hp_model.specs.Platform.{IsFit}
-use Rattle.hp_model.specs.Text.{Piece, word, number, spell, line_of, line_text, lines_text, head_pieces, head_text, end_text, trace_text}
+use Rattle.hp_model.specs.Text.{spell, line_of, line_text, lines_text, head_pieces, head_text, end_text, trace_text}
 use Rattle.hp_reading.specs.Forms.{past}
 use Rattle.hp_reading.specs.Lines.{most64, one_decimal, entry_of, end_of}
 use Rattle.hp_reading.specs.Lines as lines
-use Rattle.hp_reading.specs.Written.{is_well_formed, IsLine, IsEnd}
-use Rattle.hp_reading.specs.Header.{head_of, IsHeader}
-use Rattle.hp_reading.specs.Trace.{Cut, onto, with_byte, cut, ended, by_entry, entries_of, Told, told_by, trace_of, IsTrace}
+use Rattle.hp_reading.specs.Written.{is_well_formed, IsEnd}
+use Rattle.hp_reading.specs.Header.{head_of}
+use Rattle.hp_reading.specs.Trace.{onto, with_byte, cut, ended, by_entry, entries_of, Told, told_by, trace_of, IsTrace}
 use Rattle.hp_reading.proofs.Front.{mapped}
 use Rattle.hp_reading.proofs.Rows.{row_is, one-filled, one_is}
 use Rattle.hp_reading.proofs.OutcomeLines.{to_64, from_64}
@@ -46,10 +46,10 @@ end_is : (text : List ℕ) (n : ℕ) → end_of text ≡ Some n → IsEndLine te
 unfolding end_of
 end_is text n e =
     row_is IsEndLine (codes "end ") text (lines.one (one_decimal most64) (λ entries. entries)) None n e
-      (λ rest found. one_is (one_decimal most64) rest n refl (λ entries. entries) found
-      (λ m fit is same.
-      let (small, last) = and_parts (nat_le m most64) true fit in
-      subst (IsEndLine (codes "end " ++ rest)) same (record { small = from_64 m small; spelled = rw is refl })))
+    (λ rest found. one_is (one_decimal most64) rest n refl (λ entries. entries) found
+    (λ m fit is same.
+    let (small, last) = and_parts (nat_le m most64) true fit in
+    subst (IsEndLine (codes "end " ++ rest)) same (record { small = from_64 m small; spelled = rw is refl })))
     (λ none. absurd (none-some n none))
 
 pub ends_are_read : (text : List ℕ) (n : ℕ) → (end_of text ≡ Some n) ↔ IsEnd text n
@@ -58,6 +58,7 @@ ends_are_read text n = (there, back)
   where
     there : end_of text ≡ Some n → IsEnd text n
     there e = let is = end_is text n e in record { small = is.small; spelled = ap line_of is.spelled }
+
     back : IsEnd text n → end_of text ≡ Some n
     back is = ap end_of (append_cancel_right text (end_line n) (10 ∷ []) is.spelled) ∙ reads_end n is.small
 
@@ -89,7 +90,7 @@ joined-cut (c ∷ text) = by (c == 10) refl (joined-cut text)
   where
     by : (t : Bool) → (c == 10) ≡ t → joined (cut text).lines (cut text).rest ≡ text
         → joined (if t then record { lines = [] ∷ (cut text).lines; rest = (cut text).rest } else onto c (cut text).lines (cut text).rest).lines
-          (if t then record { lines = [] ∷ (cut text).lines; rest = (cut text).rest } else onto c (cut text).lines (cut text).rest).rest ≡ c ∷ text
+        (if t then record { lines = [] ∷ (cut text).lines; rest = (cut text).rest } else onto c (cut text).lines (cut text).rest).rest ≡ c ∷ text
     by true is later = rw (eqb-true c 10 is) (ap (λ t. 10 ∷ t) later)
     by false is later = joined-onto c (cut text).lines (cut text).rest ∙ ap (λ t. c ∷ t) later
 
@@ -115,7 +116,7 @@ unfolding entries_of
 gives_more n e es text h more =
     let front : line_text e ++ text ≡ spell (entry_pieces e) ++ 10 ∷ text = ap (λ t. t ++ text) (line_text-pieces e) ∙ line_then (spell (entry_pieces e)) text in
     let is : cut (line_text e ++ text) ≡ record { lines = spell (entry_pieces e) ∷ (cut text).lines; rest = (cut text).rest } =
-      ap cut front ∙ cut-line (spell (entry_pieces e)) text (none-entry e) in
+    ap cut front ∙ cut-line (spell (entry_pieces e)) text (none-entry e) in
     record {
       lines = ap (λ c. entries_of n c.lines) is ∙ rw (reads_entry e h) (ap (option_map (λ es. e ∷ es)) more.lines);
       rest = ap (λ c. c.rest) is ∙ more.rest;
@@ -197,7 +198,7 @@ reads_trace p es fit h few =
     let body = lines_text es ++ end_text (length es) in
     let gives : Gives 0 es body = rw count at (gives_all es 0 h (omega (arith, few))) in
     let is : cut (trace_text p es) ≡ record { lines = spell (head_pieces p) ∷ (cut body).lines; rest = (cut body).rest } =
-      ap cut (header_text p body) ∙ cut-line (spell (head_pieces p)) body (none-header p) in
+    ap cut (header_text p body) ∙ cut-line (spell (head_pieces p)) body (none-header p) in
     ap (λ c. told_by c.lines c.rest) is
     ∙ (ap (told_by (spell (head_pieces p) ∷ (cut body).lines)) gives.rest
     ∙ rw (reads_header p fit) (ap (option_map (λ es. record { platform = p; entries = es })) gives.lines))
@@ -230,5 +231,6 @@ traces_are_read text t = (there, back)
   where
     there : trace_of text ≡ Some t → IsTrace text t
     there e = trace_is text t (cut text).lines (cut text).rest (joined-cut text) e
+
     back : IsTrace text t → trace_of text ≡ Some t
     back is = ap trace_of is.spelled ∙ reads_trace t.platform t.entries is.fit is.well_formed is.few

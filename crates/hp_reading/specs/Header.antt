@@ -57,18 +57,18 @@ delivery_front text =
 unfoldable pub sizes_front : List ℕ → Option (Sizes × List ℕ)
 sizes_front text =
     option_and_then (λ low. option_map (λ tseg. (record { low_memory = low.0; tseg_mib = tseg.0; ext_tseg = (ext_front tseg.1).0 }, (ext_front tseg.1).1))
-      (decimal_after (codes " tseg=") most32 low.1)) (hex_after (codes " low=") 8 text)
+    (decimal_after (codes " tseg=") most32 low.1)) (hex_after (codes " low=") 8 text)
 
 unfoldable pub counts_front : List ℕ → Option (Counts × List ℕ)
 counts_front text =
     option_and_then (λ features. option_and_then (λ polls. option_map (λ turns. (record { features = features.0; polls = polls.0; turns = turns.0 }, turns.1))
-      (decimal_after (codes " turns=") most32 polls.1)) (decimal_after (codes " polls=") most32 features.1)) (decimal_after (codes " features=") most64 text)
+    (decimal_after (codes " turns=") most32 polls.1)) (decimal_after (codes " polls=") most32 features.1)) (decimal_after (codes " features=") most64 text)
 
 unfoldable pub kinds_of : List ℕ → Option Kinds
 kinds_of text =
     option_and_then (λ modern. option_and_then (λ smram. option_and_then (λ delivery. option_map
-      (λ x2apic. record { modern = modern.0; default_smram = smram.0; delivery = delivery.0; x2apic = x2apic })
-      (x2apic_of delivery.1)) (delivery_front smram.1)) (truth_after (codes " smram=") modern.1)) (truth_after (codes " modern=") text)
+    (λ x2apic. record { modern = modern.0; default_smram = smram.0; delivery = delivery.0; x2apic = x2apic })
+    (x2apic_of delivery.1)) (delivery_front smram.1)) (truth_after (codes " smram=") modern.1)) (truth_after (codes " modern=") text)
 
 abbrev pub platform_of : List ℕ → List ℕ → Sizes → Counts → Kinds → Platform
 platform_of apic boot sizes counts kinds =
@@ -90,7 +90,7 @@ platform_of apic boot sizes counts kinds =
 unfoldable pub behind_ids : List ℕ → List ℕ → List ℕ → Option Platform
 behind_ids apic boot text =
     option_and_then (λ sizes. option_and_then (λ counts. option_map (λ kinds. platform_of apic boot sizes.0 counts.0 kinds)
-      (kinds_of counts.1)) (counts_front sizes.1)) (sizes_front text)
+    (kinds_of counts.1)) (counts_front sizes.1)) (sizes_front text)
 
 -- the platform that a header names, fitting or not
 unfoldable pub named_by : List ℕ → Option Platform

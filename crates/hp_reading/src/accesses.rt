@@ -161,7 +161,11 @@ fn icr(text: &[u8]) -> Option<Made>
 fn end(access: Access, text: &[u8]) -> Option<Made>
     ensures { result ≡ only (quiet_made access) text.now }
 {
-    if text.is_empty() { Some(quiet(access)) } else { None }
+    if text.is_empty() {
+        Some(quiet(access))
+    } else {
+        None
+    }
 }
 
 /// The access whose text, with its answer, this is.

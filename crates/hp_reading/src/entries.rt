@@ -23,7 +23,11 @@ fn quiet(event: Event, at: Option<u32>) -> Entry
 fn only_quiet(event: Event, at: Option<u32>, text: &[u8]) -> Option<Entry>
     ensures { result ≡ only (quiet_entry event at) text.now }
 {
-    if text.is_empty() { Some(quiet(event, at)) } else { None }
+    if text.is_empty() {
+        Some(quiet(event, at))
+    } else {
+        None
+    }
 }
 
 fn access(cpu: u32, at: Option<u32>, text: &[u8]) -> Option<Entry>

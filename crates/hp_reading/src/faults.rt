@@ -11,4 +11,3 @@ pub enum LineFault {
     #[error("no memory")]
     NoMemory,
 }
-

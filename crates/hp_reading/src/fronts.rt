@@ -102,5 +102,9 @@ pub fn decimal(text: &[u8], most: u64) -> Option<(u64, &[u8])>
     if *first == b'0' {
         return Some((0, rest));
     }
-    if is_decimal(*first) { onto(text, most, 0) } else { None }
+    if is_decimal(*first) {
+        onto(text, most, 0)
+    } else {
+        None
+    }
 }

@@ -14,5 +14,11 @@ mod readers;
 pub use entries::{end_number, read_entry};
 pub use faults::LineFault;
 pub use headers::read_head;
-pub use laws::{ends_are_read_as_spelled, entries_are_read_as_spelled, headers_are_read_as_spelled, traces_are_read_as_spelled};
+pub use laws::{
+    ends_are_read_as_spelled, entries_are_read_as_spelled, headers_are_read_as_spelled,
+    traces_are_read_as_spelled,
+};
 pub use readers::{Piece, Reader};
+
+#[cfg(test)]
+mod tests;

@@ -26,19 +26,31 @@ fn eject(text: &[u8]) -> Option<Outcome>
     }
     if let Some(rest) = past(text, b"notknown ") {
         let (cpu, apic) = two_decimals(rest, 0xffffffff)?;
-        return refused(Refusal::NotKnown { cpu, apic: apic as u32 });
+        return refused(Refusal::NotKnown {
+            cpu,
+            apic: apic as u32,
+        });
     }
     if let Some(rest) = past(text, b"notarrived ") {
         let (cpu, apic) = two_decimals(rest, 0xffffffff)?;
-        return refused(Refusal::NotArrived { cpu, apic: apic as u32 });
+        return refused(Refusal::NotArrived {
+            cpu,
+            apic: apic as u32,
+        });
     }
     if let Some(rest) = past(text, b"notparked ") {
         let (cpu, apic) = two_decimals(rest, 0xffffffff)?;
-        return refused(Refusal::NotParked { cpu, apic: apic as u32 });
+        return refused(Refusal::NotParked {
+            cpu,
+            apic: apic as u32,
+        });
     }
     if let Some(rest) = past(text, b"foreign ") {
         let (cpu, apic) = two_decimals(rest, 0xffffffff)?;
-        return refused(Refusal::Foreign { cpu, apic: apic as u32 });
+        return refused(Refusal::Foreign {
+            cpu,
+            apic: apic as u32,
+        });
     }
     None
 }
@@ -58,11 +70,17 @@ fn insert(text: &[u8]) -> Option<Outcome>
     }
     if let Some(rest) = past(text, b"notatgate ") {
         let (cpu, apic) = two_decimals(rest, 0xffffffff)?;
-        return refused(Refusal::NotAtGate { cpu, apic: apic as u32 });
+        return refused(Refusal::NotAtGate {
+            cpu,
+            apic: apic as u32,
+        });
     }
     if let Some(rest) = past(text, b"notcheckedin ") {
         let (cpu, apic) = two_decimals(rest, 0xffffffff)?;
-        return refused(Refusal::NotCheckedIn { cpu, apic: apic as u32 });
+        return refused(Refusal::NotCheckedIn {
+            cpu,
+            apic: apic as u32,
+        });
     }
     eject(text)
 }
