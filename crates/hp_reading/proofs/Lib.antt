@@ -13,3 +13,4 @@ pub mod HeaderLines
 pub mod Heads
 pub mod Feeds
 pub mod TraceLines
+pub mod FaultLines

@@ -4,3 +4,4 @@ pub mod Written
 pub mod Header
 pub mod Reader
 pub mod Trace
+pub mod Fault

@@ -1,8 +1,9 @@
 //! Laws over definitions: public functions with empty bodies, whose clauses are what is proved.
 
-ghost use Rattle.std.specs.Prelude.{◌≡◌, ◌↔◌, ℕ, List, Some};
+ghost use Rattle.std.specs.Prelude.{◌≡◌, ◌↔◌, ℕ, List, None, Some};
 ghost use Rattle.hp_model.specs.declared.entries.Entry.{Entry};
 ghost use Rattle.hp_model.specs.declared.platforms.Platform.{Platform};
+ghost use Rattle.hp_reading.specs.Fault.{fault_of, IsRunsTrace};
 ghost use Rattle.hp_reading.specs.Header.{head_of, IsHeader};
 ghost use Rattle.hp_reading.specs.Lines.{entry_of, end_of};
 ghost use Rattle.hp_reading.specs.Trace.{trace_of, Told, IsTrace};
@@ -28,4 +29,9 @@ pub fn headers_are_read_as_spelled()
 /// the grammar spells one platform and one list of entries.
 pub fn traces_are_read_as_spelled()
     ensures { (text : List ℕ) (told : Told) → (trace_of text ≡ Some told) ↔ IsTrace text told }
+{}
+
+/// The first fault of a text is none exactly where the text is the trace of a platform that fits and its entries are a run.
+pub fn texts_without_fault_are_runs()
+    ensures { (text : List ℕ) → (fault_of text ≡ None) ↔ IsRunsTrace text }
 {}
