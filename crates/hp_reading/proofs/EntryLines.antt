@@ -196,9 +196,9 @@ pub reads_entry : (e : Entry) → is_well_formed e ≡ true → entry_of (spell 
 reads_entry e h = reads_event e.event e.at e.answer h
 
 -- a text that is read as an entry spells it
-record IsEntry (t : List ℕ) (e : Entry) : Type 0 where
-  fit : is_well_formed e ≡ true
-  spelled : t ≡ spell (entry_pieces e)
+pub record IsEntry (t : List ℕ) (e : Entry) : Type 0 where
+  pub fit : is_well_formed e ≡ true
+  pub spelled : t ≡ spell (entry_pieces e)
 
 -- the same behind the number of a processor, and behind an address
 record IsStep (cpu : ℕ) (t : List ℕ) (e : Entry) : Type 0 where
@@ -316,7 +316,7 @@ host_is t e found =
     host_leaves : (k : ℕ) → (nat_le k most32 && true) ≡ true → (rest : List ℕ) → rest ≡ decimal k ++ [] → IsEntry (codes "host " ++ (codes "remove " ++ rest)) (entry (Remove k) None)
     host_leaves k fit rest is = record { fit = and_from (has_32 k) true (cpu_small k fit) refl; spelled = rw is refl }
 
-entry_is : (t : List ℕ) (e : Entry) → entry_of t ≡ Some e → IsEntry t e
+pub entry_is : (t : List ℕ) (e : Entry) → entry_of t ≡ Some e → IsEntry t e
 unfolding entry_of
 entry_is t e found =
     row_is IsEntry (codes "host ") t host_line _ e found (λ rest is. host_is rest e is)

@@ -54,6 +54,7 @@ no_fault_passes (l ∷ ls) line n p s rest e = by (entry_of l) refl (λ t e. no_
         → (o : Option State) → run_on p s x ≡ o → step_fault line o (λ t. fault_from (line + 1) (n + 1) p t ls rest) ≡ None → Passes n p s (l ∷ ls) rest
     step x is later None to e = some-none _ e
     step x is later (Some t) to e = passes_step n p s t l ls rest x is to (later t e)
+
     by : (o : Option Entry) → entry_of l ≡ o → ((t : State) → fault_from (line + 1) (n + 1) p t ls rest ≡ None → Passes (n + 1) p t ls rest)
         → line_fault line p s o (λ t. fault_from (line + 1) (n + 1) p t ls rest) (end_fault line n ls rest (end_of l)) ≡ None → Passes n p s (l ∷ ls) rest
     by None is later e = passes_end line n p s l ls rest (end_of l) is refl e
@@ -110,6 +111,7 @@ all_pass (l ∷ ls) rest e = by (head_of l) refl e
       runs = more.runs;
     }
     header p (c ∷ rest) is whole more = cc
+
     by : (o : Option Platform) → head_of l ≡ o → behind_header ls rest o ≡ None → PassesAll (l ∷ ls) rest
     by None is e = some-none _ e
     by (Some p) is e = let more = no_fault_passes ls 2 0 p (start p) rest e in header p rest is more.whole more
@@ -131,5 +133,6 @@ faults_are_none text = (there, back)
   where
     there : fault_of text ≡ None → IsRunsTrace text
     there e = let all = all_pass (cut text).lines (cut text).rest e in record { told = all.told; read = all.read; runs = all.runs }
+
     back : IsRunsTrace text → fault_of text ≡ None
     back is = all_passed (cut text).lines (cut text).rest is.told is.read is.runs

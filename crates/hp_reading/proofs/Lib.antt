@@ -14,3 +14,4 @@ pub mod Heads
 pub mod Feeds
 pub mod TraceLines
 pub mod FaultLines
+pub mod Lengths

@@ -1,6 +1,6 @@
 //! Laws over definitions: public functions with empty bodies, whose clauses are what is proved.
 
-ghost use Rattle.std.specs.Prelude.{◌≡◌, ◌↔◌, ℕ, List, None, Some};
+ghost use Rattle.std.specs.Prelude.{◌≡◌, ◌<◌, ◌↔◌, ℕ, List, length, None, Some};
 ghost use Rattle.hp_model.specs.declared.entries.Entry.{Entry};
 ghost use Rattle.hp_model.specs.declared.platforms.Platform.{Platform};
 ghost use Rattle.hp_reading.specs.Fault.{fault_of, IsRunsTrace};
@@ -34,4 +34,9 @@ pub fn traces_are_read_as_spelled()
 /// The first fault of a text is none exactly where the text is the trace of a platform that fits and its entries are a run.
 pub fn texts_without_fault_are_runs()
     ensures { (text : List ℕ) → (fault_of text ≡ None) ↔ IsRunsTrace text }
+{}
+
+/// A text that is read as an entry is below 100 bytes.
+pub fn entry_lines_are_short()
+    ensures { (text : List ℕ) (e : Entry) → entry_of text ≡ Some e → length text < 100 }
 {}
