@@ -200,7 +200,7 @@ x2apic_is b text e = row_is Is (codes " x2apic=true") text (only true) _ b e the
     nothing (c ∷ rest) e = absurd (none-some b e)
 
 -- a lag has 32 bits
-abbrev lag_fits : Delivery → Bool
+abbrev pub lag_fits : Delivery → Bool
 lag_fits Prompt = true
 lag_fits (Late lag) = nat_le lag most32
 
@@ -291,19 +291,19 @@ parts_are : (p : Platform) → spell (head_pieces p) ≡ parts_text p
 parts_are p = rw (spell-append (ext_pieces p.ext_tseg)) (rw (spell-append (delivery_pieces p.delivery)) refl)
 
 -- numbers of a header have their bits
-record HasBits (p : Platform) : Type 0 where
-  few_apic : length p.apic ≤ most_numbers
-  some_apic : 0 < length p.apic
-  small_apic : list_all (λ a. nat_le a most32) p.apic ≡ true
-  few_boot : length p.boot ≤ most_numbers
-  some_boot : 0 < length p.boot
-  small_boot : list_all (λ a. nat_le a most32) p.boot ≡ true
-  low : p.low_memory < 16 ^ 8
-  mib : p.tseg_mib ≤ most32
-  features : p.features ≤ most64
-  polls : p.polls ≤ most32
-  turns : p.turns ≤ most32
-  lag : lag_fits p.delivery ≡ true
+pub record HasBits (p : Platform) : Type 0 where
+  pub few_apic : length p.apic ≤ most_numbers
+  pub some_apic : 0 < length p.apic
+  pub small_apic : list_all (λ a. nat_le a most32) p.apic ≡ true
+  pub few_boot : length p.boot ≤ most_numbers
+  pub some_boot : 0 < length p.boot
+  pub small_boot : list_all (λ a. nat_le a most32) p.boot ≡ true
+  pub low : p.low_memory < 16 ^ 8
+  pub mib : p.tseg_mib ≤ most32
+  pub features : p.features ≤ most64
+  pub polls : p.polls ≤ most32
+  pub turns : p.turns ≤ most32
+  pub lag : lag_fits p.delivery ≡ true
 
 -- a header is read as it is spelled
 parts_are_read : (p : Platform) → HasBits p → named_by (parts_text p) ≡ Some p
@@ -441,7 +441,7 @@ id_small : (b : Bool) → (if b then 0xfffffffe else 254) ≤ most32
 id_small true = omega arith
 id_small false = omega arith
 
-has_bits : (p : Platform) → IsFit p → HasBits p
+pub has_bits : (p : Platform) → IsFit p → HasBits p
 has_bits p fit =
     let (counts, a) = kept (counts_fit p) 2 _ fit in
     let (ids, b) = kept (ids_fit p) 3 _ a in

@@ -22,16 +22,16 @@ use Rattle.hp_reading.proofs.HexText.{length-hex}
 use Rattle.hp_reading.proofs.EntryLines.{entry_pieces, IsEntry, entry_is}
 
 -- at most so many bytes: a decimal number of 32 bits has 10, one of 64 bits 20
-abbrev most_of : Piece → ℕ
+abbrev pub most_of : Piece → ℕ
 most_of (word text) = length text
 most_of (number n) = if nat_lt n (2 ^ 32) then 10 else 20
 most_of (hexadecimal n v) = n
 
-abbrev most_in : List Piece → ℕ
+abbrev pub most_in : List Piece → ℕ
 most_in [] = 0
 most_in (p ∷ ps) = most_of p + most_in ps
 
-abbrev are_64 : List Piece → Bool
+abbrev pub are_64 : List Piece → Bool
 are_64 [] = true
 are_64 (word text ∷ ps) = are_64 ps
 are_64 (number n ∷ ps) = nat_lt n (2 ^ 64) && are_64 ps
@@ -44,7 +44,7 @@ decimal_short n h = by (nat_lt n (2 ^ 32)) refl
     by true is = let low : n < 2 ^ 32 = ltb-true n (2 ^ 32) is in length-decimal-le 10 n (omega arith) (omega (arith, low)) h
     by false is = length-decimal-le 20 n (omega arith) (omega (arith, h)) h
 
-spell_short : (ps : List Piece) → are_64 ps ≡ true → length (spell ps) ≤ most_in ps
+pub spell_short : (ps : List Piece) → are_64 ps ≡ true → length (spell ps) ≤ most_in ps
 spell_short [] h = omega arith
 spell_short (word text ∷ ps) h = omega (arith, length-append text (spell ps), spell_short ps h)
 spell_short (number n ∷ ps) h =
@@ -53,11 +53,11 @@ spell_short (number n ∷ ps) h =
 spell_short (hexadecimal n v ∷ ps) h = omega (arith, length-append (hex n v) (spell ps), length-hex n v, spell_short ps h)
 
 -- pieces that are short
-record AreShort (most : ℕ) (ps : List Piece) : Type 0 where
-  bits : are_64 ps ≡ true
-  short : most_in ps ≤ most
+pub record AreShort (most : ℕ) (ps : List Piece) : Type 0 where
+  pub bits : are_64 ps ≡ true
+  pub short : most_in ps ≤ most
 
-short-append : (m n : ℕ) (ps qs : List Piece) → AreShort m ps → AreShort n qs → AreShort (m + n) (ps ++ qs)
+pub short-append : (m n : ℕ) (ps qs : List Piece) → AreShort m ps → AreShort n qs → AreShort (m + n) (ps ++ qs)
 short-append m n [] qs h k = record { bits = k.bits; short = omega (arith, k.short) }
 short-append m n (word text ∷ ps) qs h k = one_more (short-append (most_in ps) n ps qs (record { bits = h.bits; short = omega arith }) k)
   where
@@ -74,7 +74,7 @@ short-append m n (hexadecimal d v ∷ ps) qs h k = one_more (short-append (most_
     one_more : AreShort (most_in ps + n) (ps ++ qs) → AreShort (m + n) (hexadecimal d v ∷ (ps ++ qs))
     one_more more = record { bits = more.bits; short = omega (arith, more.short, h.short) }
 
-to_64 : (n : ℕ) → has_32 n ≡ true → nat_lt n (2 ^ 64) ≡ true
+pub to_64 : (n : ℕ) → has_32 n ≡ true → nat_lt n (2 ^ 64) ≡ true
 to_64 n h = let low : n < 2 ^ 32 = ltb-true n (2 ^ 32) h in lt-ltb n (2 ^ 64) (omega (arith, low))
 
 short_cpu : (k : ℕ) (at : Option ℕ) → has_32 k ≡ true → AreShort 22 (word (codes "p") ∷ number k ∷ at_pieces at)

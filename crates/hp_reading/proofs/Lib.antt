@@ -15,3 +15,4 @@ pub mod Feeds
 pub mod TraceLines
 pub mod FaultLines
 pub mod Lengths
+pub mod HeaderLengths

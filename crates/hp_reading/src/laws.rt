@@ -40,3 +40,8 @@ pub fn texts_without_fault_are_runs()
 pub fn entry_lines_are_short()
     ensures { (text : List ℕ) (e : Entry) → entry_of text ≡ Some e → length text < 100 }
 {}
+
+/// A text that is read as a platform is below 12 KiB.
+pub fn headers_are_short()
+    ensures { (text : List ℕ) (p : Platform) → head_of text ≡ Some p → length text < 12288 }
+{}
