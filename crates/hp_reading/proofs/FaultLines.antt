@@ -1,6 +1,6 @@
 -- A text without a fault is the trace of a run, and the other way round.
 use Rattle.std.proofs.Common.{◌≡◌, ℕ, ◌+◌, ◌==◌, Bool, true, false, List, [], ◌∷◌, Option, Some, None, option_map, option_and_then, if◌then◌else◌, refl, sym, ap, subst, ◌∙◌, ◌↔◌}
-use Rattle.std.proofs.lemmas.Option.{none-some, same_Some, option_and_then_some}
+use Rattle.std.proofs.lemmas.Option.{none-some, option_and_then_some}
 use Rattle.std.specs.Option.{IsSome}
 use Rattle.hp_model.specs.declared.platforms.Platform.{Platform}
 use Rattle.hp_model.specs.declared.entries.Entry.{Entry}
@@ -9,7 +9,7 @@ use Rattle.hp_model.specs.Runs.{run, run_on, run_from}
 use Rattle.hp_reading.specs.Lines.{entry_of, end_of}
 use Rattle.hp_reading.specs.Header.{head_of}
 use Rattle.hp_reading.specs.Trace.{cut, ended, by_entry, entries_of, Told, told_by, trace_of}
-use Rattle.hp_reading.specs.Fault.{Fault, Cause, Line, Step, End, at_line, end_fault, step_fault, line_fault, fault_from, behind_header, fault_in, fault_of, IsRunsTrace}
+use Rattle.hp_reading.specs.Fault.{Fault, Step, End, at_line, end_fault, step_fault, line_fault, fault_from, behind_header, fault_in, fault_of, IsRunsTrace}
 use Rattle.hp_reading.proofs.Front.{mapped}
 
 -- the lines behind a header are entries that are steps, and the end
@@ -136,3 +136,19 @@ faults_are_none text = (there, back)
 
     back : IsRunsTrace text → fault_of text ≡ None
     back is = all_passed (cut text).lines (cut text).rest is.told is.read is.runs
+
+-- what a line makes of the faults behind it, as a loop over the lines meets it
+pub fault_goes_on : (line n : ℕ) (p : Platform) (s t : State) (l : List ℕ) (ls : List (List ℕ)) (rest : List ℕ) (e : Entry) → entry_of l ≡ Some e → run_on p s e ≡ Some t
+    → fault_from line n p s (l ∷ ls) rest ≡ fault_from (line + 1) (n + 1) p t ls rest
+unfolding fault_from
+fault_goes_on line n p s t l ls rest e is to = rw is (rw to refl)
+
+pub fault_at_step : (line n : ℕ) (p : Platform) (s : State) (l : List ℕ) (ls : List (List ℕ)) (rest : List ℕ) (e : Entry) → entry_of l ≡ Some e → run_on p s e ≡ None
+    → fault_from line n p s (l ∷ ls) rest ≡ at_line line Step
+unfolding fault_from
+fault_at_step line n p s l ls rest e is none = rw is (rw none refl)
+
+pub fault_at_end : (line n : ℕ) (p : Platform) (s : State) (l : List ℕ) (ls : List (List ℕ)) (rest : List ℕ) → entry_of l ≡ None
+    → fault_from line n p s (l ∷ ls) rest ≡ end_fault line n ls rest (end_of l)
+unfolding fault_from
+fault_at_end line n p s l ls rest none = rw none refl

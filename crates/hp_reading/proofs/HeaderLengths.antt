@@ -1,5 +1,5 @@
 -- The header is below 12 KiB.
-use Rattle.std.proofs.Common.{◌≡◌, ℕ, ◌+◌, ◌*◌, ◌^◌, ◌<◌, ◌≤◌, nat_lt, nat_le, ◌&&◌, Bool, true, false, List, [], ◌∷◌, ◌++◌, length, codes, Option, Some, if◌then◌else◌, refl, sym, ap, ◌∙◌, arith, length-append}
+use Rattle.std.proofs.Common.{◌≡◌, ℕ, ◌*◌, ◌^◌, ◌<◌, ◌≤◌, nat_lt, nat_le, Bool, true, false, List, [], ◌∷◌, ◌++◌, length, codes, Some, if◌then◌else◌, refl, ap, arith, length-append}
 use Rattle.std.proofs.lemmas.Bool.{and_parts, and_from, lt-ltb, leb-true}
 use Rattle.std.proofs.lemmas.List.{append_cancel_right}
 use Rattle.std.proofs.lemmas.Fmt.{length-decimal-le}
@@ -8,12 +8,12 @@ use Rattle.std.specs.Fmt.{decimal}
 use Rattle.hp_model.specs.declared.platforms.Platform.{Platform}
 use Rattle.hp_model.specs.declared.platforms.Delivery.{Delivery}
 use Rattle.hp_model.specs.declared.platforms.Delivery.TheVariants.{Prompt, Late}
-use Rattle.hp_model.specs.Text.{Piece, word, number, hexadecimal, spell, numbers_text, truth_text, ext_pieces, delivery_pieces, x2apic_pieces, head_pieces, head_text}
-use Rattle.hp_reading.specs.Lines.{most32, most64}
+use Rattle.hp_model.specs.Text.{Piece, word, number, spell, numbers_text, truth_text, ext_pieces, delivery_pieces, x2apic_pieces, head_pieces, head_text}
+use Rattle.hp_reading.specs.Lines.{most32}
 use Rattle.hp_reading.specs.Written.{has_32}
-use Rattle.hp_reading.specs.Header.{head_of, most_numbers}
+use Rattle.hp_reading.specs.Header.{head_of}
 use Rattle.hp_reading.proofs.HeaderLines.{lag_fits, HasBits, has_bits, headers_are_read}
-use Rattle.hp_reading.proofs.Lengths.{most_of, most_in, are_64, AreShort, spell_short, short-append, to_64}
+use Rattle.hp_reading.proofs.Lengths.{most_of, AreShort, spell_short, short-append, to_64}
 
 numbers_short : (ns : List ℕ) → list_all (λ a. nat_le a most32) ns ≡ true → length (numbers_text ns) ≤ 11 * length ns
 unfolding numbers_text

@@ -1,5 +1,5 @@
 -- The line of an entry and the end line are below 100 bytes.
-use Rattle.std.proofs.Common.{◌≡◌, ℕ, zero, suc, ◌+◌, ◌*◌, ◌/◌, ◌%◌, ◌^◌, ◌==◌, ◌<◌, ◌≤◌, nat_lt, ◌&&◌, ◌||◌, Bool, true, false, List, [], ◌∷◌, ◌++◌, length, codes, Option, Some, None, if◌then◌else◌, refl, sym, ap, ◌∙◌, arith, length-append}
+use Rattle.std.proofs.Common.{◌≡◌, ℕ, ◌+◌, ◌^◌, ◌<◌, ◌≤◌, nat_lt, ◌&&◌, Bool, true, false, List, [], ◌∷◌, ◌++◌, length, codes, Option, Some, None, if◌then◌else◌, refl, ap, arith, length-append}
 use Rattle.std.proofs.lemmas.Bool.{and_parts, and_from, ltb-true, lt-ltb}
 use Rattle.std.proofs.lemmas.Bool.Decides.{nat_tests}
 use Rattle.std.proofs.lemmas.Fmt.{length-decimal-le}
@@ -16,10 +16,10 @@ use Rattle.hp_model.specs.declared.entries.Event.TheVariants.{Insert, Remove, Do
 use Rattle.hp_model.specs.declared.entries.Entry.{Entry}
 use Rattle.hp_model.specs.Step.{is_normal, is_memory_width, is_port_width}
 use Rattle.hp_model.specs.Text.{Piece, word, number, hexadecimal, spell, hex, access_pieces, value_of, at_pieces, refusal_pieces, outcome_pieces, actor_pieces, event_pieces}
-use Rattle.hp_reading.specs.Lines.{entry_of, end_of}
-use Rattle.hp_reading.specs.Written.{has_32, has_status, has_two, has_three, refusal_fits, outcome_fits, access_fits, is_outside, is_inside, is_either, is_quiet, is_written, is_well_formed}
+use Rattle.hp_reading.specs.Lines.{entry_of}
+use Rattle.hp_reading.specs.Written.{has_32, has_status, has_two, has_three, refusal_fits, outcome_fits, access_fits, is_either, is_written}
 use Rattle.hp_reading.proofs.HexText.{length-hex}
-use Rattle.hp_reading.proofs.EntryLines.{entry_pieces, IsEntry, entry_is}
+use Rattle.hp_reading.proofs.EntryLines.{entry_pieces, entry_is}
 
 -- at most so many bytes: a decimal number of 32 bits has 10, one of 64 bits 20
 abbrev pub most_of : Piece → ℕ
