@@ -29,9 +29,13 @@ pub record IsLockedBefore (p : Platform) (es : List Entry) : Type 0 where
   pub untouched : (before rest : List Entry) (e : Entry) (s : State) (a i : ℕ) → es ≡ before ++ e ∷ rest → run p before ≡ Some s → e.at ≡ Some a → i < 4 → IsUntouched p before s (a + i)
   pub rows : (before rest : List Entry) (s : State) (k : ℕ) → es ≡ before ++ rest → run p before ≡ Some s → is_astray p s k ≡ false
 
--- a platform's entries are safe
-pub record IsSafe (p : Platform) (es : List Entry) : Type 0 where
+-- what each run keeps at every step: locked instructions, SMBASEs of their own, and an SMBASE that changes past the gate alone
+pub record IsGuarded (p : Platform) (es : List Entry) : Type 0 where
   pub locked_before : IsLockedBefore p es
   pub distinct : IsDistinct p es
   pub named : IsNamed p es
+
+-- a platform's entries are safe
+pub record IsSafe (p : Platform) (es : List Entry) : Type 0 where
+  pub guarded : IsGuarded p es
   pub exact : IsExact p es

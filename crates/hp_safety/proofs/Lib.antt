@@ -38,3 +38,4 @@ pub mod Flags
 pub mod Departing
 pub mod Rising
 pub mod Reporting
+pub mod Guarding

@@ -14,6 +14,7 @@ ghost use Rattle.hp_model.specs.Safety.{IsLockedBefore};
 ghost use Rattle.hp_safety.specs.Flags.{flag_tells};
 ghost use Rattle.hp_safety.specs.Departures.{leaves_by_block};
 ghost use Rattle.hp_safety.specs.Reports.{reports_rise};
+ghost use Rattle.hp_model.specs.Safety.{IsGuarded, IsLockedBefore};
 
 /// Every instruction executed in SMM lies in four bytes of SMRAM that were locked before it, and no write has covered them since; and
 /// nobody in SMM is without a row of its handler. So in each run of each platform that fits, whatever the agents and the host do.
@@ -34,6 +35,11 @@ pub fn no_two_smbases()
 /// handed to the firmware.
 pub fn smbase_changes_past_the_gate()
     ensures { (p : Platform) (es : List Entry) (s : State) → IsFit p → run p es ≡ Some s → IsNamed p es }
+{}
+
+/// Each run is guarded: the three laws above, together.
+pub fn runs_are_guarded()
+    ensures { (p : Platform) (es : List Entry) (s : State) → IsFit p → run p es ≡ Some s → IsGuarded p es }
 {}
 
 /// Each SMBASE that changes is of the processor whose APIC ID is held just before, as the entries say: that of the running add, or
