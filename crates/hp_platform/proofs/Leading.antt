@@ -14,6 +14,7 @@ use Rattle.hp_model.specs.declared.outcomes.Outcome.{Outcome}
 use Rattle.hp_model.specs.declared.entries.Event.{Event}
 use Rattle.hp_model.specs.declared.entries.Event.TheVariants as event
 use Rattle.hp_model.specs.declared.labels.Label.{Label}
+use Rattle.hp_model.specs.Platform.{is_late}
 use Rattle.hp_model.specs.Boot.{Stage, Boots, Refused, Handed, is_booting, is_handed, boot_access, boot_next}
 use Rattle.hp_model.specs.Cpu.{is_in_smm}
 use Rattle.hp_model.specs.Fitting.{FitsAccess, FitsWant}
@@ -192,9 +193,11 @@ module _ (b : Board) (e : Event) (ready : IsReady b e) where
   abbrev p : Platform
   p = b.platform
 
-  pub ready_enabled : can_do (length b.machine.apic) b.machine.cpus e ≡ true
+  pub ready_enabled : can_do b.machine.late (length b.machine.apic) b.machine.cpus e ≡ true
   ready_enabled =
-      ap (λ (ids : List ℕ). can_do (length ids) b.machine.cpus e) ready.shows.state.apic ∙ ap (λ (cs : List Cpu). can_do (length p.apic) cs e) ready.shows.state.cpus
+      ap (λ (late : Bool). can_do late (length b.machine.apic) b.machine.cpus e) ready.shows.state.late
+      ∙ ap (λ (ids : List ℕ). can_do (is_late p.delivery) (length ids) b.machine.cpus e) ready.shows.state.apic
+      ∙ ap (λ (cs : List Cpu). can_do (is_late p.delivery) (length p.apic) cs e) ready.shows.state.cpus
       ∙ left (is_enabled p s e) (is_wanted p s e) ready.is
 
   is_wanted-is : is_wanted p s e ≡ true

@@ -14,7 +14,8 @@ use Rattle.hp_model.specs.FwCfg.{FwCfg}
 use Rattle.hp_model.specs.Handlers.{Next, address_of_label, next_at, seat_of}
 use Rattle.hp_model.specs.Monarch.{Monarch, restarted, with_features}
 use Rattle.hp_model.specs.SharedBytes.{Layout, layout_of}
-use Rattle.hp_model.specs.Step.{State, at, apic_of, after, answer_of, effect_of, firmware_led, go_on, handlers_led, row_at, row_led, seat, with_next}
+use Rattle.hp_model.specs.Platform.{apic_of}
+use Rattle.hp_model.specs.Step.{State, at, after, answer_of, effect_of, firmware_led, go_on, handlers_led, is_disturbed_by, row_at, row_led, seat, with_next}
 use Rattle.hp_machine.specs.Machine.{Machine, IsState, IsStep}
 use Rattle.hp_boot.specs.Booting.{Booting}
 use Rattle.hp_monarch.specs.Session.{Session}
@@ -25,22 +26,22 @@ use Rattle.hp_platform.proofs.Leading.{effect_keeps, handlers_led-plain, handler
 use Rattle.hp_platform.proofs.Standing.{row-is}
 
 -- the machine stands for a state whatever the firmware keeps
-with_firmware : (p : Platform) (m : Machine) (u : State) (r : Monarch) (g : Stage) → IsState p m u → IsState p m (record u { monarch = r; stage = g })
-with_firmware p m u r g h = record { apic = h.apic; memory = h.memory; locks = h.locks; cpus = h.cpus; block = h.block; ich9 = h.ich9; fw_cfg = h.fw_cfg }
+with_firmware : (p : Platform) (m : Machine) (u : State) (r : Monarch) (g : Stage) (d : Bool) → IsState p m u → IsState p m (record u { monarch = r; stage = g; disturbed = d })
+with_firmware p m u r g d h = record { apic = h.apic; memory = h.memory; locks = h.locks; cpus = h.cpus; block = h.block; ich9 = h.ich9; fw_cfg = h.fw_cfg; late = h.late; x2apic = h.x2apic }
 
 with_cpu : (p : Platform) (m : Machine) (u : State) (cs ds : List Cpu) → cs ≡ ds → IsState p m u → IsState p (record m { cpus = cs }) (record u { cpus = ds })
-with_cpu p m u cs ds same h = record { apic = h.apic; memory = h.memory; locks = h.locks; cpus = same; block = h.block; ich9 = h.ich9; fw_cfg = h.fw_cfg }
+with_cpu p m u cs ds same h = record { apic = h.apic; memory = h.memory; locks = h.locks; cpus = same; block = h.block; ich9 = h.ich9; fw_cfg = h.fw_cfg; late = h.late; x2apic = h.x2apic }
 
 -- after a step of the boot
 module _ (b c : Board) (s : State) (e : Event) (v : Answer) (shows : Shows b s) (made : IsStep b.platform c.machine s e v)
     (platform : c.platform ≡ b.platform) (boots : is_booting b.boot.stage ≡ true)
-    (boot : c.boot ≡ record b.boot { stage = stage_after v b.boot.stage })
+    (boot : c.boot ≡ record b.boot { stage = stage_after b.boot.mib v b.boot.stage })
     (handlers : c.handlers ≡ record b.handlers { monarch = with_features (unwrap_or c.machine.fw_cfg.negotiated 0) b.handlers.monarch }) where
   abbrev u : State
   u = effect_of b.platform s e
 
   abbrev its : Stage → State
-  its st = record (firmware_led b.platform s st e u) { stage = stage_after (answer_of s e) st }
+  its st = record (firmware_led b.platform s st e u) { stage = stage_after b.platform.tseg_mib (answer_of s e) st; disturbed = is_disturbed_by s e }
 
   record_is : c.handlers.monarch ≡ with_features (unwrap_or u.fw_cfg.negotiated 0) u.monarch
   record_is =
@@ -48,12 +49,14 @@ module _ (b c : Board) (s : State) (e : Event) (v : Answer) (shows : Shows b s) 
       ∙ ap (λ (f : FwCfg). with_features (unwrap_or f.negotiated 0) b.handlers.monarch) made.state.fw_cfg
       ∙ ap (with_features (unwrap_or u.fw_cfg.negotiated 0)) (shows.monarch ∙ sym (effect_keeps b.platform s e))
 
-  stage_is : (st : Stage) → s.stage ≡ st → c.boot.stage ≡ stage_after (answer_of s e) st
-  stage_is st is = ap (λ (x : Booting). x.stage) boot ∙ ap (λ (w : Answer). stage_after w b.boot.stage) made.answers ∙ ap (stage_after (answer_of s e)) (shows.stage ∙ is)
+  stage_is : (st : Stage) → s.stage ≡ st → c.boot.stage ≡ stage_after b.platform.tseg_mib (answer_of s e) st
+  stage_is st is =
+      ap (λ (x : Booting). x.stage) boot ∙ ap (λ (mib : ℕ). stage_after mib v b.boot.stage) shows.mib
+      ∙ ap (λ (w : Answer). stage_after b.platform.tseg_mib w b.boot.stage) made.answers ∙ ap (stage_after b.platform.tseg_mib (answer_of s e)) (shows.stage ∙ is)
 
   boot_by : (st : Stage) → s.stage ≡ st → is_booting st ≡ true → Shows c (its st)
   boot_by (Boots done supported) is e1 = record {
-    state = subst (λ (q : Platform). IsState q c.machine (its (Boots done supported))) (sym platform) (with_firmware b.platform c.machine u _ _ made.state);
+    state = subst (λ (q : Platform). IsState q c.machine (its (Boots done supported))) (sym platform) (with_firmware b.platform c.machine u _ _ _ made.state);
     mib = ap (λ (x : Booting). x.mib) boot ∙ shows.mib ∙ ap (λ (q : Platform). q.tseg_mib) (sym platform);
     stage = stage_is (Boots done supported) is;
     layout = ap (λ (h : Session). h.layout) handlers ∙ shows.layout ∙ ap layout_of (sym platform);
@@ -72,21 +75,21 @@ module _ (b c : Board) (m : Machine) (s : State) (e : Event) (v : Answer) (shows
   w = effect_of b.platform s e
 
   abbrev led : State → Stage → State
-  led t st = record t { stage = stage_after (answer_of s e) st }
+  led t st = record t { stage = stage_after b.platform.tseg_mib (answer_of s e) st; disturbed = is_disturbed_by s e }
 
   -- what shows the state t shows it with the stage, too
   module _ (t : State) (same : handlers_led b.platform s e w ≡ t) (state : IsState b.platform c.machine t)
       (layout : c.handlers.layout ≡ b.handlers.layout) (monarch : c.handlers.monarch ≡ t.monarch) where
-    own_shows : (st : Stage) → s.stage ≡ st → stage_after (answer_of s e) st ≡ st → Shows c (led t st)
+    own_shows : (st : Stage) → s.stage ≡ st → stage_after b.platform.tseg_mib (answer_of s e) st ≡ st → Shows c (led t st)
     own_shows st is stays = record {
-      state = subst (λ (q : Platform). IsState q c.machine (led t st)) (sym platform) (with_firmware b.platform c.machine t t.monarch (stage_after (answer_of s e) st) state);
+      state = subst (λ (q : Platform). IsState q c.machine (led t st)) (sym platform) (with_firmware b.platform c.machine t t.monarch (stage_after b.platform.tseg_mib (answer_of s e) st) (is_disturbed_by s e) state);
       mib = ap (λ (x : Booting). x.mib) boot ∙ shows.mib ∙ ap (λ (q : Platform). q.tseg_mib) (sym platform);
       stage = ap (λ (x : Booting). x.stage) boot ∙ shows.stage ∙ is ∙ sym stays;
       layout = layout ∙ shows.layout ∙ ap layout_of (sym platform);
       monarch = monarch;
     }
 
-    own_by : (st : Stage) → s.stage ≡ st → is_handed st ≡ true → Shows c (record (firmware_led b.platform s st e w) { stage = stage_after (answer_of s e) st })
+    own_by : (st : Stage) → s.stage ≡ st → is_handed st ≡ true → Shows c (record (firmware_led b.platform s st e w) { stage = stage_after b.platform.tseg_mib (answer_of s e) st; disturbed = is_disturbed_by s e })
     own_by (Boots done supported) is e1 = cc
     own_by (Refused fact) is e1 = cc
     own_by (Handed requested) is e1 = subst (λ (x : State). Shows c (led x (Handed requested))) (sym same) (own_shows (Handed requested) is refl)
@@ -107,7 +110,7 @@ module _ (b c : Board) (m : Machine) (s : State) (e : Event) (v : Answer) (shows
       plain_state (event.TakeSmi k) = session (k == 0)
         where
           session : (first : Bool) → IsState b.platform m (if first then record w { monarch = restarted w.monarch } else w)
-          session true = with_firmware b.platform m w (restarted w.monarch) w.stage made.state
+          session true = with_firmware b.platform m w (restarted w.monarch) w.stage w.disturbed made.state
           session false = made.state
       plain_state (event.TakeInit k) = made.state
       plain_state (event.Resume k) = made.state
@@ -156,7 +159,7 @@ module _ (b c : Board) (m : Machine) (s : State) (e : Event) (v : Answer) (shows
 
     moved_state : IsState b.platform (record m { cpus = slice_set m.cpus k (goes_on address base (cpu_at m.cpus k)) }) t
     moved_state =
-        with_firmware b.platform (record m { cpus = slice_set m.cpus k (goes_on address base (cpu_at m.cpus k)) }) (record w { cpus = slice_set w.cpus k (go_on (at s k).smbase n (at w k)) }) n.monarch w.stage
+        with_firmware b.platform (record m { cpus = slice_set m.cpus k (goes_on address base (cpu_at m.cpus k)) }) (record w { cpus = slice_set w.cpus k (go_on (at s k).smbase n (at w k)) }) n.monarch w.stage w.disturbed
         (with_cpu b.platform m w (slice_set m.cpus k (goes_on address base (cpu_at m.cpus k))) (slice_set w.cpus k (go_on (at s k).smbase n (at w k))) cpus-is made.state)
 
     pub row_made : Shows c (after b.platform s e).state

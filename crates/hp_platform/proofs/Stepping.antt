@@ -1,5 +1,5 @@
 -- What is due is a step of the actor, and where nothing is due it has none.
-use Rattle.std.proofs.Common.{◌≡◌, ◌≢◌, ◌<◌, ℕ, zero, suc, ◌%◌, ◌^◌, arith, nat_lt, Bool, true, false, ◌&&◌, ◌||◌, not, ◌==◌, Option, Some, None, refl, sym, ap, subst, ◌∙◌, eqb-true}
+use Rattle.std.proofs.Common.{◌≡◌, ◌≢◌, ◌⊎◌, inl, inr, ◌<◌, ℕ, zero, suc, ◌%◌, ◌^◌, arith, nat_lt, Bool, true, false, ◌&&◌, ◌||◌, not, ◌==◌, Option, Some, None, refl, sym, ap, subst, ◌∙◌, eqb-true}
 use Rattle.std.specs.Prelude.{if◌then◌else◌}
 use Rattle.std.proofs.lemmas.Bool.{lt-ltb}
 use Rattle.std.proofs.Math.Nat.{mod-lt}
@@ -16,8 +16,9 @@ use Rattle.hp_model.specs.declared.entries.Actor.TheVariants as actor
 use Rattle.hp_model.specs.declared.entries.Event.{Event}
 use Rattle.hp_model.specs.declared.entries.Event.TheVariants as event
 use Rattle.hp_model.specs.Boot.{Stage, Boots, Refused, Handed, is_handed, boot_access}
-use Rattle.hp_model.specs.Cpu.{is_free, is_in_smm, is_running, is_outside, may_take_smi, may_take_init}
-use Rattle.hp_model.specs.Runs.{actor_of}
+use Rattle.hp_model.specs.Cpu.{is_free, is_in_smm, is_running, is_outside, is_unlatched, may_take_smi, may_take_init}
+use Rattle.hp_model.specs.Platform.{is_late}
+use Rattle.hp_model.specs.Runs.{IsStepBy, actor_of}
 use Rattle.hp_model.specs.Step.{State, after, at, is_boots, is_enabled, is_halt, is_handlers, is_memory_width, is_normal, is_port_width, is_that_access, is_wanted, may_access, normal, same_access, stands_in_smm, step, wanted, wanted_in, is_that_outcome, is_rsm}
 use Rattle.hp_model.proofs.Same.{same_access-equal, same_access-refl, same_outcome-refl}
 use Rattle.hp_platform.specs.declared.dues.Due.{Due}
@@ -40,8 +41,13 @@ asked_in j (Asks k) = k
 
 pub record IsMakes (p : Platform) (s : State) (a : Actor) (e : Event) : Type 0 where
   pub step : is_step p s e ≡ true
-  pub actor : actor_of e ≡ a
-  pub unasked : asks s a ≡ false
+  pub actor : IsStepBy (is_late p.delivery) a e
+  pub unasked : asks (is_late p.delivery) s a ≡ false
+
+-- what holds of who an event belongs to, and of an SMI whose taking it is, holds of each actor whose step it is
+pub by_actor : (late : Bool) (P : Actor → Type 0) (a : Actor) (x : Event) → IsStepBy late a x → P (actor_of late x) → ((k : ℕ) → x ≡ event.TakeSmi k → P (actor.Smi k)) → P a
+by_actor late P a x (inl e) own smi = subst P e own
+by_actor late P a x (inr h) own smi = subst P (sym h.1) (smi h.0 h.2)
 
 -- modes and latches
 and_off : (a : Bool) → (a && false) ≡ false
@@ -55,13 +61,33 @@ or_on false = refl
 both : (a b : Bool) → a ≡ true → b ≡ true → (a && b) ≡ true
 both a b e f = rw (e, f) refl
 
-pub smi_not_free : (c : Cpu) → may_take_smi c ≡ true → is_free c ≡ false
-smi_not_free c e = let latched : c.smi ≡ true = left c.smi (is_outside c.mode) (right c.present (c.smi && is_outside c.mode) e) in rw (latched, and_off, and_off) refl
+-- SMIs that come at once
+pub prompt_of : (late b : Bool) → (not late && b) ≡ true → late ≡ false
+prompt_of true b e = cc
+prompt_of false b e = refl
 
-pub init_not_free : (c : Cpu) → may_take_init c ≡ true → is_free c ≡ false
-init_not_free c e =
-    let latched : c.init ≡ true = left c.init (is_outside c.mode) (right (not c.smi) (c.init && is_outside c.mode) (right c.present (not c.smi && (c.init && is_outside c.mode)) e)) in
-    rw (latched, and_off, and_off, and_off) refl
+latched_smi : (late smi init : Bool) → not late ≡ true → smi ≡ true → ((late && smi) || (not smi && not init)) ≡ false
+latched_smi true smi init e f = cc
+latched_smi false true init e f = refl
+latched_smi false false init e f = cc
+
+latched_init : (late smi init : Bool) → not smi ≡ true → init ≡ true → ((late && smi) || (not smi && not init)) ≡ false
+latched_init late true init e f = cc
+latched_init true false true e f = refl
+latched_init false false true e f = refl
+latched_init late false false e f = cc
+
+pub smi_not_free : (late : Bool) (c : Cpu) → (not late && may_take_smi c) ≡ true → is_free late c ≡ false
+smi_not_free late c e =
+    let taken = right c.present (c.smi && is_outside c.mode) (right (not late) (may_take_smi c) e) in
+    let latched : is_unlatched late c ≡ false = latched_smi late c.smi c.init (left (not late) (may_take_smi c) e) (left c.smi (is_outside c.mode) taken) in
+    rw (latched, and_off, and_off) refl
+
+pub init_not_free : (late : Bool) (c : Cpu) → may_take_init c ≡ true → is_free late c ≡ false
+init_not_free late c e =
+    let taken = right c.present (not c.smi && (c.init && is_outside c.mode)) e in
+    let latched : is_unlatched late c ≡ false = latched_init late c.smi c.init (left (not c.smi) (c.init && is_outside c.mode) taken) (left c.init (is_outside c.mode) (right (not c.smi) (c.init && is_outside c.mode) taken)) in
+    rw (latched, and_off, and_off) refl
 
 smm_not_running : (m : Mode) → is_in_smm m ≡ true → is_running m ≡ false
 smm_not_running Wait e = cc
@@ -69,8 +95,8 @@ smm_not_running (Running page) e = cc
 smm_not_running (Halted page) e = cc
 smm_not_running (Smm address) e = refl
 
-smm_not_free : (c : Cpu) → stands_in_smm c ≡ true → is_free c ≡ false
-smm_not_free c e = let stopped : is_running c.mode ≡ false = smm_not_running c.mode (right c.present (is_in_smm c.mode) e) in rw (stopped, and_off) refl
+smm_not_free : (late : Bool) (c : Cpu) → stands_in_smm c ≡ true → is_free late c ≡ false
+smm_not_free late c e = let stopped : is_running c.mode ≡ false = smm_not_running c.mode (right c.present (is_in_smm c.mode) e) in rw (stopped, and_off) refl
 
 running_not_smm : (m : Mode) → is_running m ≡ true → is_in_smm m ≡ false
 running_not_smm Wait e = cc
@@ -78,8 +104,8 @@ running_not_smm (Running page) e = refl
 running_not_smm (Halted page) e = cc
 running_not_smm (Smm address) e = cc
 
-pub free_not_smm : (c : Cpu) → is_free c ≡ true → is_in_smm c.mode ≡ false
-free_not_smm c e = running_not_smm c.mode (left (is_running c.mode) (not c.smi && not c.init) (right c.present (is_running c.mode && (not c.smi && not c.init)) e))
+pub free_not_smm : (late : Bool) (c : Cpu) → is_free late c ≡ true → is_in_smm c.mode ≡ false
+free_not_smm late c e = running_not_smm c.mode (left (is_running c.mode) (is_unlatched late c) (right c.present (is_running c.mode && is_unlatched late c) e))
 
 -- an event that is made if it can be
 opened : (b : Bool) (x e : Event) → (if b then Makes x else Idle) ≡ Makes e → (b ≡ true) × (x ≡ e)
@@ -87,6 +113,9 @@ opened true x e h = (refl, ap (made_in x) h)
 opened false x e h = cc
 
 module _ (p : Platform) (s : State) where
+  abbrev late : Bool
+  late = is_late p.delivery
+
   -- before the hand-over
   module _ (done supported : ℕ) (stage : s.stage ≡ Boots done supported) where
     abbrev next : Access
@@ -104,14 +133,19 @@ module _ (p : Platform) (s : State) where
             let made = opened (is_enabled p s (event.Do 0 next)) (event.Do 0 next) e due in
             subst (λ (x : Event). IsMakes p s (actor.Cpu k) x) made.1 (record {
               step = both (is_enabled p s (event.Do 0 next)) (is_wanted p s (event.Do 0 next)) made.0 (wants_boots (event.Do 0 next) ∙ same_access-refl next);
-              actor = ap (λ (j : ℕ). actor.Cpu j) (sym (eqb-true k 0 is));
-              unasked = ap (λ (st : Stage). is_handed st && is_free (at s k)) stage;
+              actor = inl (ap (λ (j : ℕ). actor.Cpu j) (sym (eqb-true k 0 is)));
+              unasked = ap (λ (st : Stage). is_handed st && is_free late (at s k)) stage;
             })
 
-    boot_some : (x : Event) → is_step p s x ≡ true → boot_due p s done supported (actor_of x) ≢ Idle
-    boot_some x is idle = by x (left (is_enabled p s x) (is_wanted p s x) is) (sym (wants_boots x) ∙ right (is_enabled p s x) (is_wanted p s x) is) idle
+    boot_some : (a : Actor) (x : Event) → IsStepBy late a x → is_step p s x ≡ true → boot_due p s done supported a ≢ Idle
+    boot_some a x its is =
+        by_actor late (λ (b : Actor). boot_due p s done supported b ≢ Idle) a x its (λ idle. by x (left (is_enabled p s x) (is_wanted p s x) is) wants idle)
+        (λ k taken idle. absurd (let wrong : false ≡ true = subst (λ (y : Event). is_boots p.tseg_mib done supported y ≡ true) taken wants in cc))
       where
-        by : (x : Event) → is_enabled p s x ≡ true → is_boots p.tseg_mib done supported x ≡ true → boot_due p s done supported (actor_of x) ≡ Idle → ⊥
+        wants : is_boots p.tseg_mib done supported x ≡ true
+        wants = sym (wants_boots x) ∙ right (is_enabled p s x) (is_wanted p s x) is
+
+        by : (x : Event) → is_enabled p s x ≡ true → is_boots p.tseg_mib done supported x ≡ true → boot_due p s done supported (actor_of late x) ≡ Idle → ⊥
         by (event.Insert k) can wants idle = cc
         by (event.Remove k) can wants idle = cc
         by (event.Do k a) can wants idle =
@@ -134,18 +168,18 @@ module _ (p : Platform) (s : State) where
     is_made : (x : Event) → is_enabled p s x ≡ true → is_handlers p s x ≡ true → is_step p s x ≡ true
     is_made x can wants = both (is_enabled p s x) (is_wanted p s x) can (wants_handed x ∙ wants)
 
-    not_asked : (k : ℕ) → is_free (at s k) ≡ false → asks s (actor.Cpu k) ≡ false
+    not_asked : (k : ℕ) → is_free late (at s k) ≡ false → asks late s (actor.Cpu k) ≡ false
     not_asked k e = rw (e, and_off) refl
 
-    makes : (k : ℕ) (x e : Event) → is_free (at s k) ≡ false → actor_of x ≡ actor.Cpu k → is_handlers p s x ≡ true → makes_if p s x ≡ Makes e → IsMakes p s (actor.Cpu k) e
+    makes : (k : ℕ) (x e : Event) → is_free late (at s k) ≡ false → actor_of late x ≡ actor.Cpu k → is_handlers p s x ≡ true → makes_if p s x ≡ Makes e → IsMakes p s (actor.Cpu k) e
     makes k x e busy its wants due =
         let made = opened (is_enabled p s x) x e due in
-        subst (λ (y : Event). IsMakes p s (actor.Cpu k) y) made.1 (record { step = is_made x made.0 wants; actor = its; unasked = not_asked k busy })
+        subst (λ (y : Event). IsMakes p s (actor.Cpu k) y) made.1 (record { step = is_made x made.0 wants; actor = inl its; unasked = not_asked k busy })
 
     smm_makes : (k : ℕ) (e : Event) → stands_in_smm (at s k) ≡ true → (o : Option Want) → wanted p s k ≡ o → smm_due p s k o ≡ Makes e → IsMakes p s (actor.Cpu k) e
     smm_makes k e here None is due = cc
     smm_makes k e here (Some (want.Do a)) is due =
-        makes k (event.Do k a) e (smm_not_free (at s k) here) refl
+        makes k (event.Do k a) e (smm_not_free late (at s k) here) refl
         (ap (λ (b : Bool). not (is_in_smm (at s k).mode) || b) (ap (λ (o : Option Want). is_that_access o a) is ∙ same_access-refl a) ∙ or_on (not (is_in_smm (at s k).mode))) due
     smm_makes k e here (Some (want.Tell o)) is due = first (k == 0) refl due
       where
@@ -153,44 +187,51 @@ module _ (p : Platform) (s : State) where
         first false at0 due = cc
         first true at0 due =
             let zero_is : k ≡ 0 = eqb-true k 0 at0 in
-            makes k (event.Tell o) e (smm_not_free (at s k) here) (ap (λ (j : ℕ). actor.Cpu j) (sym zero_is))
+            makes k (event.Tell o) e (smm_not_free late (at s k) here) (ap (λ (j : ℕ). actor.Cpu j) (sym zero_is))
             (ap (λ (w : Option Want). is_that_outcome w o) (ap (λ (j : ℕ). wanted p s j) (sym zero_is) ∙ is) ∙ same_outcome-refl o) due
-    smm_makes k e here (Some want.Resume) is due = makes k (event.Resume k) e (smm_not_free (at s k) here) refl (ap is_rsm is) due
+    smm_makes k e here (Some want.Resume) is due = makes k (event.Resume k) e (smm_not_free late (at s k) here) refl (ap is_rsm is) due
 
     cpu_makes : (k : ℕ) (e : Event) → cpu_due p s k ≡ Makes e → IsMakes p s (actor.Cpu k) e
-    cpu_makes k e due = smi (may_take_smi (at s k)) refl due
+    cpu_makes k e due = smi (not late && may_take_smi (at s k)) refl due
       where
         free : (b : Bool) → (if b then Asks k else Idle) ≡ Makes e → IsMakes p s (actor.Cpu k) e
         free true due = cc
         free false due = cc
 
-        smm : (b : Bool) → stands_in_smm (at s k) ≡ b → (if b then smm_due p s k (wanted p s k) else if is_free (at s k) then Asks k else Idle) ≡ Makes e → IsMakes p s (actor.Cpu k) e
+        smm : (b : Bool) → stands_in_smm (at s k) ≡ b → (if b then smm_due p s k (wanted p s k) else if is_free late (at s k) then Asks k else Idle) ≡ Makes e → IsMakes p s (actor.Cpu k) e
         smm true is due = smm_makes k e is (wanted p s k) refl due
-        smm false is due = free (is_free (at s k)) due
+        smm false is due = free (is_free late (at s k)) due
 
         init : (b : Bool) → may_take_init (at s k) ≡ b
-            → (if b then Makes (event.TakeInit k) else if stands_in_smm (at s k) then smm_due p s k (wanted p s k) else if is_free (at s k) then Asks k else Idle) ≡ Makes e → IsMakes p s (actor.Cpu k) e
+            → (if b then Makes (event.TakeInit k) else if stands_in_smm (at s k) then smm_due p s k (wanted p s k) else if is_free late (at s k) then Asks k else Idle) ≡ Makes e → IsMakes p s (actor.Cpu k) e
         init true is due =
             subst (λ (x : Event). IsMakes p s (actor.Cpu k) x) (ap (made_in (event.TakeInit k)) due)
-            (record { step = is_made (event.TakeInit k) is refl; actor = refl; unasked = not_asked k (init_not_free (at s k) is) })
+            (record { step = is_made (event.TakeInit k) is refl; actor = inl refl; unasked = not_asked k (init_not_free late (at s k) is) })
         init false is due = smm (stands_in_smm (at s k)) refl due
 
-        smi : (b : Bool) → may_take_smi (at s k) ≡ b
-            → (if b then Makes (event.TakeSmi k) else if may_take_init (at s k) then Makes (event.TakeInit k) else if stands_in_smm (at s k) then smm_due p s k (wanted p s k) else if is_free (at s k) then Asks k else Idle) ≡ Makes e
+        smi : (b : Bool) → (not late && may_take_smi (at s k)) ≡ b
+            → (if b then Makes (event.TakeSmi k) else if may_take_init (at s k) then Makes (event.TakeInit k) else if stands_in_smm (at s k) then smm_due p s k (wanted p s k) else if is_free late (at s k) then Asks k else Idle) ≡ Makes e
             → IsMakes p s (actor.Cpu k) e
         smi true is due =
             subst (λ (x : Event). IsMakes p s (actor.Cpu k) x) (ap (made_in (event.TakeSmi k)) due)
-            (record { step = is_made (event.TakeSmi k) is refl; actor = refl; unasked = not_asked k (smi_not_free (at s k) is) })
+            (record {
+              step = is_made (event.TakeSmi k) (right (not late) (may_take_smi (at s k)) is) refl;
+              actor = inl (ap (λ (b : Bool). if b then actor.Smi k else actor.Cpu k) (prompt_of late (may_take_smi (at s k)) is));
+              unasked = not_asked k (smi_not_free late (at s k) is);
+            })
         smi false is due = init (may_take_init (at s k)) refl due
 
     handed_makes : (a : Actor) (e : Event) → handed_due p s a ≡ Makes e → IsMakes p s a e
     handed_makes (actor.Insert k) e due =
         let made = opened (is_enabled p s (event.Insert k)) (event.Insert k) e due in
-        subst (λ (x : Event). IsMakes p s (actor.Insert k) x) made.1 (record { step = is_made (event.Insert k) made.0 refl; actor = refl; unasked = refl })
+        subst (λ (x : Event). IsMakes p s (actor.Insert k) x) made.1 (record { step = is_made (event.Insert k) made.0 refl; actor = inl refl; unasked = refl })
     handed_makes (actor.Remove k) e due =
         let made = opened (is_enabled p s (event.Remove k)) (event.Remove k) e due in
-        subst (λ (x : Event). IsMakes p s (actor.Remove k) x) made.1 (record { step = is_made (event.Remove k) made.0 refl; actor = refl; unasked = refl })
+        subst (λ (x : Event). IsMakes p s (actor.Remove k) x) made.1 (record { step = is_made (event.Remove k) made.0 refl; actor = inl refl; unasked = refl })
     handed_makes (actor.Cpu k) e due = cpu_makes k e due
+    handed_makes (actor.Smi k) e due =
+        let made = opened (is_enabled p s (event.TakeSmi k)) (event.TakeSmi k) e due in
+        subst (λ (x : Event). IsMakes p s (actor.Smi k) x) made.1 (record { step = is_made (event.TakeSmi k) made.0 refl; actor = inr (k, refl, refl); unasked = refl })
 
     -- an event of a processor that is a step makes its turn due
     past_smi : (k : ℕ) (x : Event) (b : Bool) (d : Due) → d ≢ Idle → (if b then Makes x else d) ≢ Idle
@@ -202,27 +243,27 @@ module _ (p : Platform) (s : State) where
 
     smm_some : (k : ℕ) → stands_in_smm (at s k) ≡ true → smm_due p s k (wanted p s k) ≢ Idle → cpu_due p s k ≢ Idle
     smm_some k here some =
-        past_smi k (event.TakeSmi k) (may_take_smi (at s k)) _
+        past_smi k (event.TakeSmi k) (not late && may_take_smi (at s k)) _
         (past_smi k (event.TakeInit k) (may_take_init (at s k)) _
-        (subst (λ (b : Bool). ((if b then smm_due p s k (wanted p s k) else if is_free (at s k) then Asks k else Idle) ≢ Idle)) (sym here) some))
+        (subst (λ (b : Bool). ((if b then smm_due p s k (wanted p s k) else if is_free late (at s k) then Asks k else Idle) ≢ Idle)) (sym here) some))
 
-    free_some : (k : ℕ) → is_free (at s k) ≡ true → cpu_due p s k ≢ Idle
+    free_some : (k : ℕ) → is_free late (at s k) ≡ true → cpu_due p s k ≢ Idle
     free_some k free =
-        past_smi k (event.TakeSmi k) (may_take_smi (at s k)) _
+        past_smi k (event.TakeSmi k) (not late && may_take_smi (at s k)) _
         (past_smi k (event.TakeInit k) (may_take_init (at s k)) _
-        (subst (λ (b : Bool). ((if b then smm_due p s k (wanted p s k) else if is_free (at s k) then Asks k else Idle) ≢ Idle)) (sym outside)
+        (subst (λ (b : Bool). ((if b then smm_due p s k (wanted p s k) else if is_free late (at s k) then Asks k else Idle) ≢ Idle)) (sym outside)
         (subst (λ (b : Bool). ((if b then Asks k else Idle) ≢ Idle)) (sym free) (λ e. cc))))
       where
         outside : stands_in_smm (at s k) ≡ false
-        outside = rw (free_not_smm (at s k) free, and_off) refl
+        outside = rw (free_not_smm late (at s k) free, and_off) refl
 
     do_some : (k : ℕ) (a : Access) → is_enabled p s (event.Do k a) ≡ true → is_handlers p s (event.Do k a) ≡ true → cpu_due p s k ≢ Idle
-    do_some k a can wants = by (is_free (at s k)) refl
+    do_some k a can wants = by (is_free late (at s k)) refl
       where
-        in_smm : is_free (at s k) ≡ false → stands_in_smm (at s k) ≡ true
-        in_smm busy = left (stands_in_smm (at s k)) (not (is_halt a)) (subst (λ (b : Bool). (b || (stands_in_smm (at s k) && not (is_halt a))) ≡ true) busy (right (is_normal a) (may_access (at s k) a) can))
+        in_smm : is_free late (at s k) ≡ false → stands_in_smm (at s k) ≡ true
+        in_smm busy = left (stands_in_smm (at s k)) (not (is_halt a)) (subst (λ (b : Bool). (b || (stands_in_smm (at s k) && not (is_halt a))) ≡ true) busy (right (is_normal a) (may_access late (at s k) a) can))
 
-        by : (b : Bool) → is_free (at s k) ≡ b → cpu_due p s k ≢ Idle
+        by : (b : Bool) → is_free late (at s k) ≡ b → cpu_due p s k ≢ Idle
         by true free = free_some k free
         by false busy =
             let here = in_smm busy in
@@ -230,20 +271,30 @@ module _ (p : Platform) (s : State) where
             subst (λ (b : Bool). (not b || is_that_access (wanted p s k) a) ≡ true) (right (at s k).present (is_in_smm (at s k).mode) here) wants in
             smm_some k here (subst (λ (o : Option Want). (smm_due p s k o ≢ Idle)) (sym (that_access (wanted p s k) a that)) (made_due (event.Do k a) can))
 
-    cpu_some : (x : Event) → is_enabled p s x ≡ true → is_handlers p s x ≡ true → handed_due p s (actor_of x) ≢ Idle
+    cpu_some : (x : Event) → is_enabled p s x ≡ true → is_handlers p s x ≡ true → handed_due p s (actor_of late x) ≢ Idle
     cpu_some (event.Insert k) can wants = made_due (event.Insert k) can
     cpu_some (event.Remove k) can wants = made_due (event.Remove k) can
     cpu_some (event.Do k a) can wants = do_some k a can wants
-    cpu_some (event.TakeSmi k) can wants =
-        subst (λ (b : Bool). ((if b then Makes (event.TakeSmi k) else if may_take_init (at s k) then Makes (event.TakeInit k) else if stands_in_smm (at s k) then smm_due p s k (wanted p s k) else if is_free (at s k) then Asks k else Idle) ≢ Idle)) (sym can) (λ e. cc)
+    cpu_some (event.TakeSmi k) can wants = by late refl
+      where
+        by : (b : Bool) → late ≡ b → handed_due p s (if b then actor.Smi k else actor.Cpu k) ≢ Idle
+        by true comes = made_due (event.TakeSmi k) can
+        by false comes =
+            let now : (not late && may_take_smi (at s k)) ≡ true = rw comes can in
+            subst (λ (b : Bool). ((if b then Makes (event.TakeSmi k) else if may_take_init (at s k) then Makes (event.TakeInit k) else if stands_in_smm (at s k) then smm_due p s k (wanted p s k) else if is_free late (at s k) then Asks k else Idle) ≢ Idle)) (sym now) (λ e. cc)
     cpu_some (event.TakeInit k) can wants =
-        past_smi k (event.TakeSmi k) (may_take_smi (at s k)) _
-        (subst (λ (b : Bool). ((if b then Makes (event.TakeInit k) else if stands_in_smm (at s k) then smm_due p s k (wanted p s k) else if is_free (at s k) then Asks k else Idle) ≢ Idle)) (sym can) (λ e. cc))
+        past_smi k (event.TakeSmi k) (not late && may_take_smi (at s k)) _
+        (subst (λ (b : Bool). ((if b then Makes (event.TakeInit k) else if stands_in_smm (at s k) then smm_due p s k (wanted p s k) else if is_free late (at s k) then Asks k else Idle) ≢ Idle)) (sym can) (λ e. cc))
     cpu_some (event.Resume k) can wants =
         smm_some k can (subst (λ (o : Option Want). (smm_due p s k o ≢ Idle)) (sym (that_rsm (wanted p s k) wants)) (made_due (event.Resume k) can))
     cpu_some (event.Tell o) can wants =
         let told = that_outcome (wanted p s 0) o wants in
         smm_some 0 can (subst (λ (w : Option Want). (smm_due p s 0 w ≢ Idle)) (sym told.is) (made_due (event.Tell told.outcome) can))
+
+    handed_some : (a : Actor) (x : Event) → IsStepBy late a x → is_enabled p s x ≡ true → is_handlers p s x ≡ true → handed_due p s a ≢ Idle
+    handed_some a x its can wants =
+        by_actor late (λ (b : Actor). handed_due p s b ≢ Idle) a x its (cpu_some x can wants)
+        (λ k taken. made_due (event.TakeSmi k) (subst (λ (y : Event). is_enabled p s y ≡ true) taken can))
 
 -- what is due is a step of the actor, and its voice isn't asked
 pub makes_is : (p : Platform) (s : State) (a : Actor) (e : Event) → due_of p s a ≡ Makes e → IsMakes p s a e
@@ -256,6 +307,7 @@ makes_is p s a e due = by s.stage refl due
         boots (actor.Insert k) due = cc
         boots (actor.Remove k) due = cc
         boots (actor.Cpu k) due = boot_makes p s done supported is k e due
+        boots (actor.Smi k) due = cc
     by (Refused fact) is due = cc
     by (Handed requested) is due = handed_makes p s requested is a e due
 
@@ -269,23 +321,23 @@ not_true true never = absurd (never refl)
 not_true false never = refl
 
 pub idle_none : (p : Platform) (s : State) (a : Actor) → due_of p s a ≡ Idle → HasNone p s a
-idle_none p s a idle = record { none = λ x its. unmade p s x (not_true (is_step p s x) (λ is. some x is (subst (λ (b : Actor). due_of p s b ≡ Idle) (sym its) idle))) }
+idle_none p s a idle = record { none = λ x its. unmade p s x (not_true (is_step p s x) (λ is. some x its is)) }
   where
-    some : (x : Event) → is_step p s x ≡ true → due_of p s (actor_of x) ≡ Idle → ⊥
-    some x is idle = by s.stage refl idle
+    some : (x : Event) → IsStepBy (is_late p.delivery) a x → is_step p s x ≡ true → ⊥
+    some x its is = by s.stage refl idle
       where
-        by : (st : Stage) → s.stage ≡ st → due_in p s st (actor_of x) ≡ Idle → ⊥
-        by (Boots done supported) at0 idle = boot_some p s done supported at0 x is idle
-        by (Refused fact) at0 idle =
+        by : (st : Stage) → s.stage ≡ st → due_in p s st a ≡ Idle → ⊥
+        by (Boots done supported) at0 none = boot_some p s done supported at0 a x its is none
+        by (Refused fact) at0 none =
             let wrong : false ≡ true = sym (ap (λ (st : Stage). wanted_in p s st x) at0) ∙ right (is_enabled p s x) (is_wanted p s x) is in
             cc
-        by (Handed requested) at0 idle =
-            cpu_some p s requested at0 x (left (is_enabled p s x) (is_wanted p s x) is) (sym (wants_handed p s requested at0 x) ∙ right (is_enabled p s x) (is_wanted p s x) is) idle
+        by (Handed requested) at0 none =
+            handed_some p s requested at0 a x its (left (is_enabled p s x) (is_wanted p s x) is) (sym (wants_handed p s requested at0 x) ∙ right (is_enabled p s x) (is_wanted p s x) is) none
 
 -- a voice is asked, and any access that it says is a step, as the machine takes it
 pub record IsAsks (p : Platform) (s : State) (a : Actor) (k : ℕ) : Type 0 where
   pub actor : a ≡ actor.Cpu k
-  pub asked : asks s a ≡ true
+  pub asked : asks (is_late p.delivery) s a ≡ true
   pub step : (x : Access) → is_step p s (event.Do k (normal x)) ≡ true
 
 -- accesses as the machine takes them are normal
@@ -325,13 +377,13 @@ normal_is Halt = refl
 normal_is Nop = refl
 
 module _ (p : Platform) (s : State) where
-  free_asks : (requested : ℕ) → s.stage ≡ Handed requested → (k : ℕ) → is_free (at s k) ≡ true → IsAsks p s (actor.Cpu k) k
+  free_asks : (requested : ℕ) → s.stage ≡ Handed requested → (k : ℕ) → is_free (is_late p.delivery) (at s k) ≡ true → IsAsks p s (actor.Cpu k) k
   free_asks requested stage k free = record {
     actor = refl;
-    asked = both (is_handed s.stage) (is_free (at s k)) (ap is_handed stage) free;
+    asked = both (is_handed s.stage) (is_free (is_late p.delivery) (at s k)) (ap is_handed stage) free;
     step = λ x.
-        is_made p s requested stage (event.Do k (normal x)) (both (is_normal (normal x)) (may_access (at s k) (normal x)) (normal_is x) (ap (λ (b : Bool). b || (stands_in_smm (at s k) && not (is_halt (normal x)))) free))
-        (ap (λ (b : Bool). not b || is_that_access (wanted p s k) (normal x)) (free_not_smm (at s k) free));
+        is_made p s requested stage (event.Do k (normal x)) (both (is_normal (normal x)) (may_access (is_late p.delivery) (at s k) (normal x)) (normal_is x) (ap (λ (b : Bool). b || (stands_in_smm (at s k) && not (is_halt (normal x)))) free))
+        (ap (λ (b : Bool). not b || is_that_access (wanted p s k) (normal x)) (free_not_smm (is_late p.delivery) (at s k) free));
   }
 
   if_asks : (b : Bool) (x : Event) (k : ℕ) → (if b then Makes x else Idle) ≢ Asks k
@@ -349,22 +401,22 @@ module _ (p : Platform) (s : State) where
   smm_asks k j (Some want.Resume) e = if_asks (is_enabled p s (event.Resume k)) (event.Resume k) j e
 
   cpu_asks : (requested : ℕ) → s.stage ≡ Handed requested → (k j : ℕ) → cpu_due p s k ≡ Asks j → IsAsks p s (actor.Cpu k) j
-  cpu_asks requested stage k j due = smi (may_take_smi (at s k)) due
+  cpu_asks requested stage k j due = smi (not (is_late p.delivery) && may_take_smi (at s k)) due
     where
-      free : (b : Bool) → is_free (at s k) ≡ b → (if b then Asks k else Idle) ≡ Asks j → IsAsks p s (actor.Cpu k) j
+      free : (b : Bool) → is_free (is_late p.delivery) (at s k) ≡ b → (if b then Asks k else Idle) ≡ Asks j → IsAsks p s (actor.Cpu k) j
       free true is due = subst (λ (i : ℕ). IsAsks p s (actor.Cpu k) i) (ap (asked_in k) due) (free_asks requested stage k is)
       free false is due = cc
 
-      smm : (b : Bool) → (if b then smm_due p s k (wanted p s k) else if is_free (at s k) then Asks k else Idle) ≡ Asks j → IsAsks p s (actor.Cpu k) j
+      smm : (b : Bool) → (if b then smm_due p s k (wanted p s k) else if is_free (is_late p.delivery) (at s k) then Asks k else Idle) ≡ Asks j → IsAsks p s (actor.Cpu k) j
       smm true due = absurd (smm_asks k j (wanted p s k) due)
-      smm false due = free (is_free (at s k)) refl due
+      smm false due = free (is_free (is_late p.delivery) (at s k)) refl due
 
-      init : (b : Bool) → (if b then Makes (event.TakeInit k) else if stands_in_smm (at s k) then smm_due p s k (wanted p s k) else if is_free (at s k) then Asks k else Idle) ≡ Asks j → IsAsks p s (actor.Cpu k) j
+      init : (b : Bool) → (if b then Makes (event.TakeInit k) else if stands_in_smm (at s k) then smm_due p s k (wanted p s k) else if is_free (is_late p.delivery) (at s k) then Asks k else Idle) ≡ Asks j → IsAsks p s (actor.Cpu k) j
       init true due = cc
       init false due = smm (stands_in_smm (at s k)) due
 
       smi : (b : Bool)
-          → (if b then Makes (event.TakeSmi k) else if may_take_init (at s k) then Makes (event.TakeInit k) else if stands_in_smm (at s k) then smm_due p s k (wanted p s k) else if is_free (at s k) then Asks k else Idle) ≡ Asks j
+          → (if b then Makes (event.TakeSmi k) else if may_take_init (at s k) then Makes (event.TakeInit k) else if stands_in_smm (at s k) then smm_due p s k (wanted p s k) else if is_free (is_late p.delivery) (at s k) then Asks k else Idle) ≡ Asks j
           → IsAsks p s (actor.Cpu k) j
       smi true due = cc
       smi false due = init (may_take_init (at s k)) due
@@ -372,6 +424,7 @@ module _ (p : Platform) (s : State) where
   boot_asks : (done supported : ℕ) (a : Actor) (j : ℕ) → boot_due p s done supported a ≢ Asks j
   boot_asks done supported (actor.Insert k) j e = cc
   boot_asks done supported (actor.Remove k) j e = cc
+  boot_asks done supported (actor.Smi k) j e = cc
   boot_asks done supported (actor.Cpu k) j e = first (k == 0) e
     where
       first : (b : Bool) → (if b then makes_if p s (event.Do 0 (boot_access p.tseg_mib supported done)) else Idle) ≡ Asks j → ⊥
@@ -382,6 +435,7 @@ module _ (p : Platform) (s : State) where
   handed_asks requested stage (actor.Insert k) j due = absurd (if_asks (is_enabled p s (event.Insert k)) (event.Insert k) j due)
   handed_asks requested stage (actor.Remove k) j due = absurd (if_asks (is_enabled p s (event.Remove k)) (event.Remove k) j due)
   handed_asks requested stage (actor.Cpu k) j due = cpu_asks requested stage k j due
+  handed_asks requested stage (actor.Smi k) j due = absurd (if_asks (is_enabled p s (event.TakeSmi k)) (event.TakeSmi k) j due)
 
 -- where a voice is asked, any access that it says is a step, as the machine takes it
 pub asks_is : (p : Platform) (s : State) (a : Actor) (k : ℕ) → due_of p s a ≡ Asks k → IsAsks p s a k

@@ -1,7 +1,8 @@
 -- What a turn keeps, and what it makes.
-use Rattle.std.proofs.Common.{◌≡◌, ◌≤◌, ◌⊎◌, inl, inr, ℕ, zero, suc, Bool, true, false, List, [], ◌∷◌, ◌++◌, length, take, replicate, Option, Some, None, option_and_then, refl, sym, ap, subst, ◌∙◌, arith}
+use Rattle.std.proofs.Common.{◌≡◌, ◌≤◌, ◌<◌, ◌+◌, ◌&&◌, ◌⊎◌, inl, inr, ℕ, zero, suc, Bool, true, false, nat_lt, List, [], ◌∷◌, ◌++◌, length, take, replicate, Option, Some, None, option_and_then, refl, sym, ap, subst, ◌∙◌, arith}
 use Rattle.std.specs.Prelude.{slice_index_or, slice_set, if◌then◌else◌}
 use Rattle.std.proofs.lemmas.Option.{same_Some}
+use Rattle.std.proofs.lemmas.Bool.Decides.{nat_tests}
 use Rattle.hp_model.specs.declared.platforms.Platform.{Platform}
 use Rattle.hp_model.specs.declared.accesses.Access.{Access}
 use Rattle.hp_model.specs.declared.accesses.Answer.{Answer}
@@ -14,14 +15,15 @@ use Rattle.hp_model.specs.declared.entries.Entry.{Entry}
 use Rattle.hp_model.specs.Block.{Block, ejected_by}
 use Rattle.hp_model.specs.Boot.{is_handed}
 use Rattle.hp_model.specs.Cpu.{page_of}
-use Rattle.hp_model.specs.Platform.{IsFit, count_of}
-use Rattle.hp_model.specs.Runs.{actor_of, accept, address_of, run, run_from, run_on}
+use Rattle.hp_model.specs.Platform.{IsFit, count_of, is_late}
+use Rattle.hp_model.specs.Runs.{IsStepBy, actor_of, accept, address_of, run, run_from, run_on}
 use Rattle.hp_model.specs.Step.{State, after, answer_of, at, normal, start, step}
 use Rattle.hp_model.specs.Voices.{Voice}
 use Rattle.hp_model.proofs.Scheduled.{run_from-append, same_address-refl, same_answer-refl}
 use Rattle.hp_agent.specs.Speaking.{Speaks, asked, told_at}
 use Rattle.hp_platform.specs.Board.{Board, IsReady, Shows, is_step}
-use Rattle.hp_platform.specs.World.{HasNone, IsIdle, IsKept, IsMade, IsSaid, IsStepOf, Says, WasIdle, World, asks, counted, noted, without_agent}
+use Rattle.hp_platform.specs.World.{HasNone, IsIdle, IsKept, IsMade, IsNoted, IsSaid, IsStepOf, Says, WasIdle, World, asks, asked_place, counted, counted_at, idle_place, idle_place_of, idle_places, noted, noted_at, one_more, without_agent}
+use Rattle.hp_platform.proofs.Leading.{left, right}
 use Rattle.hp_platform.proofs.Stepping.{IsAsks, IsMakes}
 
 -- what making a step says
@@ -73,23 +75,43 @@ length-more es e n within = omega (arith, within, longer es)
     longer (x ∷ es) = omega (arith, longer es)
 
 -- the board shows the state of a run alone
-pub shown : (b : Board) (es : List Entry) (notes : List (Option ℕ)) → IsKept b es notes → (s : State) → run b.platform es ≡ Some s → Shows b s
-shown b es notes kept s is = subst (λ (t : State). Shows b t) (same_Some kept.replay.state s (sym kept.replay.run ∙ is)) kept.replay.shows
+pub shown : (b : Board) (es : List Entry) (asked : List ℕ) (notes : List (Option ℕ)) → IsKept b es asked notes → (s : State) → run b.platform es ≡ Some s → Shows b s
+shown b es asked notes kept s is = subst (λ (t : State). Shows b t) (same_Some kept.replay.state s (sym kept.replay.run ∙ is)) kept.replay.shows
 
-pub ready_of : (b : Board) (es : List Entry) (notes : List (Option ℕ)) (x : Event) → IsKept b es notes → ((s : State) → Shows b s → is_step b.platform s x ≡ true) → IsReady b x
-ready_of b es notes x kept is = record { state = kept.replay.state; shows = kept.replay.shows; is = is kept.replay.state kept.replay.shows }
+pub ready_of : (b : Board) (es : List Entry) (asked : List ℕ) (notes : List (Option ℕ)) (x : Event) → IsKept b es asked notes → ((s : State) → Shows b s → is_step b.platform s x ≡ true) → IsReady b x
+ready_of b es asked notes x kept is = record { state = kept.replay.state; shows = kept.replay.shows; is = is kept.replay.state kept.replay.shows }
 
 -- room alone was taken
-pub kept_same : (b c : Board) (es : List Entry) (notes : List (Option ℕ)) → IsKept b es notes → c.platform ≡ b.platform → ((s : State) → Shows b s → Shows c s) → IsKept c es notes
-kept_same b c es notes kept platform same = record {
+pub kept_same : (b c : Board) (es : List Entry) (asked : List ℕ) (notes : List (Option ℕ)) → IsKept b es asked notes → c.platform ≡ b.platform → ((s : State) → Shows b s → Shows c s) → IsKept c es asked notes
+kept_same b c es asked notes kept platform same = record {
   fit = subst (λ (p : Platform). IsFit p) (sym platform) kept.fit;
   replay = record {
     state = kept.replay.state;
     run = subst (λ (p : Platform). run p es ≡ Some kept.replay.state) (sym platform) kept.replay.run;
     shows = same kept.replay.state kept.replay.shows;
   };
-  idle = λ k n is. subst (λ (p : Platform). WasIdle p es k n) (sym platform) (kept.idle k n is);
+  noted = subst (λ (p : Platform). IsNoted p es asked notes) (sym platform) kept.noted;
 }
+
+-- a turn was counted
+length-set : {X : Type 0} (xs : List X) (k : ℕ) (x : X) → length (slice_set xs k x) ≡ length xs
+length-set [] k x = refl
+length-set (y ∷ ys) zero x = refl
+length-set (y ∷ ys) (suc k) x = ap suc (length-set ys k x)
+
+length-counted : (o : Option ℕ) (ns : List ℕ) → length (counted_at o ns) ≡ length ns
+length-counted None ns = refl
+length-counted (Some place) ns = length-set ns place (one_more (slice_index_or ns place 0))
+
+pub kept_counted : (b : Board) (es : List Entry) (asked : List ℕ) (notes : List (Option ℕ)) (n : ℕ) (a : Actor) → IsKept b es asked notes → IsKept b es (counted n a asked) notes
+kept_counted b es asked notes n a kept = record {
+  fit = kept.fit;
+  replay = kept.replay;
+  noted = record { counts = length-counted (asked_place n a) asked ∙ kept.noted.counts; places = kept.noted.places; was = kept.noted.was };
+}
+
+pub kept_turn : (b : Board) (es : List Entry) (asked now : List ℕ) (notes : List (Option ℕ)) (n : ℕ) (a : Actor) → IsKept b es asked notes → now ≡ counted n a asked → IsKept b es now notes
+kept_turn b es asked now notes n a kept is = subst (λ (ns : List ℕ). IsKept b es ns notes) (sym is) (kept_counted b es asked notes n a kept)
 
 -- an idle turn is noted
 set_cases : (xs : List (Option ℕ)) (k j m : ℕ) (x : Option ℕ) → slice_index_or (slice_set xs k x) j None ≡ Some m → ((j ≡ k) × (x ≡ Some m)) ⊎ (slice_index_or xs j None ≡ Some m)
@@ -103,25 +125,80 @@ set_cases (y ∷ ys) (suc k) (suc j) m x is = onward (set_cases ys k j m x is)
     onward (inl here) = inl (ap suc here.0, here.1)
     onward (inr other) = inr other
 
-pub kept_idle : (b : Board) (es : List Entry) (notes : List (Option ℕ)) (handed : Bool) (a : Actor) (n : ℕ) → IsKept b es notes → n ≡ length es → ((s : State) → Shows b s → HasNone b.platform s a) → IsKept b es (noted handed a n notes)
-kept_idle b es notes handed (actor.Insert k) n kept all none = kept
-kept_idle b es notes handed (actor.Remove k) n kept all none = kept
-kept_idle b es notes false (actor.Cpu k) n kept all none = kept
-kept_idle b es notes true (actor.Cpu k) n kept all none = record { fit = kept.fit; replay = kept.replay; idle = λ j m is. by j m (set_cases notes k j m (Some n) is) }
-  where
-    here : WasIdle b.platform es k n
-    here = record {
-      within = omega (arith, all);
-      none = λ s is. none s (shown b es notes kept s (subst (λ (fs : List Entry). run b.platform fs ≡ Some s) (ap (λ (i : ℕ). take i es) all ∙ take-all es) is));
-    }
+length-noted : (handed : Bool) (o : Option ℕ) (n : ℕ) (notes : List (Option ℕ)) → length (noted handed o n notes) ≡ length notes
+length-noted false o n notes = refl
+length-noted true None n notes = refl
+length-noted true (Some place) n notes = length-set notes place (Some n)
 
-    by : (j m : ℕ) → ((j ≡ k) × (Some n ≡ Some m)) ⊎ (slice_index_or notes j None ≡ Some m) → WasIdle b.platform es j m
-    by j m (inl now) = subst (λ (i : ℕ). WasIdle b.platform es i m) (sym now.0) (subst (λ (i : ℕ). WasIdle b.platform es k i) (same_Some n m now.1) here)
-    by j m (inr old) = kept.idle j m old
+-- no two actors have one place
+placed : (b : Bool) (x i : ℕ) → (if b then Some x else None) ≡ Some i → (b ≡ true) × (x ≡ i)
+placed true x i e = (refl, same_Some x i e)
+placed false x i e = cc
+
+apart : (late : Bool) (count k j i : ℕ) → idle_place late count (actor.Cpu k) ≡ Some i → idle_place late count (actor.Smi j) ≡ Some i → ⊥
+apart late count k j i e f =
+    let here = placed (nat_lt k count) k i e in
+    let there = placed (late && nat_lt j count) (count + j) i f in
+    let below : k < count = within here.0 in
+    omega (arith, below, here.1, there.1)
+  where
+    within : nat_lt k count ≡ true → k < count
+    within e = grind (arith, nat_tests)
+
+same_cpu : (late : Bool) (count k j i : ℕ) → idle_place late count (actor.Cpu k) ≡ Some i → idle_place late count (actor.Cpu j) ≡ Some i → k ≡ j
+same_cpu late count k j i e f = (placed (nat_lt k count) k i e).1 ∙ sym (placed (nat_lt j count) j i f).1
+
+same_smi : (late : Bool) (count k j i : ℕ) → idle_place late count (actor.Smi k) ≡ Some i → idle_place late count (actor.Smi j) ≡ Some i → k ≡ j
+same_smi late count k j i e f =
+    let here = placed (late && nat_lt k count) (count + k) i e in
+    let there = placed (late && nat_lt j count) (count + j) i f in
+    omega (arith, here.1, there.1)
+
+one_place : (late : Bool) (count : ℕ) (a c : Actor) (i : ℕ) → idle_place late count a ≡ Some i → idle_place late count c ≡ Some i → a ≡ c
+one_place late count (actor.Insert k) c i e f = cc
+one_place late count (actor.Remove k) c i e f = cc
+one_place late count (actor.Cpu k) (actor.Insert j) i e f = cc
+one_place late count (actor.Cpu k) (actor.Remove j) i e f = cc
+one_place late count (actor.Cpu k) (actor.Cpu j) i e f = ap (λ (x : ℕ). actor.Cpu x) (same_cpu late count k j i e f)
+one_place late count (actor.Cpu k) (actor.Smi j) i e f = absurd (apart late count k j i e f)
+one_place late count (actor.Smi k) (actor.Insert j) i e f = cc
+one_place late count (actor.Smi k) (actor.Remove j) i e f = cc
+one_place late count (actor.Smi k) (actor.Cpu j) i e f = absurd (apart late count j k i f e)
+one_place late count (actor.Smi k) (actor.Smi j) i e f = ap (λ (x : ℕ). actor.Smi x) (same_smi late count k j i e f)
+
+module _ (b : Board) (es : List Entry) (asked : List ℕ) (notes : List (Option ℕ)) (a : Actor) (n : ℕ) (kept : IsKept b es asked notes) (all : n ≡ length es) (none : (s : State) → Shows b s → HasNone b.platform s a) where
+  idle_here : WasIdle b.platform es a n
+  idle_here = record {
+    within = omega (arith, all);
+    none = λ s is. none s (shown b es asked notes kept s (subst (λ (fs : List Entry). run b.platform fs ≡ Some s) (ap (λ (i : ℕ). take i es) all ∙ take-all es) is));
+  }
+
+  was_at : (place : ℕ) → idle_place_of b.platform a ≡ Some place → (c : Actor) (j m : ℕ) → idle_place_of b.platform c ≡ Some j → ((j ≡ place) × (Some n ≡ Some m)) ⊎ (slice_index_or notes j None ≡ Some m) → WasIdle b.platform es c m
+  was_at place here c j m there (inl now) =
+      let its : idle_place_of b.platform c ≡ Some place = there ∙ ap (λ (i : ℕ). Some i) now.0 in
+      subst (λ (d : Actor). WasIdle b.platform es d m) (one_place (is_late b.platform.delivery) (count_of b.platform) a c place here its)
+      (subst (λ (i : ℕ). WasIdle b.platform es a i) (same_Some n m now.1) idle_here)
+  was_at place here c j m there (inr old) = kept.noted.was c j m there old
+
+  was_noted : (handed : Bool) (o : Option ℕ) → idle_place_of b.platform a ≡ o → (c : Actor) (j m : ℕ) → idle_place_of b.platform c ≡ Some j → slice_index_or (noted handed o n notes) j None ≡ Some m → WasIdle b.platform es c m
+  was_noted false o here c j m there is = kept.noted.was c j m there is
+  was_noted true None here c j m there is = kept.noted.was c j m there is
+  was_noted true (Some place) here c j m there is = was_at place here c j m there (set_cases notes place j m (Some n) is)
+
+  pub kept_idle : (handed : Bool) → IsKept b es asked (noted handed (idle_place_of b.platform a) n notes)
+  kept_idle handed = record {
+    fit = kept.fit;
+    replay = kept.replay;
+    noted = record {
+      counts = kept.noted.counts;
+      places = length-noted handed (idle_place_of b.platform a) n notes ∙ kept.noted.places;
+      was = λ c j m there is. was_noted handed (idle_place_of b.platform a) refl c j m there is;
+    };
+  }
 
 -- a step was made
-module _ (b c : Board) (es : List Entry) (notes : List (Option ℕ)) (x : Event) (e : Entry) (kept : IsKept b es notes) (made : HasMade b c x e) (is : (s : State) → Shows b s → is_step b.platform s x ≡ true) where
-  pub kept_made : IsKept c (es ++ e ∷ []) notes
+module _ (b c : Board) (es : List Entry) (asked : List ℕ) (notes : List (Option ℕ)) (x : Event) (e : Entry) (kept : IsKept b es asked notes) (made : HasMade b c x e) (is : (s : State) → Shows b s → is_step b.platform s x ≡ true) where
+  pub kept_made : IsKept c (es ++ e ∷ []) asked notes
   kept_made = record {
     fit = subst (λ (p : Platform). IsFit p) (sym made.platform) kept.fit;
     replay = record {
@@ -130,7 +207,8 @@ module _ (b c : Board) (es : List Entry) (notes : List (Option ℕ)) (x : Event)
           (run_more b.platform es e s (after b.platform s x).state kept.replay.run (accepted b.platform s x e (is s shows) made.event (made.answer s shows) (made.address s shows)));
       shows = made.state s shows;
     };
-    idle = λ k n noted. subst (λ (p : Platform). WasIdle p (es ++ e ∷ []) k n) (sym made.platform) (longer k n (kept.idle k n noted));
+    noted = subst (λ (p : Platform). IsNoted p (es ++ e ∷ []) asked notes) (sym made.platform)
+        (record { counts = kept.noted.counts; places = kept.noted.places; was = λ a i n place is. longer a n (kept.noted.was a i n place is) });
   }
     where
       s : State
@@ -139,8 +217,8 @@ module _ (b c : Board) (es : List Entry) (notes : List (Option ℕ)) (x : Event)
       shows : Shows b s
       shows = kept.replay.shows
 
-      longer : (k n : ℕ) → WasIdle b.platform es k n → WasIdle b.platform (es ++ e ∷ []) k n
-      longer k n was = record {
+      longer : (a : Actor) (n : ℕ) → WasIdle b.platform es a n → WasIdle b.platform (es ++ e ∷ []) a n
+      longer a n was = record {
         within = length-more es e n was.within;
         none = λ t so. was.none t (subst (λ (fs : List Entry). run b.platform fs ≡ Some t) (take-front es (e ∷ []) n was.within) so);
       }
@@ -150,23 +228,23 @@ ejected-is : (b c : Board) (x : Event) (e : Entry) → HasMade b c x e → (s : 
 ejected-is b c x e made s shows =
     made.ejected ∙ ap (λ (k : Block). ejected_by k c.machine.block) shows.state.block ∙ ap (ejected_by s.block) (made.state s shows).state.block
 
-module _ (old new : World) (b c : Board) (notes : List (Option ℕ)) (a : Actor) (x : Event) (e : Entry) (kept : IsKept b old.entries notes) (platform : old.platform ≡ b.platform) (made : HasMade b c x e)
+module _ (old new : World) (b c : Board) (asks0 : List ℕ) (notes : List (Option ℕ)) (a : Actor) (x : Event) (e : Entry) (kept : IsKept b old.entries asks0 notes) (platform : old.platform ≡ b.platform) (made : HasMade b c x e)
     (entries : new.entries ≡ old.entries ++ e ∷ []) (counts : new.asked ≡ counted (count_of old.platform) a old.asked) (idle : new.idle ≡ old.idle) where
   -- the step of the entry
-  module _ (s : State) (shows : Shows b s) (its : is_step b.platform s x ≡ true) (own : actor_of x ≡ a) where
-    stepped : Says (asks s a) old new s a e (ejected_by s.block (after b.platform s x).state.block) → IsStepOf old new s a e
+  module _ (s : State) (shows : Shows b s) (its : is_step b.platform s x ≡ true) (own : IsStepBy (is_late b.platform.delivery) a x) where
+    stepped : Says (asks (is_late b.platform.delivery) s a) old new s a e (ejected_by s.block (after b.platform s x).state.block) → IsStepOf old new s a e
     stepped says = record {
-      actor = ap actor_of made.event ∙ own;
+      actor = subst (λ (p : Platform). IsStepBy (is_late p.delivery) a e.event) (sym platform) (subst (λ (y : Event). IsStepBy (is_late b.platform.delivery) a y) (sym made.event) own);
       step = subst (λ (p : Platform). step p s e.event ≡ Some (after p s e.event)) (sym platform)
           (subst (λ (y : Event). step b.platform s y ≡ Some (after b.platform s y)) (sym made.event) (due_step b.platform s x its));
       answer = made.answer s shows ∙ ap (answer_of s) (sym made.event);
       address = made.address s shows ∙ ap (address_of s) (sym made.event);
-      says = subst (λ (p : Platform). Says (asks s a) old new s a e (ejected_by s.block (after p s e.event).state.block)) (sym platform)
-          (subst (λ (y : Event). Says (asks s a) old new s a e (ejected_by s.block (after b.platform s y).state.block)) (sym made.event) says);
+      says = subst (λ (p : Platform). Says (asks (is_late p.delivery) s a) old new s a e (ejected_by s.block (after p s e.event).state.block)) (sym platform)
+          (subst (λ (y : Event). Says (asks (is_late b.platform.delivery) s a) old new s a e (ejected_by s.block (after b.platform s y).state.block)) (sym made.event) says);
     }
 
   shown_by : (s : State) → run old.platform old.entries ≡ Some s → Shows b s
-  shown_by s is = shown b old.entries notes kept s (subst (λ (p : Platform). run p old.entries ≡ Some s) platform is)
+  shown_by s is = shown b old.entries asks0 notes kept s (subst (λ (p : Platform). run p old.entries ≡ Some s) platform is)
 
   -- nobody was asked
   pub makes_turn : ((s : State) → Shows b s → IsMakes b.platform s a x) → new.voices ≡ without_agent c.machine.ejected old.voices → new.last ≡ old.last → IsMade old new a e
@@ -198,25 +276,27 @@ module _ (old new : World) (b c : Board) (notes : List (Option ℕ)) (a : Actor)
       by : (s : State) → Shows b s → IsStepOf old new s a e
       by s shows =
           let m = its s shows in
-          stepped s shows (subst (λ (y : Event). is_step b.platform s y ≡ true) (sym event) (m.step access)) (ap actor_of event ∙ sym m.actor)
+          stepped s shows (subst (λ (y : Event). is_step b.platform s y ≡ true) (sym event) (m.step access)) (inl (ap (actor_of (is_late b.platform.delivery)) event ∙ sym m.actor))
           (subst (λ (q : Bool). Says q old new s a e (ejected_by s.block (after b.platform s x).state.block)) (sym m.asked)
           (subst (λ (i : Actor). Says true old new s i e (ejected_by s.block (after b.platform s x).state.block)) (sym m.actor) (said s shows)))
 
 -- a turn without a step
-pub idle_turn : (old new : World) (b : Board) (notes : List (Option ℕ)) (handed : Bool) (a : Actor) → IsKept b old.entries notes → old.platform ≡ b.platform → ((s : State) → Shows b s → HasNone b.platform s a)
+pub idle_turn : (old new : World) (b : Board) (asks0 : List ℕ) (notes : List (Option ℕ)) (handed : Bool) (a : Actor) → IsKept b old.entries asks0 notes → old.platform ≡ b.platform → ((s : State) → Shows b s → HasNone b.platform s a)
     → handed ≡ is_handed b.boot.stage → new.entries ≡ old.entries → new.voices ≡ old.voices → new.last ≡ old.last → new.asked ≡ counted (count_of old.platform) a old.asked
-    → new.idle ≡ noted handed a (length old.entries) old.idle → IsIdle old new a
-idle_turn old new b notes handed a kept platform none is entries voices last counts idle = record {
+    → new.idle ≡ noted handed (idle_place_of b.platform a) (length old.entries) old.idle → IsIdle old new a
+idle_turn old new b asks0 notes handed a kept platform none is entries voices last counts idle = record {
   entries = entries;
   none = λ s so. subst (λ (p : Platform). HasNone p s a) (sym platform) (none s (shown_by s so));
   voices = voices;
   last = last;
   asked = counts;
-  idle = λ s so. idle ∙ ap (λ (h : Bool). noted h a (length old.entries) old.idle) (is ∙ ap is_handed (shown_by s so).stage);
+  idle = λ s so.
+      idle ∙ ap (λ (h : Bool). noted h (idle_place_of b.platform a) (length old.entries) old.idle) (is ∙ ap is_handed (shown_by s so).stage)
+      ∙ ap (λ (p : Platform). noted (is_handed s.stage) (idle_place_of p a) (length old.entries) old.idle) (sym platform);
 }
   where
     shown_by : (s : State) → run old.platform old.entries ≡ Some s → Shows b s
-    shown_by s so = shown b old.entries notes kept s (subst (λ (p : Platform). run p old.entries ≡ Some s) platform so)
+    shown_by s so = shown b old.entries asks0 notes kept s (subst (λ (p : Platform). run p old.entries ≡ Some s) platform so)
 
 -- before the first turn
 none_noted : (n k m : ℕ) (notes : List (Option ℕ)) → notes ≡ replicate n None → slice_index_or notes k None ≡ Some m → ⊥
@@ -227,10 +307,19 @@ none_noted n k m notes none is = none_in n k m (sym (ap (λ (xs : List (Option �
     none_in (suc n) zero m is = cc
     none_in (suc n) (suc k) m is = none_in n k m is
 
-pub kept_start : (b : Board) (n : ℕ) (notes : List (Option ℕ)) → IsFit b.platform → Shows b (start b.platform) → notes ≡ replicate n None → IsKept b [] notes
+length-replicate : {X : Type 0} (n : ℕ) (x : X) → length (replicate n x) ≡ n
+length-replicate zero x = refl
+length-replicate (suc n) x = ap suc (length-replicate n x)
+
+pub kept_start : (b : Board) (asked : List ℕ) (notes : List (Option ℕ)) → IsFit b.platform → Shows b (start b.platform) → asked ≡ replicate (count_of b.platform + 1) 0
+    → notes ≡ replicate (idle_places (is_late b.platform.delivery) (count_of b.platform)) None → IsKept b [] asked notes
 unfolding run run_from
-kept_start b n notes fit shows none = record {
+kept_start b asked notes fit shows counts none = record {
   fit = fit;
   replay = record { state = start b.platform; run = refl; shows = shows };
-  idle = λ k m is. absurd (none_noted n k m notes none is);
+  noted = record {
+    counts = ap length counts ∙ length-replicate (count_of b.platform + 1) 0;
+    places = ap length none ∙ length-replicate (idle_places (is_late b.platform.delivery) (count_of b.platform)) None;
+    was = λ a i m place is. absurd (none_noted (idle_places (is_late b.platform.delivery) (count_of b.platform)) i m notes none is);
+  };
 }

@@ -6,9 +6,9 @@ use Rattle.hp_model.specs.declared.entries.Event.TheVariants.{Insert, Remove, Do
 use Rattle.hp_model.specs.declared.processors.Cpu.{Cpu}
 use Rattle.hp_model.specs.Cpu.{is_in_smm, moved}
 use Rattle.hp_model.specs.Monarch.{restarted}
-use Rattle.hp_model.specs.Platform.{IsFit}
-use Rattle.hp_model.specs.SharedBytes.{layout_of}
-use Rattle.hp_model.specs.Step.{State, at, apic_of, mark_at, stands_in_smm, is_enabled, is_wanted}
+use Rattle.hp_model.specs.Platform.{IsFit, apic_of}
+use Rattle.hp_model.specs.SharedBytes.{Layout, layout_of}
+use Rattle.hp_model.specs.Step.{State, at, mark_at, stands_in_smm, is_enabled, is_wanted}
 use Rattle.hp_boot.specs.Booting.{Booting}
 use Rattle.hp_machine.specs.Machine.{Machine, IsState}
 use Rattle.hp_monarch.specs.Session.{Session}
@@ -20,10 +20,11 @@ pub record Board : Type 0 where
   pub boot : Booting
   pub handlers : Session
 
--- the machine is one of a platform that fits
-pub record IsOf (p : Platform) (ids : List ℕ) : Type 0 where
+-- the machine and the handlers are those of a platform that fits
+pub record IsOf (p : Platform) (ids : List ℕ) (y : Layout) : Type 0 where
   pub fit : IsFit p
   pub apic : ids ≡ p.apic
+  pub layout : y ≡ layout_of p
 
 -- the machine stands for the state, the boot stands where it does, and the handlers keep its record of the monarch
 pub record Shows (b : Board) (s : State) : Type 0 where

@@ -1,5 +1,5 @@
 -- What contracts see of a world, and what a turn makes of it.
-use Rattle.std.specs.Prelude.{◌≡◌, ◌≤◌, ℕ, Bool, true, false, ◌&&◌, nat_lt, ◌+◌, ◌-◌, ◌^◌, min, List, [], ◌∷◌, ◌++◌, length, map, take, Option, Some, None, slice_index_or, slice_set, if◌then◌else◌}
+use Rattle.std.specs.Prelude.{◌≡◌, ◌≤◌, ℕ, Bool, true, false, ◌&&◌, nat_lt, ◌+◌, ◌-◌, ◌^◌, min, List, [], ◌∷◌, ◌++◌, length, map, take, Option, Some, None, IsSome, slice_index_or, slice_set, if◌then◌else◌}
 use Rattle.hp_model.specs.declared.platforms.Platform.{Platform}
 use Rattle.hp_model.specs.declared.accesses.Access.{Access}
 use Rattle.hp_model.specs.declared.accesses.Answer.{Answer}
@@ -12,8 +12,8 @@ use Rattle.hp_model.specs.declared.entries.Entry.{Entry}
 use Rattle.hp_model.specs.Block.{ejected_by}
 use Rattle.hp_model.specs.Boot.{is_handed}
 use Rattle.hp_model.specs.Cpu.{is_free, page_of}
-use Rattle.hp_model.specs.Platform.{IsFit, count_of}
-use Rattle.hp_model.specs.Runs.{actor_of, address_of, run}
+use Rattle.hp_model.specs.Platform.{IsFit, count_of, is_late}
+use Rattle.hp_model.specs.Runs.{IsStepBy, address_of, run}
 use Rattle.hp_model.specs.Schedule.{Scene, Made as Scheduled}
 use Rattle.hp_model.specs.Step.{State, after, answer_of, at, normal, step}
 use Rattle.hp_model.specs.Voices.{Voice, silent}
@@ -27,14 +27,29 @@ pub record World : Type 0 where
   pub entries : List Entry  -- all steps that were made, in their order
   pub voices : List (Option Voice)  -- what the agent of each processor tells of itself
   pub last : List Answer  -- of each processor, the answer to the last access that its agent was asked for
-  pub asked : List ℕ  -- how many turns each processor had, and then how many the host
-  pub idle : List (Option ℕ)  -- of each processor, how many entries there were at its last turn without a step after the hand-over
+  pub asked : List ℕ  -- how many turns each processor had, as itself or as its SMI, and then how many the host
+  pub idle : List (Option ℕ)  -- of each actor of a processor, how many entries there were at its last turn without a step after the hand-over
 
 -- the place of an actor's count of turns; none where there is no such processor
 abbrev pub asked_place : ℕ → Actor → Option ℕ
 asked_place count (actor.Insert k) = Some count
 asked_place count (actor.Remove k) = Some count
 asked_place count (actor.Cpu k) = if nat_lt k count then Some k else None
+asked_place count (actor.Smi k) = if nat_lt k count then Some k else None
+
+-- how many actors the processors have: where SMIs may come late, each its own and that of its SMI
+abbrev pub idle_places : Bool → ℕ → ℕ
+idle_places late count = if late then count + count else count
+
+-- the place of such an actor among them; the host has none, nor has an SMI that comes at once
+abbrev pub idle_place : Bool → ℕ → Actor → Option ℕ
+idle_place late count (actor.Insert k) = None
+idle_place late count (actor.Remove k) = None
+idle_place late count (actor.Cpu k) = if nat_lt k count then Some k else None
+idle_place late count (actor.Smi k) = if late && nat_lt k count then Some (count + k) else None
+
+abbrev pub idle_place_of : Platform → Actor → Option ℕ
+idle_place_of p a = idle_place (is_late p.delivery) (count_of p) a
 
 -- one turn more, but never past the greatest number of 8 bytes
 abbrev pub one_more : ℕ → ℕ
@@ -55,11 +70,12 @@ turns_at (Some place) ns = slice_index_or ns place 0
 abbrev pub turns_of : ℕ → Actor → List ℕ → ℕ
 turns_of count a ns = turns_at (asked_place count a) ns
 
--- whether the actor's turn asks its voice: after the hand-over, of a processor that runs with nothing latched
-abbrev pub asks : State → Actor → Bool
-asks s (actor.Insert k) = false
-asks s (actor.Remove k) = false
-asks s (actor.Cpu k) = is_handed s.stage && is_free (at s k)
+-- whether the actor's turn asks its voice: after the hand-over, of a processor that runs, where nothing goes before
+abbrev pub asks : Bool → State → Actor → Bool
+asks late s (actor.Insert k) = false
+asks late s (actor.Remove k) = false
+asks late s (actor.Cpu k) = is_handed s.stage && is_free late (at s k)
+asks late s (actor.Smi k) = false
 
 -- an ejected processor has no agent
 abbrev pub without_agent : Option ℕ → List (Option Voice) → List (Option Voice)
@@ -85,14 +101,15 @@ Says false old new s a e ejected = IsUnasked old new ejected
 Says true old new s (actor.Insert k) e ejected = IsUnasked old new ejected
 Says true old new s (actor.Remove k) e ejected = IsUnasked old new ejected
 Says true old new s (actor.Cpu k) e ejected = IsSaid old new s k e ejected
+Says true old new s (actor.Smi k) e ejected = IsUnasked old new ejected
 
 -- the entry is a step of this actor in the state s, with that step's answer and address, and what it left of the agents
 pub record IsStepOf (old new : World) (s : State) (a : Actor) (e : Entry) : Type 0 where
-  pub actor : actor_of e.event ≡ a
+  pub actor : IsStepBy (is_late old.platform.delivery) a e.event
   pub step : step old.platform s e.event ≡ Some (after old.platform s e.event)
   pub answer : e.answer ≡ answer_of s e.event
   pub address : e.at ≡ address_of s e.event
-  pub says : Says (asks s a) old new s a e (ejected_by s.block (after old.platform s e.event).state.block)
+  pub says : Says (asks (is_late old.platform.delivery) s a) old new s a e (ejected_by s.block (after old.platform s e.event).state.block)
 
 -- a turn that made this entry
 pub record IsMade (old new : World) (a : Actor) (e : Entry) : Type 0 where
@@ -101,15 +118,17 @@ pub record IsMade (old new : World) (a : Actor) (e : Entry) : Type 0 where
   pub asked : new.asked ≡ counted (count_of old.platform) a old.asked
   pub idle : new.idle ≡ old.idle
 
--- the idle turn of a processor after the hand-over is noted
-abbrev pub noted : Bool → Actor → ℕ → List (Option ℕ) → List (Option ℕ)
-noted handed (actor.Insert k) n idle = idle
-noted handed (actor.Remove k) n idle = idle
-noted handed (actor.Cpu k) n idle = if handed then slice_set idle k (Some n) else idle
+-- the idle turn of a processor's actor after the hand-over is noted
+abbrev pub noted_at : Option ℕ → ℕ → List (Option ℕ) → List (Option ℕ)
+noted_at None n idle = idle
+noted_at (Some place) n idle = slice_set idle place (Some n)
+
+abbrev pub noted : Bool → Option ℕ → ℕ → List (Option ℕ) → List (Option ℕ)
+noted handed place n idle = if handed then noted_at place n idle else idle
 
 -- the machine has no event of this actor as a step
 pub record HasNone (p : Platform) (s : State) (a : Actor) : Type 0 where
-  pub none : (x : Event) → actor_of x ≡ a → step p s x ≡ None
+  pub none : (x : Event) → IsStepBy (is_late p.delivery) a x → step p s x ≡ None
 
 -- a turn without a step
 pub record IsIdle (old new : World) (a : Actor) : Type 0 where
@@ -118,7 +137,7 @@ pub record IsIdle (old new : World) (a : Actor) : Type 0 where
   pub voices : new.voices ≡ old.voices
   pub last : new.last ≡ old.last
   pub asked : new.asked ≡ counted (count_of old.platform) a old.asked
-  pub idle : (s : State) → run old.platform old.entries ≡ Some s → new.idle ≡ noted (is_handed s.stage) a (length old.entries) old.idle
+  pub idle : (s : State) → run old.platform old.entries ≡ Some s → new.idle ≡ noted (is_handed s.stage) (idle_place_of old.platform a) (length old.entries) old.idle
 
 abbrev pub IsTurned : World → World → Actor → Turn → Type 0
 IsTurned old new a (Made e) = IsMade old new a e
@@ -130,16 +149,28 @@ pub record IsReplay (b : Board) (es : List Entry) : Type 0 where
   pub run : run b.platform es ≡ Some state
   pub shows : Shows b state
 
--- a number of entries after which a processor had no step
-pub record WasIdle (p : Platform) (es : List Entry) (k n : ℕ) : Type 0 where
+-- a number of entries after which an actor had no step
+pub record WasIdle (p : Platform) (es : List Entry) (a : Actor) (n : ℕ) : Type 0 where
   pub within : n ≤ length es
-  pub none : (s : State) → run p (take n es) ≡ Some s → HasNone p s (actor.Cpu k)
+  pub none : (s : State) → run p (take n es) ≡ Some s → HasNone p s a
 
--- what a world keeps: its platform fits, its machine is the replay of its entries, and each number that it notes was an idle turn's
-pub record IsKept (b : Board) (es : List Entry) (notes : List (Option ℕ)) : Type 0 where
+-- there is a place for each count of turns and for each note, and each note is of an idle turn
+pub record IsNoted (p : Platform) (es : List Entry) (asked : List ℕ) (notes : List (Option ℕ)) : Type 0 where
+  pub counts : length asked ≡ count_of p + 1
+  pub places : length notes ≡ idle_places (is_late p.delivery) (count_of p)
+  pub was : (a : Actor) (i n : ℕ) → idle_place_of p a ≡ Some i → slice_index_or notes i None ≡ Some n → WasIdle p es a n
+
+-- what a world keeps: its platform fits, its machine is the replay of its entries, and its counts and notes are what they say
+pub record IsKept (b : Board) (es : List Entry) (asked : List ℕ) (notes : List (Option ℕ)) : Type 0 where
   pub fit : IsFit b.platform
   pub replay : IsReplay b es
-  pub idle : (k n : ℕ) → slice_index_or notes k None ≡ Some n → WasIdle b.platform es k n
+  pub noted : IsNoted b.platform es asked notes
+
+-- the same, as callers see it
+pub record IsSound (w : World) : Type 0 where
+  pub fit : IsFit w.platform
+  pub run : IsSome (run w.platform w.entries)
+  pub noted : IsNoted w.platform w.entries w.asked w.idle
 
 -- all agents tell their voices: then the world stands for a scene of the schedule
 pub record Tells (w : World) (scene : Scene) : Type 0 where

@@ -5,10 +5,11 @@ ghost use Rattle.hp_model.specs.Block.{ejected_by};
 ghost use Rattle.hp_model.specs.Boot.{fact_of, is_booting, is_handed};
 ghost use Rattle.hp_model.specs.declared.platforms.Platform.{Platform as APlatform};
 ghost use Rattle.hp_model.specs.Cpu.{cpu_at, is_in_smm as is_smm, page_of};
-ghost use Rattle.hp_model.specs.Platform.{IsFit};
+ghost use Rattle.hp_model.specs.Platform.{IsFit, apic_of, is_late as comes_late};
 ghost use Rattle.hp_model.specs.Runs.{address_of as address_in};
-ghost use Rattle.hp_model.specs.Step.{State, after as step_after, answer_of, apic_of, at, can_do, mark_at, start, wanted};
+ghost use Rattle.hp_model.specs.Step.{State, after as step_after, answer_of, at, can_do, mark_at, start, wanted};
 ghost use Rattle.hp_machine.specs.Machine.{FitsEvent, IsState, IsStep};
+ghost use Rattle.hp_reloc.specs.Relocating.{greatest};
 ghost use Rattle.hp_platform.specs.Board.{IsReady, IsStand, Shows, goes_on, row_event, told};
 ghost use Rattle.hp_platform.specs.Due.{due_of, boot_due as due_in_boot, cpu_due as due_of_cpu, handed_due as due_after_boot, makes_if, smm_due};
 
@@ -16,7 +17,9 @@ use crate::dues::Due;
 use hp_boot::{Boot, BootStage};
 use hp_image::image;
 use hp_machine::Machine;
-use hp_model::{Access, Actor, Answer, BootFact, Cpu, Event, Mode, NoMemory, Platform, Want};
+use hp_model::{
+    Access, Actor, Answer, BootFact, Cpu, Delivery, Event, Mode, NoMemory, Platform, Want,
+};
 use hp_smm::{Handlers, Stand};
 use std::alloc::Global;
 use std::marker::Model;
@@ -38,7 +41,17 @@ impl Model for Board {
 
     ghost view = { λ b. record { platform = b.platform; machine = b.machine; boot = b.boot; handlers = b.handlers } };
 
-    ghost invariant = { λ b. IsOf b.platform b.machine.apic };
+    ghost invariant = { λ b. IsOf b.platform b.machine.apic b.handlers.layout };
+}
+
+/// Whether a latched SMI may be taken later than at once.
+pub(crate) fn is_late(p: &Platform) -> bool
+    ensures { result ≡ comes_late p.now.delivery }
+{
+    match p.delivery {
+        Delivery::Prompt => false,
+        Delivery::Late { lag: _ } => true,
+    }
 }
 
 fn is_in_smm(cpu: &Cpu) -> bool
@@ -50,7 +63,7 @@ fn is_in_smm(cpu: &Cpu) -> bool
 /// The machine's part of a step. Room for it was taken.
 fn step(machine: &mut Machine, event: &Event) -> Answer
     requires room { 272 ≤ machine.old.memory.spare }
-    requires enabled { can_do (length machine.old.apic) machine.old.cpus event.now ≡ true }
+    requires enabled { can_do machine.old.late (length machine.old.apic) machine.old.cpus event.now ≡ true }
     ensures step { (p : APlatform) (s : State) → IsState p machine.old s → IsStep p machine.new s event.now result }
     ensures fits { FitsEvent event.now result }
     ensures ejected { machine.new.ejected ≡ ejected_by machine.old.block machine.new.block }
@@ -77,7 +90,7 @@ fn apic_at(p: &Platform, k: u32) -> u32
     requires fit { IsFit p.now }
     requires place { k < length p.now.apic }
     ensures value { result ≡ apic_of p.now k }
-    ensures low { result ≤ 254 }
+    ensures low { result ≤ greatest p.now.x2apic }
 {
     p.apic.0[k as usize]
 }
@@ -88,7 +101,7 @@ fn stand_of(machine: &Machine, p: &Platform, k: u32) -> Option<Stand>
     requires apic { machine.now.apic ≡ p.now.apic }
     ensures some { (s : State) → IsState p.now machine.now s → IfSome result (IsStand p.now s k) }
     ensures none { (s : State) → IsState p.now machine.now s → result ≡ None → mark_at s k ≡ None }
-    ensures apic { IfSome result (λ x. x.apic ≤ 254) }
+    ensures apic { IfSome result (λ x. x.apic ≤ greatest p.now.x2apic) }
 {
     let Some(mark) = machine.mark_at(k) else {
         return None;
@@ -169,7 +182,7 @@ impl Board {
     fn stand(&self, k: u32) -> Option<Stand>
         ensures some { (s : State) → Shows self.now s → IfSome result (IsStand self.now.platform s k) }
         ensures none { (s : State) → Shows self.now s → result ≡ None → mark_at s k ≡ None }
-        ensures apic { IfSome result (λ x. x.apic ≤ 254) }
+        ensures apic { IfSome result (λ x. x.apic ≤ greatest self.now.platform.x2apic) }
     {
         stand_of(&self.machine, &self.platform, k)
     }
@@ -219,7 +232,7 @@ impl Board {
     fn cpu_due(&self, k: u32) -> Due
         ensures { (s : State) → Shows self.now s → result ≡ due_of_cpu self.now.platform s k }
     {
-        if self.machine.enabled(&Event::TakeSmi(k)) {
+        if !is_late(&self.platform) && self.machine.enabled(&Event::TakeSmi(k)) {
             return Due::Makes(Event::TakeSmi(k));
         }
         if self.machine.enabled(&Event::TakeInit(k)) {
@@ -241,6 +254,7 @@ impl Board {
             Actor::Insert(k) => self.makes_if(Event::Insert(k)),
             Actor::Remove(k) => self.makes_if(Event::Remove(k)),
             Actor::Cpu(k) => self.cpu_due(k),
+            Actor::Smi(k) => self.makes_if(Event::TakeSmi(k)),
         }
     }
 

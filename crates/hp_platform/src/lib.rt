@@ -5,6 +5,8 @@
 mod add_tests;
 mod boards;
 mod dues;
+#[cfg(test)]
+mod eject_tests;
 mod laws;
 mod normal;
 #[cfg(test)]

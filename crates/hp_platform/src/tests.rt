@@ -39,7 +39,9 @@ pub(crate) fn platform(
         turns: 0,
         modern: true,
         default_smram: true,
+        ext_tseg: true,
         delivery: Delivery::Prompt,
+        x2apic: false,
     })
 }
 
@@ -166,7 +168,11 @@ fn cpu<A: Agent>(world: &mut World<A>, k: u32) -> Result<Seen, NoMemory> {
 }
 
 /// So many turns of processor 0, each of which makes a step.
-fn boot_steps<A: Agent>(rt: &impl Abort, world: &mut World<A>, count: u32) -> Result<(), Fail> {
+pub(crate) fn boot_steps<A: Agent>(
+    rt: &impl Abort,
+    world: &mut World<A>,
+    count: u32,
+) -> Result<(), Fail> {
     for row in 0..count {
         assert!(rt; !world.handed(), "row {row}");
         assert!(rt; cpu(world, 0)? != Seen::Nothing, "row {row}");

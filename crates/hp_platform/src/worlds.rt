@@ -4,14 +4,14 @@ ghost use Rattle.std.specs.Prelude.{◌≡◌, ◌≤◌, ◌<◌, ◌+◌, ◌-
 ghost use Rattle.hp_model.specs.declared.accesses.Answer.TheVariants.{Quiet};
 ghost use Rattle.hp_model.specs.Block.{ejected_by};
 ghost use Rattle.hp_model.specs.Boot.{fact_of, is_handed};
-ghost use Rattle.hp_model.specs.Platform.{IsFit, count_of};
+ghost use Rattle.hp_model.specs.Platform.{IsFit, count_of, is_late as comes_late};
 ghost use Rattle.hp_model.specs.Runs.{address_of, run};
-ghost use Rattle.hp_model.specs.Safety.{IsLockedBefore};
+ghost use Rattle.hp_model.specs.Safety.{IsGuarded};
 ghost use Rattle.hp_model.specs.Step.{State, after as step_after, answer_of, normal as normal_of};
 ghost use Rattle.hp_platform.specs.Board.{IsReady, Shows};
-ghost use Rattle.hp_platform.specs.World.{IsTurned, asked_place, counted, counted_at, noted, turns_at, turns_of, without_agent};
+ghost use Rattle.hp_platform.specs.World.{IsSound, IsTurned, asked_place, counted, counted_at, idle_place_of, idle_places, noted, turns_at, turns_of, without_agent};
 
-use crate::boards::Board;
+use crate::boards::{Board, is_late};
 use crate::dues::Due;
 use crate::normal::normal;
 use hp_agent::{Agent, Agents};
@@ -49,14 +49,15 @@ impl<A: Agent> Model for World<A> {
 
     ghost view = { λ w. record { platform = w.board.platform; entries = w.entries.items; voices = w.agents; last = w.last.items; asked = w.asked.items; idle = w.idle.items } };
 
-    ghost invariant = { λ w. IsKept w.board w.entries.items w.idle.items };
+    ghost invariant = { λ w. IsKept w.board w.entries.items w.asked.items w.idle.items };
 }
 
 /// How many processors are possible.
 fn possible(p: &Platform) -> usize
-    ensures { result ≡ count_of p.now }
+    ensures value { result ≡ count_of p.now }
+    ensures few { result < 2 ^ 63 }
 {
-    p.apic.0.len()
+    p.apic.0.as_slice().len()
 }
 
 /// No idle turn, of so many processors.
@@ -82,8 +83,8 @@ fn place_of(count: usize, a: Actor) -> Option<usize>
     ensures { result ≡ asked_place count a }
 {
     match a {
-        Actor::Cpu(k) if k as usize >= count => None,
-        Actor::Cpu(k) => Some(k as usize),
+        Actor::Cpu(k) | Actor::Smi(k) if k as usize >= count => None,
+        Actor::Cpu(k) | Actor::Smi(k) => Some(k as usize),
         Actor::Insert(_) | Actor::Remove(_) => Some(count),
     }
 }
@@ -135,23 +136,42 @@ fn note_answer(last: &mut Vec<Answer>, k: u32, answer: Answer)
     }
 }
 
-/// A processor's turn without a step after so many entries.
-fn note_at(idle: &mut [Option<u64>], k: u32, entries: u64)
-    ensures { idle.new ≡ slice_set idle.old k (Some entries) }
+/// How many actors the processors have: each its own, and where SMIs may come late that of its SMI.
+fn many_places(p: &Platform) -> usize
+    ensures { result ≡ idle_places (comes_late p.now.delivery) (count_of p.now) }
 {
-    let place = k as usize;
+    let count = possible(p);
+    if is_late(p) { count + count } else { count }
+}
+
+/// The place of an actor's idle turns.
+fn place_in(p: &Platform, a: Actor) -> Option<usize>
+    ensures { result ≡ idle_place_of p.now a }
+{
+    let count = possible(p);
+    match a {
+        Actor::Cpu(k) if (k as usize) < count => Some(k as usize),
+        Actor::Smi(k) if is_late(p) && (k as usize) < count => Some(count + k as usize),
+        _ => None,
+    }
+}
+
+/// A turn without a step after so many entries.
+fn note_at(idle: &mut [Option<u64>], place: usize, entries: u64)
+    ensures { idle.new ≡ slice_set idle.old place (Some entries) }
+{
     if place < idle.len() {
         idle[place] = Some(entries);
     }
 }
 
-/// A turn without a step: that of a processor is noted once the machine is handed over.
-fn note_idle(idle: &mut Vec<Option<u64>>, handed: bool, a: Actor, entries: u64)
-    ensures { idle.new.items ≡ noted handed a entries idle.old.items }
+/// A turn without a step: that of a processor's actor is noted once the machine is handed over.
+fn note_idle(idle: &mut Vec<Option<u64>>, handed: bool, place: Option<usize>, entries: u64)
+    ensures { idle.new.items ≡ noted handed place entries idle.old.items }
 {
-    match a {
-        Actor::Cpu(k) if handed => note_at(idle, k, entries),
-        Actor::Insert(_) | Actor::Remove(_) | Actor::Cpu(_) => {}
+    match place {
+        Some(place) if handed => note_at(idle, place, entries),
+        Some(_) | None => {}
     }
 }
 
@@ -198,12 +218,12 @@ impl<A: Agent> World<A> {
         ensures voices { IfOk result (λ w. w.voices ≡ agents) }
         ensures last { IfOk result (λ w. w.last ≡ replicate (count_of p.now) Quiet) }
         ensures asked { IfOk result (λ w. w.asked ≡ replicate (count_of p.now + 1) 0) }
-        ensures idle { IfOk result (λ w. w.idle ≡ replicate (count_of p.now) None) }
+        ensures idle { IfOk result (λ w. w.idle ≡ replicate (idle_places (comes_late p.now.delivery) (count_of p.now)) None) }
     {
-        let count = p.apic.0.len();
+        let count = possible(p);
         let last = vec![in alloc; Answer::Quiet; count]?;
         let asked = vec![in alloc; 0u64; count + 1]?;
-        let idle = nothing_noted(alloc, count)?;
+        let idle = nothing_noted(alloc, many_places(p))?;
         let board = Board::new(alloc, p)?;
         Ok(World {
             board,
@@ -220,7 +240,8 @@ impl<A: Agent> World<A> {
     /// Before the hand-over processor 0 alone has steps, those of the boot sequence; after a refusal of the boot nobody has.
     /// After the hand-over the host inserts an absent processor or requests the removal of one that is present and isn't
     /// processor 0; a processor takes a latched SMI, else a latched INIT, else in SMM does what its handler wants, and outside
-    /// SMM makes the access that its agent says, where it is running. An access of a width that there is none is made as
+    /// SMM makes the access that its agent says, where it is running. The SMI of a processor is an actor too; where SMIs may
+    /// come late it alone takes them, and a running processor goes on until then. An access of a width that there is none is made as
     /// `Nop`, and a value is cut to its width. A step that ejects a processor drops its agent.
     ///
     /// `Idle` comes exactly where there is no step of the actor; no agent is asked then. Room for the entry and for what the
@@ -233,11 +254,12 @@ impl<A: Agent> World<A> {
         self.entries.reserve(1)?;
         self.board.reserve()?;
         let count = possible(self.board.platform());
+        let place = place_in(self.board.platform(), a);
         count_turn(&mut self.asked, count, a);
         match self.board.due(a) {
             Due::Idle => {
                 let handed = self.board.handed();
-                note_idle(&mut self.idle, handed, a, many(&self.entries));
+                note_idle(&mut self.idle, handed, place, many(&self.entries));
                 Ok(Turn::Idle)
             }
             Due::Makes(event) => {
@@ -259,14 +281,23 @@ impl<A: Agent> World<A> {
         }
     }
 
-    /// All steps that were made, in their order: a run of the machine from its start, in which each instruction executed in
-    /// SMM lies in SMRAM that was locked before it.
+    /// All steps that were made, in their order: a run of the machine from its start. In it each instruction executed in SMM
+    /// lies in SMRAM that was locked before it, no two processors have one SMBASE but for the default, and an SMBASE changes
+    /// only past the gate, while the monarch has named its processor's APIC ID.
     pub fn entries(&self) -> &[Entry]
         ensures entries { result.now ≡ self.now.entries }
         ensures run { IsSome (run self.now.platform self.now.entries) }
-        ensures locked_before { IsLockedBefore self.now.platform self.now.entries }
+        ensures guarded { IsGuarded self.now.platform self.now.entries }
     {
         self.entries.as_slice()
+    }
+
+    /// What each world keeps, as callers see it: its platform fits, its entries are a run, its counts and notes have their
+    /// places, and a note is the number of entries after which that actor had no step.
+    pub fn sound(&self)
+        ensures { IsSound self.now }
+    {
+        let _ = &self.entries;
     }
 
     /// Whether the boot is over and the machine handed over.
@@ -289,7 +320,7 @@ impl<A: Agent> World<A> {
         self.board.platform()
     }
 
-    /// How many turns an actor had that weren't answered `NoMemory`: those of a processor, or of the host with all its
+    /// How many turns an actor had that weren't answered `NoMemory`: those of a processor and its SMI, or of the host with all its
     /// events together. 0 for a processor that isn't possible.
     pub fn asked(&self, a: &Actor) -> u64
         ensures { result ≡ turns_of (count_of self.now.platform) a.now self.now.asked }

@@ -46,4 +46,4 @@ pub invariant_of-self : goal.invariant_of-self
 invariant_of-self c =
     let ready = c.requires.ready in
     let seen = subst (λ (b : Board). Shows b ready.state) (sym c.self.view_is) ready.shows in
-    record { fit = c.self.invariant.fit; apic = (c.step-answer.ensures.step _ ready.state seen.state).state.apic }
+    record { fit = c.self.invariant.fit; apic = (c.step-answer.ensures.step _ ready.state seen.state).state.apic; layout = ap (λ (h : Session). h.layout) c.left.ensures ∙ c.self.invariant.layout }

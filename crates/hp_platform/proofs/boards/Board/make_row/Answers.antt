@@ -7,7 +7,8 @@ use Rattle.hp_model.specs.SharedBytes.{layout_of}
 use Rattle.hp_model.specs.Step.{State, after, row_at, seat}
 use Rattle.hp_machine.specs.Machine.{Machine}
 use Rattle.hp_model.specs.Fitting.{FitsWant}
-use Rattle.hp_smm.specs.Rows.{want_for}
+use Rattle.hp_monarch.specs.Session.{Session}
+use Rattle.hp_smm.specs.Rows.{row_for, want_for}
 use Rattle.hp_platform.specs.Board.{Board, IsReady, IsStand, Shows, row_event}
 use Rattle.hp_platform.proofs.Leading.{IsAt, ready_row, some_row}
 use Rattle.hp_platform.proofs.Making.{row_made}
@@ -64,4 +65,16 @@ pub invariant_of-self : goal.invariant_of-self
 invariant_of-self c =
     let ready = c.requires.ready in
     let seen = subst (λ (b : Board). Shows b ready.state) (sym c.self.view_is) ready.shows in
-    record { fit = c.self.invariant.fit; apic = ap (λ (m : Machine). m.apic) c.go_on.ensures ∙ (c.step-answer.ensures.step _ ready.state seen.state).state.apic }
+    let b = c.args.self.now in
+    let x = c.in-Some.stand in
+    let at : IsAt (row_at b.platform ready.state c.args.k) =
+    some_row (layout_of b.platform) ready.state.monarch (seat b.platform ready.state c.args.k) (row_at b.platform ready.state c.args.k)
+    (ready_row b c.args.event.now ready c.requires.handed c.args.k c.requires.row).some in
+    let row : IsAt (row_for c.self.inside.handlers x) =
+    subst (λ (d : Board). IsAt (row_for d.handlers x)) (sym c.self.view_is)
+    (record { label = at.label; is = row-is b ready.state c.args.k x ready.shows (c.in-Some.ensures.some ready.state ready.shows) ∙ at.is }) in
+    record {
+      fit = c.self.invariant.fit;
+      apic = ap (λ (m : Machine). m.apic) c.go_on.ensures ∙ (c.step-answer.ensures.step _ ready.state seen.state).state.apic;
+      layout = ap (λ (h : Session). h.layout) (c.feed-address.ensures.monarch row.label row.is) ∙ c.self.invariant.layout;
+    }

@@ -1,16 +1,19 @@
 -- A new world has no entries, and no idle turn.
-use Rattle.std.proofs.Common.{List, sym, subst}
+use Rattle.std.proofs.Common.{ℕ, ◌+◌, List, replicate, None, sym, ap, subst, ◌∙◌}
 use Rattle.hp_model.specs.declared.platforms.Platform.{Platform}
 use Rattle.hp_model.specs.declared.entries.Entry.{Entry}
-use Rattle.hp_model.specs.Platform.{IsFit}
+use Rattle.hp_model.specs.Platform.{IsFit, count_of, is_late}
 use Rattle.hp_model.specs.Step.{start}
 use Rattle.hp_platform.specs.Board.{Shows}
-use Rattle.hp_platform.specs.World.{IsKept}
+use Rattle.hp_platform.specs.World.{IsKept, idle_places}
 use Rattle.hp_platform.proofs.Turning.{kept_start}
 use Rattle.hp_platform.proofs.worlds.World.new.Goals as goal
 
 pub invariant_of-result : goal.invariant_of-result
 invariant_of-result g c =
     let b = c.in_ok-board.board in
-    subst (λ (es : List Entry). IsKept b es c.in_ok-idle.idle.items) (sym c.new-2.ensures.items)
-    (kept_start b c.len-count.result c.in_ok-idle.idle.items (subst (λ (p : Platform). IsFit p) (sym c.in_ok-board.ensures.platform) c.requires.fit) (subst (λ (p : Platform). Shows b (start p)) (sym c.in_ok-board.ensures.platform) c.in_ok-board.ensures.start) c.in_ok-idle.ensures)
+    let same = c.in_ok-board.ensures.platform in
+    subst (λ (es : List Entry). IsKept b es c.in_ok-asked.asked.items c.in_ok-idle.idle.items) (sym c.new-2.ensures.items)
+    (kept_start b c.in_ok-asked.asked.items c.in_ok-idle.idle.items (subst (λ (p : Platform). IsFit p) (sym same) c.requires.fit) (subst (λ (p : Platform). Shows b (start p)) (sym same) c.in_ok-board.ensures.start)
+    (c.in_ok-asked.ensures.items_if_clones_equal (λ y e. e) ∙ ap (λ (n : ℕ). replicate (n + 1) 0) (c.possible-count.ensures.value ∙ ap count_of (sym same)))
+    (c.in_ok-idle.ensures ∙ ap (λ (n : ℕ). replicate n None) (c.many_places.ensures ∙ ap (λ (p : Platform). idle_places (is_late p.delivery) (count_of p)) (sym same))))
