@@ -7,7 +7,7 @@ use Rattle.hp_model.specs.Platform.{IsFit}
 use Rattle.hp_model.specs.declared.platforms.Platform.{Platform}
 use Rattle.hp_model.specs.declared.entries.Entry.{Entry}
 use Rattle.hp_model.specs.Runs.{run}
-use Rattle.hp_model.specs.Safety.{IsLockedBefore}
+use Rattle.hp_model.specs.Safety.{IsGuarded}
 use Rattle.hp_model.specs.Schedule.{booted, boot_fact, scheduled}
 use Rattle.hp_model.specs.Step.{State}
 use Rattle.hp_config.specs.Reading.{Reading, good, broken, file_of, text_reading, IsReadAs}
@@ -46,16 +46,16 @@ module _ (sound : (bytes : List ℕ) (f : File) → IsReadAs bytes (Ok f) → Is
   completed bytes old new (TraceRefused line why) f ends written read up = ends
   completed bytes old new NoMemory f ends written read up = tt
 
--- the entries that are written are a run in which each instruction executed in SMM was locked before it
+-- the entries that are written are a run, and guarded
 module _ (whole : (f : File) → IsSome (run f.platform (scheduled f))) (boot : (f : File) → IsSome (run f.platform (booted f).entries))
-    (locked : (p : Platform) (es : List Entry) (s : State) → IsFit p → run p es ≡ Some s → IsLockedBefore p es)
+    (guards : (p : Platform) (es : List Entry) (s : State) → IsFit p → run p es ≡ Some s → IsGuarded p es)
     (stops : (f : File) (fact : BootFact) → boot_fact f ≡ Some fact → StopsAt fact (booted f).entries) where
-  safe_run : (p : Platform) (es : List Entry) → IsFit p → IsSome (run p es) → IsLockedBefore p es
-  safe_run p es fit some = by (run p es) refl some
+  guarded_run : (p : Platform) (es : List Entry) → IsFit p → IsSome (run p es) → IsGuarded p es
+  guarded_run p es fit some = by (run p es) refl some
     where
-      by : (o : Option State) → run p es ≡ o → IsSome o → IsLockedBefore p es
+      by : (o : Option State) → run p es ≡ o → IsSome o → IsGuarded p es
       by None e none = cc
-      by (Some s) e found = locked p es s fit e
+      by (Some s) e found = guards p es s fit e
 
   spelled_run : (f : File) → IsSome (run f.platform (spelled f))
   unfolding spelled
@@ -71,7 +71,7 @@ module _ (whole : (f : File) → IsSome (run f.platform (scheduled f))) (boot : 
     read = read;
     front = front;
     is_run = spelled_run f;
-    safe = safe_run f.platform (spelled f) sound.fit (spelled_run f);
+    guarded = guarded_run f.platform (spelled f) sound.fit (spelled_run f);
   }
 
   pub ends_read : (bytes : List ℕ) (old new : Option (List ℕ)) (f : File) (status : Status) → IsReadAs bytes (Ok f) → IsSound f → EndsFile f old new status →
@@ -82,7 +82,7 @@ module _ (whole : (f : File) → IsSome (run f.platform (scheduled f))) (boot : 
     handed = written.fact;
     appended = written.appended;
     is_run = whole f;
-    safe = safe_run f.platform (scheduled f) sound.fit (whole f);
+    guarded = guarded_run f.platform (scheduled f) sound.fit (whole f);
   }
   ends_read bytes old new f BadWords read sound written = written
   ends_read bytes old new f ReadFault read sound written = written
@@ -96,7 +96,7 @@ module _ (whole : (f : File) → IsSome (run f.platform (scheduled f))) (boot : 
     appended = written.appended;
     stops = stops f fact written.fact;
     is_run = boot f;
-    safe = safe_run f.platform (booted f).entries sound.fit (boot f);
+    guarded = guarded_run f.platform (booted f).entries sound.fit (boot f);
   }
   ends_read bytes old new f WriteFault read sound front = cut_run bytes old new f read sound front
   ends_read bytes old new f (TraceRefused line why) read sound written = written

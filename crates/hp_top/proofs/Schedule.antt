@@ -118,13 +118,13 @@ module _ (f : File) (turn : ℕ) (w : Scene) (mid : World) (made : ℕ) (a b c :
       (turns_from f (all - (turn + 1)) (turn + 1) (act_all f.platform (turns_from f turn 0 w).scene (actors_of f turn)).scene) b c (next (turns_from f turn 0 w).scene first.scene))))
 
 -- the boot is its turns
-pub booted-is : (f : File) → booted f ≡ act_all f.platform (scene_start f) (boot_left boot_turns)
+pub booted-is : (f : File) (n : ℕ) → n ≡ boot_turns f.platform → booted f ≡ act_all f.platform (scene_start f) (boot_left n)
 unfolding booted boot_left
-booted-is f = refl
+booted-is f n is = ap (λ (m : ℕ). act_all f.platform (scene_start f) (boot_left m)) (sym is)
 
-pub sends_boot : (f : File) (seen : World) (made : ℕ) (a b : Option (List ℕ)) →
-    Sends f.platform seen (act_all f.platform (scene_start f) (boot_left boot_turns)) made a b → Sends f.platform seen (booted f) made a b
-sends_boot f seen made a b sends = subst (λ (m : Made). Sends f.platform seen m made a b) (sym (booted-is f)) sends
+pub sends_boot : (f : File) (n : ℕ) → n ≡ boot_turns f.platform → (seen : World) (made : ℕ) (a b : Option (List ℕ)) →
+    Sends f.platform seen (act_all f.platform (scene_start f) (boot_left n)) made a b → Sends f.platform seen (booted f) made a b
+sends_boot f n is seen made a b sends = subst (λ (m : Made). Sends f.platform seen m made a b) (sym (booted-is f n is)) sends
 
 -- the scene after it shows what refused it
 pub boot_fact-is : (f : File) (world : World) (o : Option BootFact) → Shows f.platform world (booted f).scene →

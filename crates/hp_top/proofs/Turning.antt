@@ -9,7 +9,7 @@ use Rattle.hp_model.specs.declared.entries.Actor.{Actor}
 use Rattle.hp_model.specs.declared.entries.Actor.TheVariants.{Cpu}
 use Rattle.hp_model.specs.declared.files.HostEvent.{HostEvent}
 use Rattle.hp_model.specs.declared.entries.Entry.{Entry}
-use Rattle.hp_model.specs.Schedule.{Scene, Made, both_make, boot_turns, act, act_all}
+use Rattle.hp_model.specs.Schedule.{Scene, Made, both_make, act, act_all}
 use Rattle.hp_model.specs.Text.{line_text, lines_text}
 use Rattle.hp_top.proofs.Sending.{sent_none, sent_more, sent_all, front_part, front_none}
 use Rattle.hp_platform.specs.declared.worlds.Turn.TheVariants as turn
@@ -143,13 +143,18 @@ pub done_start : (p : Platform) (w : Scene) (all : List Actor) (seen : World) (a
 done_start p w all seen a shows = record { front = []; actors = refl; sends = sends_empty p w seen a shows }
 
 -- the boot's turns: one is next while some are left
-pub boot_next : (n : ℕ) → n < boot_turns → boot_left (boot_turns - n) ≡ Cpu 0 ∷ boot_left (boot_turns - (n + 1))
-unfolding boot_left
-boot_next n within = let e : 27 - n ≡ suc (27 - (n + 1)) = omega (arith, within) in rw e refl
+pub boot_start : (p : Platform) (w : Scene) (all : ℕ) (seen : World) (a : Option (List ℕ)) → Shows p seen w → DoneActors p w (boot_left all) (boot_left (all - 0)) seen 0 a a
+boot_start p w all seen a shows =
+    let none : all ≡ all - 0 = omega arith in
+    subst (λ (n : ℕ). DoneActors p w (boot_left all) (boot_left n) seen 0 a a) none (done_start p w (boot_left all) seen a shows)
 
-pub boot_all : (n : ℕ) → boot_turns ≤ n → boot_left (boot_turns - n) ≡ []
+pub boot_next : (all n : ℕ) → n < all → boot_left (all - n) ≡ Cpu 0 ∷ boot_left (all - (n + 1))
 unfolding boot_left
-boot_all n past = let e : 27 - n ≡ 0 = omega (arith, past) in rw e refl
+boot_next all n within = let e : all - n ≡ suc (all - (n + 1)) = omega (arith, within) in rw e refl
+
+pub boot_all : (all n : ℕ) → all ≤ n → boot_left (all - n) ≡ []
+unfolding boot_left
+boot_all all n past = let e : all - n ≡ 0 = omega (arith, past) in rw e refl
 
 pub due-other : (turn : ℕ) (h : HostEvent) (hs : List HostEvent) → h.turn ≢ turn → due turn (h ∷ hs) ≡ []
 due-other turn h hs other = rw (ne_eqb h.turn turn other) refl

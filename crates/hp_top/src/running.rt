@@ -7,7 +7,7 @@ ghost use Rattle.hp_model.specs.declared.files.File.{File as Whole};
 ghost use Rattle.hp_model.specs.declared.files.VoiceKind.{VoiceKind};
 ghost use Rattle.hp_model.specs.Platform.{IsFit, count_of};
 ghost use Rattle.hp_model.specs.Voices.{voice_of};
-ghost use Rattle.hp_model.specs.Schedule.{Scene as Shown, act, act_all, actors_of, boot_fact as fact_of_boot, boot_turns, cpus_of, hosts_of as of_turn, is_stalled, scene_start, turns_from};
+ghost use Rattle.hp_model.specs.Schedule.{Scene as Shown, act, act_all, actors_of, boot_fact as fact_of_boot, boot_turns as turns_of_boot, cpus_of, hosts_of as of_turn, is_stalled, scene_start, turn_actor as actor_in, turns_from};
 ghost use Rattle.hp_config.specs.Sound.{IsSound};
 ghost use Rattle.hp_model.specs.Text.{head_text, line_text, lines_text, end_text};
 ghost use Rattle.hp_top.specs.Faults.{StopsFor};
@@ -22,13 +22,18 @@ use crate::stalling::{Stalled, by_start};
 use crate::writing::write_all;
 use hp_agent::{Agent, Agents, voice_for};
 use hp_model::{
-    Actor, BootFact, Entry, File, HostEvent, NoMemory, Platform, Stall, VoiceKind, Voices,
+    Actor, BootFact, Delivery, Entry, File, HostEvent, NoMemory, Platform, Stall, VoiceKind, Voices,
 };
 use hp_platform::{Turn, World, a_turn_is_the_schedules};
 use std::alloc::Global;
 
-/// The boot sequence's accesses, each a turn of processor 0.
-const BOOT_TURNS: u32 = 27;
+/// How many turns of processor 0 the boot sequence takes, one an access: two more where it asks for a TSEG of 48 MiB.
+fn boot_turns(p: &Platform) -> u32
+    ensures value { result ≡ turns_of_boot p.now }
+    ensures most { result ≤ 29 }
+{
+    if p.tseg_mib == 48 { 29 } else { 27 }
+}
 
 /// Makes the line of an entry in the buffer, whose content goes, and hands it to the sink.
 fn send_line<K: Sink>(e: &Entry, text: &mut Vec<u8>, out: &mut K) -> Result<(), WriteStop>
@@ -151,23 +156,36 @@ fn make_hosts<'h, A: Agent, K: Sink>(
     Ok((made, rest))
 }
 
-/// The processor whose turn it is; none where a stall covers it.
-fn cpu_of(file: &File, stalled: &mut Stalled, turn: u32) -> Option<u32>
-    requires fit { IsFit file.now.platform }
-    requires tracking { IsTracking file.now turn stalled.old }
-    ensures some { IfSome result (λ k. cpus_of file.now turn ≡ Actor.Cpu k ∷ []) }
-    ensures none { result ≡ None → cpus_of file.now turn ≡ [] }
-    ensures tracking { IsTracking file.now (turn + 1) stalled.new }
+/// Whose turn a processor's own turn of this number is: its own, or where SMIs may come late that of its SMI.
+fn turn_actor(delivery: Delivery, own: u32, k: u32) -> Actor
+    ensures { result ≡ actor_in delivery own k }
 {
-    let k = turn % file.platform.apic.0.len() as u32;
-    if stalled.holds(k, turn) {
-        None
-    } else {
-        Some(k)
+    match delivery {
+        Delivery::Late { lag } if u64::from(own) % (u64::from(lag) + 1) == u64::from(lag) => {
+            Actor::Smi(k)
+        }
+        Delivery::Prompt | Delivery::Late { lag: _ } => Actor::Cpu(k),
     }
 }
 
-/// One turn: the host's events, and then the processor whose turn it is unless a stall covers it. How many entries they
+/// The processor's actor whose turn it is; none where a stall covers it.
+fn actor_of(file: &File, stalled: &mut Stalled, turn: u32) -> Option<Actor>
+    requires fit { IsFit file.now.platform }
+    requires tracking { IsTracking file.now turn stalled.old }
+    ensures some { IfSome result (λ a. cpus_of file.now turn ≡ a ∷ []) }
+    ensures none { result ≡ None → cpus_of file.now turn ≡ [] }
+    ensures tracking { IsTracking file.now (turn + 1) stalled.new }
+{
+    let count = file.platform.apic.0.len() as u32;
+    let k = turn % count;
+    if stalled.holds(k, turn) {
+        None
+    } else {
+        Some(turn_actor(file.platform.delivery, turn / count, k))
+    }
+}
+
+/// One turn: the host's events, and then the processor whose turn it is, or its SMI, unless a stall covers it. How many entries they
 /// made, and the host events that are left.
 fn make_turn<'h, A: Agent, K: Sink>(
     world: &mut World<A>,
@@ -194,10 +212,10 @@ fn make_turn<'h, A: Agent, K: Sink>(
         Ok(done) => done,
         Err(stop) => return Err(stop),
     };
-    let Some(k) = cpu_of(file, stalled, turn) else {
+    let Some(actor) = actor_of(file, stalled, turn) else {
         return Ok((made, rest));
     };
-    match make_step(world, Actor::Cpu(k), text, out) {
+    match make_step(world, actor, text, out) {
         Ok(count) => Ok((made + count, rest)),
         Err(stop) => Err(stop),
     }
@@ -319,21 +337,22 @@ fn stalled_of<'s>(alloc: Global, file: &File, sorted: &'s [Stall]) -> Result<Sta
     Stalled::new(alloc, sorted, file.platform.apic.0.len())
 }
 
-/// The boot sequence: 27 turns of processor 0. How many entries they made: fewer where the boot is refused.
+/// So many turns of processor 0, in which it boots. How many entries they made: fewer where the boot is refused.
 fn make_boot<A: Agent, K: Sink>(
     world: &mut World<A>,
+    turns: u32,
     text: &mut Vec<u8>,
     out: &mut K,
 ) -> Result<u64, WriteStop>
-    ensures bound { IfOk result (λ made. made ≤ boot_turns) }
+    ensures bound { IfOk result (λ made. made ≤ turns) }
     ensures made { (p : Platform) (w : Shown) → Shows p world.old w
-        → IfOk result (λ made. Sends p world.new (act_all p w (boot_left boot_turns)) made (K.held out.old) (K.held out.new)) }
+        → IfOk result (λ made. Sends p world.new (act_all p w (boot_left turns)) made (K.held out.old) (K.held out.new)) }
     ensures part { (p : Platform) (w : Shown) → Shows p world.old w
-        → OnErr result (HoldsFront (K.held out.old) (K.held out.new) (lines_text (act_all p w (boot_left boot_turns)).entries)) }
+        → OnErr result (HoldsFront (K.held out.old) (K.held out.new) (lines_text (act_all p w (boot_left turns)).entries)) }
     ensures cause { StopsFor (K.faults out.old) (K.faults out.new) result }
 {
     let mut made = 0u64;
-    'turns: for turn in 0..BOOT_TURNS {
+    'turns: for turn in 0..turns {
         match make_step(world, Actor::Cpu(0), text, out) {
             Ok(count) => made += count,
             Err(stop) => return Err(stop),
@@ -356,7 +375,7 @@ fn run_turns<A: Agent, K: Sink>(
     requires tracking { IsTracking file.now 0 stalled.old }
     requires rises { Rises turn_of 0 hosts.now }
     requires same { (turn : ℕ) → at_turn turn hosts.now ≡ of_turn file.now turn }
-    requires booted { booted ≤ boot_turns }
+    requires booted { booted ≤ 29 }
     ensures all { (w : Shown) → Shows file.now.platform world.old w
         → OnOk result (Appends (K.held out.old) (K.held out.new) (turns_text booted (turns_from file.now file.now.platform.turns 0 w))) }
     ensures part { (w : Shown) → Shows file.now.platform world.old w
@@ -395,7 +414,7 @@ fn run_world<A: Agent, K: Sink>(
     if let Err(stop) = send_head(&file.platform, text, out) {
         return Err(stop);
     }
-    let booted = match make_boot(world, text, out) {
+    let booted = match make_boot(world, boot_turns(&file.platform), text, out) {
         Ok(booted) => booted,
         Err(stop) => return Err(stop),
     };

@@ -94,6 +94,9 @@ impl fmt::Display for Status {
             Status::BootRefused(BootFact::NotNegotiated(read)) => {
                 write!(f, "boot refused: features-ok read {read:02x}")
             }
+            Status::BootRefused(BootFact::NoExtTseg(read)) => {
+                write!(f, "boot refused: register 50 read {read:02x}")
+            }
             Status::WriteFault => write!(f, "write failed"),
             Status::TraceRefused(line, why) => { write!(f, "trace refused at line {line}: {why}") }
             Status::NoMemory => write!(f, "no memory"),

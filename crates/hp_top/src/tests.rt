@@ -384,6 +384,37 @@ fn a_refused_boot_ends_with_the_access_that_read_the_value(rt: HostRuntime) -> R
 }
 
 #[test]
+fn a_tseg_of_48_mib_is_refused_where_there_is_none(rt: HostRuntime) -> Result<(), Fail> {
+    let alloc = rt.alloc();
+    let file =
+        b"[platform]\napic = [0, 1]\nboot = [0]\nlow_memory = 0x8000000\ntseg_mib = 48\next_tseg = false\nfeatures = 7\npolls = 8\nturns = 72\n";
+    let (status, held) = answer_to(alloc, &["run"], file)?;
+    assert_eq!(rt; status, Status::BootRefused(BootFact::NoExtTseg(0)));
+    let head =
+        b"platform apic=0,1 boot=0 low=08000000 tseg=48 ext=false features=7 polls=8 turns=72 modern=true smram=true delivery=prompt\n";
+    let want = trace(alloc, head, 15, b"p0 cfgw 50 ff\np0 cfgr 50 = 00\n")?;
+    assert_eq!(rt; held.as_slice(), want.as_slice());
+    Ok(())
+}
+
+/// Of the turns of processor 0 one in four is its SMI's.
+#[test]
+fn an_smi_may_come_late(rt: HostRuntime) -> Result<(), Fail> {
+    let alloc = rt.alloc();
+    let file =
+        b"[platform]\napic = [0]\nboot = [0]\nlow_memory = 0x8000000\ntseg_mib = 1\nfeatures = 7\npolls = 8\nturns = 11\ndelivery = \"late\"\nlag = 3\n\n[[agent]]\ncpu = 0\nkind = \"script\"\nsteps = [\"out 1 00b2 05\", \"nop\", \"load 4 00000000\"]\n";
+    let (status, held) = answer_to(alloc, &["run"], file)?;
+    assert_eq!(rt; status, Status::Done);
+    let head =
+        b"platform apic=0 boot=0 low=08000000 tseg=1 features=7 polls=8 turns=11 modern=true smram=true delivery=late lag=3\n";
+    let text =
+        b"p0 out 1 00b2 05\np0 nop\np0 load 4 00000000 = 00000000\np0 smi\np0 @07f28000 store 1 07f04000 01\np0 @07f28008 icr 00000000 000c0200\np0 @07f28010 in 1 00b2 = 05\np0 @07f2808c store 1 07f04000 00\np0 @07f28094 rsm\np0 halt\nend 37\n";
+    let want = trace(alloc, head, 27, text)?;
+    assert_eq!(rt; held.as_slice(), want.as_slice());
+    Ok(())
+}
+
+#[test]
 fn features_without_broadcast_or_hot_plug_are_refused(rt: HostRuntime) -> Result<(), Fail> {
     for features in 0..8u64 {
         let file = format!(in rt.alloc();
@@ -479,7 +510,7 @@ fn the_edge_to_std_passes_bytes_on(rt: HostRuntime) -> Result<(), Fail> {
 #[test]
 fn each_status_has_its_text_and_its_number(rt: HostRuntime) -> Result<(), Fail> {
     use crate::Why;
-    let cases: [(Status, u8, &str); 13] = [
+    let cases: [(Status, u8, &str); 14] = [
         (Status::Done, 0, "done"),
         (
             Status::BadWords,
@@ -499,6 +530,11 @@ fn each_status_has_its_text_and_its_number(rt: HostRuntime) -> Result<(), Fail> 
             Status::BootRefused(BootFact::NoDefaultSmram(0)),
             7,
             "boot refused: register 9c read 00",
+        ),
+        (
+            Status::BootRefused(BootFact::NoExtTseg(0)),
+            7,
+            "boot refused: register 50 read 00",
         ),
         (
             Status::BootRefused(BootFact::NotNegotiated(0)),

@@ -15,32 +15,32 @@ pub returns-in-Err-make_boot-clause-part : goal.returns-in-Err-make_boot-clause-
 returns-in-Err-make_boot-clause-part g c = λ kinds shows.
     let f : File = with_voices kinds c.args.file.now in
     boot_front f _ _ _ c.in_default.ensures.all
-    (subst (λ (m : Made). HoldsFront (g.K.Sink.held c.send_head.new.out) (g.K.Sink.held c.make_boot.new.out) (lines_text m.entries)) (sym (booted-is f))
+    (subst (λ (m : Made). HoldsFront (g.K.Sink.held c.send_head.new.out) (g.K.Sink.held c.make_boot.new.out) (lines_text m.entries)) (sym (booted-is f c.boot_turns.result c.boot_turns.ensures.value))
     (c.in-Err-make_boot.ensures.part f.platform (scene_start f) shows))
 
 pub returns-in-Some-clause-fact : goal.returns-in-Some-clause-fact
 returns-in-Some-clause-fact g c = λ kinds shows.
     let f : File = with_voices kinds c.args.file.now in
-    let lines = sends_boot f _ _ _ _ (c.in-Ok.ensures.made f.platform (scene_start f) shows) in
+    let lines = sends_boot f c.boot_turns.result c.boot_turns.ensures.value _ _ _ _ (c.in-Ok.ensures.made f.platform (scene_start f) shows) in
     boot_fact-is f c.make_boot.new.world (Some c.in-Some.fact) lines.scene (λ s is. sym c.in-Some.is ∙ c.boot_fact.ensures s is)
 
 pub returns-in-Some-clause-all : goal.returns-in-Some-clause-all
 returns-in-Some-clause-all g c = λ kinds shows.
     let f : File = with_voices kinds c.args.file.now in
-    let lines = sends_boot f _ _ _ _ (c.in-Ok.ensures.made f.platform (scene_start f) shows) in
+    let lines = sends_boot f c.boot_turns.result c.boot_turns.ensures.value _ _ _ _ (c.in-Ok.ensures.made f.platform (scene_start f) shows) in
     refused_sent f _ _ _ c.in_default.ensures.all lines.lines c.in-Some.fact
     (boot_fact-is f c.make_boot.new.world (Some c.in-Some.fact) lines.scene (λ s is. sym c.in-Some.is ∙ c.boot_fact.ensures s is))
 
 pub returns-in-Ok-run_turns-clause-fact : goal.returns-in-Ok-run_turns-clause-fact
 returns-in-Ok-run_turns-clause-fact g c = λ kinds shows.
     let f : File = with_voices kinds c.args.file.now in
-    let lines = sends_boot f _ _ _ _ (c.in-Ok.ensures.made f.platform (scene_start f) shows) in
+    let lines = sends_boot f c.boot_turns.result c.boot_turns.ensures.value _ _ _ _ (c.in-Ok.ensures.made f.platform (scene_start f) shows) in
     boot_fact-is f c.make_boot.new.world None lines.scene (λ s is. sym c.in-None.is ∙ c.boot_fact.ensures s is)
 
 pub returns-in-Ok-run_turns-clause-all : goal.returns-in-Ok-run_turns-clause-all
 returns-in-Ok-run_turns-clause-all g c = λ kinds shows.
     let f : File = with_voices kinds c.args.file.now in
-    let lines = sends_boot f _ _ _ _ (c.in-Ok.ensures.made f.platform (scene_start f) shows) in
+    let lines = sends_boot f c.boot_turns.result c.boot_turns.ensures.value _ _ _ _ (c.in-Ok.ensures.made f.platform (scene_start f) shows) in
     turns_sent f _ _ _ c.in_default.ensures.all lines.lines _ _
     (boot_fact-is f c.make_boot.new.world None lines.scene (λ s is. sym c.in-None.is ∙ c.boot_fact.ensures s is))
     (turns-after kinds c.args.file.now c.in-Ok.booted lines.count)
@@ -49,7 +49,7 @@ returns-in-Ok-run_turns-clause-all g c = λ kinds shows.
 pub returns-in-Err-run_turns-clause-part : goal.returns-in-Err-run_turns-clause-part
 returns-in-Err-run_turns-clause-part g c = λ kinds shows.
     let f : File = with_voices kinds c.args.file.now in
-    let lines = sends_boot f _ _ _ _ (c.in-Ok.ensures.made f.platform (scene_start f) shows) in
+    let lines = sends_boot f c.boot_turns.result c.boot_turns.ensures.value _ _ _ _ (c.in-Ok.ensures.made f.platform (scene_start f) shows) in
     turns_front_sent f _ _ _ c.in_default.ensures.all lines.lines _ _
     (boot_fact-is f c.make_boot.new.world None lines.scene (λ s is. sym c.in-None.is ∙ c.boot_fact.ensures s is))
     (turns-after kinds c.args.file.now c.in-Ok.booted lines.count)
