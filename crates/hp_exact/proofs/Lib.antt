@@ -24,3 +24,8 @@ pub mod Truth
 pub mod Losing
 pub mod Lost
 pub mod Pending
+pub mod AddingTrail
+pub mod AddingRows
+pub mod AddingBytes
+pub mod Adding
+pub mod AddingLaw

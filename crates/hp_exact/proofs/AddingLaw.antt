@@ -1,0 +1,234 @@
+-- The laws on adds, but for where the processor is: what their outcomes show in their entries.
+use Rattle.std.proofs.Common.{ℕ, suc, ◌≡◌, ◌+◌, ◌≤◌, ◌==◌, ◌⊎◌, inl, inr, Bool, true, false, ◌&&◌, ◌||◌, not, cond, nat_le, List, [], ◌∷◌, ◌++◌, length, drop, replicate, filter, Option, Some, None, refl, sym, ap, subst, ◌∙◌, arith, if◌then◌else◌}
+use Rattle.std.specs.Str.{bytes_eq}
+use Rattle.std.proofs.lemmas.Bool.{and_from, and_parts}
+use Rattle.std.proofs.lemmas.Bool.Decides.{nat_tests}
+use Rattle.hp_model.specs.declared.platforms.Platform.{Platform}
+use Rattle.hp_model.specs.declared.outcomes.Outcome.{Outcome}
+use Rattle.hp_model.specs.declared.outcomes.Outcome.TheVariants as outcome
+use Rattle.hp_model.specs.declared.outcomes.Refusal.{Refusal}
+use Rattle.hp_model.specs.declared.outcomes.Refusal.TheVariants.{Foreign, Disabled, Both, AlreadyKnown, GateHeld, NoUnplug, NotKnown, NotArrived, NotAtGate, NotCheckedIn, NotParked, StillPending}
+use Rattle.hp_model.specs.declared.entries.Entry.{Entry}
+use Rattle.hp_model.specs.declared.labels.Label.TheVariants.{N7, N8a, N8b, N10, N11, T}
+use Rattle.hp_model.specs.Platform.{IsFit, counts_fit, ids_fit, boot_fits, memory_fits, tseg_fits, tiles_fit, features_fit, polls_fit}
+use Rattle.hp_model.specs.Block.{is_in}
+use Rattle.hp_model.specs.SharedBytes.{layout_of}
+use Rattle.hp_model.specs.Slots.{place_of}
+use Rattle.hp_model.specs.Add.{Add}
+use Rattle.hp_model.specs.Monarch.{Monarch}
+use Rattle.hp_model.specs.Step.{State, start, same_outcome}
+use Rattle.hp_model.specs.Runs.{run_on}
+use Rattle.hp_model.specs.Events.{outcome_in}
+use Rattle.hp_model.specs.Transitions.{Transition, transitions, entries_of, since, older_than}
+use Rattle.hp_model.specs.Account.{is_at, bound, with_bound}
+use Rattle.hp_model.specs.Outcomes.{Telling, telling, when_told, each_told, opens, values_at, reads_zeros, was_seen, was_let_in, has_slot, has_three_attempts, is_not_at_gate, is_not_checked_in, own_of}
+use Rattle.hp_model.proofs.AtEach.{made as step_made, each_passes}
+use Rattle.hp_sealed.specs.Left.{Sound}
+use Rattle.hp_sealed.specs.Sealed.{IsSealed}
+use Rattle.hp_sealed.specs.Booting.{IsBooted}
+use Rattle.hp_sealed.proofs.Same.{same_outcome-is}
+use Rattle.hp_sealed.proofs.Starts.{sound, starts}
+use Rattle.hp_sealed.proofs.Goes.{boot_goes, refused_goes}
+use Rattle.hp_sealed.proofs.HandOver.{IsBefore}
+use Rattle.hp_sealed.proofs.Runs.{Made, made}
+use Rattle.hp_safety.proofs.Events.{keeps}
+use Rattle.hp_safety.proofs.Runs.{IsHanded, rebase}
+use Rattle.hp_safety.proofs.Named.{Accounted, accounted_on}
+use Rattle.hp_safety.proofs.Ties.{session_of, TiedAt, tie_of}
+use Rattle.hp_safety.proofs.Held.{Knows, knows_first, knows_on, boot_event}
+use Rattle.hp_exact.specs.Adds.{refusals_in, shows_looks, entry_in, shows_entry, slot_in, shows_slot}
+use Rattle.hp_exact.proofs.Stood.{stood}
+use Rattle.hp_exact.proofs.Stepping.{AtMonarch, Kinds, by_kind}
+use Rattle.hp_exact.proofs.AddingTrail.{own, before, trail_of, own_entries, own_size}
+use Rattle.hp_exact.proofs.AddingRows.{Adds', Unseen, Unarrived, Told, ToldNot, AddAt}
+use Rattle.hp_exact.proofs.Adding.{Shown, shown_on}
+
+-- lists are equal to themselves
+itself : (n : ℕ) → (n == n) ≡ true
+itself n = grind (arith, nat_tests)
+
+eq_itself : (xs : List ℕ) → bytes_eq xs xs ≡ true
+eq_itself [] = refl
+eq_itself (x ∷ xs) = let i = itself x in rw i (eq_itself xs)
+
+-- places in lists
+in_end : (ids : List ℕ) (a : ℕ) → is_in a (ids ++ a ∷ []) ≡ true
+in_end [] a = let i = itself a in rw i refl
+in_end (x ∷ xs) a = by_head (x == a) (in_end xs a)
+  where
+    by_head : (c : Bool) → is_in a (xs ++ a ∷ []) ≡ true → (c || is_in a (xs ++ a ∷ [])) ≡ true
+    by_head true e = refl
+    by_head false e = e
+
+place_last : (ids : List ℕ) (a : ℕ) → is_in a ids ≡ false → place_of (ids ++ a ∷ []) a ≡ length ids
+place_last [] a e = let i = itself a in rw i refl
+place_last (x ∷ xs) a e = by_head (x == a) e (λ f. place_last xs a f)
+  where
+    by_head : (c : Bool) → (c || is_in a xs) ≡ false → (is_in a xs ≡ false → place_of (xs ++ a ∷ []) a ≡ length xs) → (if c then 0 else place_of (xs ++ a ∷ []) a + 1) ≡ suc (length xs)
+    by_head true f more = absurd cc
+    by_head false f more = let i = more f in omega (arith, i)
+
+has_its_slot : (old now : List ℕ) (apic slot : ℕ) → now ≡ with_bound (Some apic) old → slot ≡ place_of now apic → has_slot old now apic slot ≡ true
+has_its_slot old now apic slot grown is = by_place (is_in apic old) refl grown
+  where
+    by_place : (b : Bool) → is_in apic old ≡ b → now ≡ (if b then old else old ++ apic ∷ []) → has_slot old now apic slot ≡ true
+    by_place true f g = let same : place_of now apic ≡ slot = sym is in let i = itself slot in rw (same, i, g, f) refl
+    by_place false f g =
+        let last = place_last old apic f in
+        let same : slot ≡ length old = is ∙ (ap (λ ids. place_of ids apic) g ∙ last) in
+        let i = itself (length old) in
+        rw (g, last, same, i, f, in_end old apic) refl
+
+passed : (b : Bool) (n : ℕ) (rest : Option ℕ) → cond (not b) (Some n) rest ≡ None → (b ≡ true) × (rest ≡ None)
+passed true n rest e = (refl, e)
+passed false n rest e = absurd cc
+
+-- at least one look
+pub polled : (p : Platform) → IsFit p → 1 ≤ p.polls
+polled p e =
+    let a = passed (counts_fit p) 2 _ e in
+    let b = passed (ids_fit p) 3 _ a.1 in
+    let c = passed (boot_fits p) 4 _ b.1 in
+    let d = passed (memory_fits p) 5 _ c.1 in
+    let f = passed (tseg_fits p) 6 _ d.1 in
+    let g = passed (tiles_fit p) 7 _ f.1 in
+    let k = passed (features_fit p) 8 _ g.1 in
+    let l = passed (polls_fit p) 9 _ k.1 in
+    plain p.polls (and_parts (nat_le 1 p.polls) (nat_le p.polls 4096) l.0).0
+  where
+    plain : (n : ℕ) → nat_le 1 n ≡ true → 1 ≤ n
+    plain n e = grind (arith, nat_tests)
+
+-- what is kept of each state
+abbrev pub Follows : Platform → List Transition → State → Type 0
+Follows p past s = Knows p past s × (IsBefore p s ⊎ (IsHanded p s × Accounted p past s × Shown p (entries_of past) s.writes s.monarch))
+
+module _ (p : Platform) (fits : IsFit p) where
+  fit : Sound p
+  fit = sound p fits
+
+  pub follows_first : Follows p [] (start p)
+  follows_first = (knows_first p fits, inl (inl (starts p fits)))
+
+  pub follows_on : (past : List Transition) (s t : State) (e : Entry) → Follows p past s → run_on p s e ≡ Some t → Follows p (step_made s e t ∷ past) t
+  follows_on past s t e h on = by_kind_of h.1 (knows_on p fits past s t e h.0 on)
+    where
+      m : Made p s e t
+      m = made p s e t on
+
+      sealed : (u : State) → Knows p (step_made s e u ∷ past) u → IsBooted p u → Follows p (step_made s e u ∷ past) u
+      sealed u all (inl b) = (all, inl (inl b))
+      sealed u all (inr (inl b)) = (all, inl (inr b))
+      sealed u (inl k) (inr (inr z)) = (inl k, inl k.0)
+      sealed u (inr k) (inr (inr z)) = (inr k, inr (k.0, k.1, subst (λ r. Shown p (e ∷ entries_of past) u.writes r) (sym z.cpus.begun) tt))
+
+      by_kind_of : IsBefore p s ⊎ (IsHanded p s × Accounted p past s × Shown p (entries_of past) s.writes s.monarch) → Knows p (step_made s e t ∷ past) t → Follows p (step_made s e t ∷ past) t
+      by_kind_of (inl (inl b)) all = subst (λ u. Knows p (step_made s e u ∷ past) u → Follows p (step_made s e u ∷ past) u) m.state (λ k. sealed m.after.state k (boot_goes p s e.event m.after fit b m.step).0) all
+      by_kind_of (inl (inr b)) all = absurd (refused_goes p s e.event m.after b m.step)
+      by_kind_of (inr k) all = (
+        all,
+        inr (
+          subst (IsHanded p) m.state (rebase p s.writes m.after.state fit (keeps p s.writes s e.event m.after fit k.0 m.step)),
+          accounted_on p past s t e fit k.0 on k.1,
+          shown_on p fit (polled p fits) past s (stood p s fit k.0) k.0 k.1 k.2 e t on,
+        ),
+      )
+
+  -- what is told at T
+  module _ (past : List Transition) (s : State) (handed : IsHanded p s) (acc : Accounted p past s) (h : Shown p (entries_of past) s.writes s.monarch) (test : Telling → Bool)
+      (passes : Told p.polls (trail_of p s.monarch.add.apic (own p (entries_of past))) (bound p (before p (entries_of past))) (bound p (entries_of past)) s.monarch.add s.monarch.outcome → test (telling p past s s.monarch.outcome) ≡ true) where
+    abbrev Test : Entry → State → Type 0
+    Test e t = when_told p test past s (outcome_in e.event) ≡ true
+
+    says : (o : Outcome) → AtMonarch p s T → same_outcome o s.monarch.outcome ≡ true → test (telling p past s o) ≡ true
+    says o here same =
+        let tied : TiedAt (bound p (entries_of past)) (session_of p (entries_of past)) s.monarch (tie_of T) = subst (λ m. TiedAt (bound p (entries_of past)) (session_of p (entries_of past)) s.monarch (tie_of m)) here.label acc.tied in
+        let told : AddAt (layout_of p) (trail_of p s.monarch.add.apic (own p (entries_of past))) (bound p (before p (entries_of past))) s.writes s.monarch T = subst (AddAt (layout_of p) (trail_of p s.monarch.add.apic (own p (entries_of past))) (bound p (before p (entries_of past))) s.writes s.monarch) here.label h in
+        subst (λ x. test (telling p past s x) ≡ true) (sym (same_outcome-is o s.monarch.outcome same))
+        (passes (subst (λ ids. Told p.polls (trail_of p s.monarch.add.apic (own p (entries_of past))) (bound p (before p (entries_of past))) ids s.monarch.add s.monarch.outcome) tied.0 told))
+
+    kinds : Kinds p s Test
+    kinds = record {
+      inserts = λ k g less gone. refl;
+      removes = λ k g. refl;
+      outside = λ k a g free out. refl;
+      monarchs = λ l a g here wants. refl;
+      others = λ k l a g here wants. refl;
+      enters = λ k g may. refl;
+      inits = λ k g may. refl;
+      rests = λ g here. refl;
+      returns = λ k l g here where_is. refl;
+      tells = λ o g here same. says o here same;
+    }
+
+    pub told_passes : (e : Entry) (t : State) → run_on p s e ≡ Some t → when_told p test past s (outcome_in e.event) ≡ true
+    told_passes e t is = by_kind p s Test (stood p s fit handed) kinds e t is
+
+  -- nothing is told before the hand-over
+  pub silent : (test : Telling → Bool) (past : List Transition) (s t : State) (e : Entry) → IsBefore p s → run_on p s e ≡ Some t → when_told p test past s (outcome_in e.event) ≡ true
+  silent test past s t e (inl b) on = let m = made p s e t on in let none = ap outcome_in (boot_event p s e.event m.after b m.step) in rw none refl
+  silent test past s t e (inr b) on = absurd (let m = made p s e t on in refused_goes p s e.event m.after b m.step)
+
+  -- a test that what is told at T passes
+  law_by : (test : Telling → Bool) → ((past : List Transition) (s : State) → Told p.polls (trail_of p s.monarch.add.apic (own p (entries_of past))) (bound p (before p (entries_of past))) (bound p (entries_of past)) s.monarch.add s.monarch.outcome → test (telling p past s s.monarch.outcome) ≡ true)
+      → (es : List Entry) → each_told p test (transitions p es) ≡ true
+  law_by test passes es =
+      each_passes p (Follows p) follows_on (λ older x. when_told p test older x.before (outcome_in x.entry.event)) (λ past s t e h on. by_case past s t e h.1 on) follows_first es
+    where
+      by_case : (past : List Transition) (s t : State) (e : Entry) → IsBefore p s ⊎ (IsHanded p s × Accounted p past s × Shown p (entries_of past) s.writes s.monarch) → run_on p s e ≡ Some t → when_told p test past s (outcome_in e.event) ≡ true
+      by_case past s t e (inl b) on = silent test past s t e b on
+      by_case past s t e (inr k) on = told_passes past s k.0 k.1 k.2 test (passes past s) e t on
+
+-- each part
+module _ (p : Platform) (past : List Transition) (s : State) where
+  abbrev Now : Outcome → Type 0
+  Now o = Told p.polls (trail_of p s.monarch.add.apic (own p (entries_of past))) (bound p (before p (entries_of past))) (bound p (entries_of past)) s.monarch.add o
+
+  abbrev NowNot : Refusal → Type 0
+  NowNot why = ToldNot p.polls (trail_of p s.monarch.add.apic (own p (entries_of past))) s.monarch.add why
+
+  abbrev mine : List Entry
+  mine = own p (entries_of past)
+
+  pub let_in : (o : Outcome) → Now o → entry_in p (telling p past s o) o ≡ true
+  let_in (outcome.Added cpu apic slot) h =
+      rw (own_entries p past, h.same_apic) (and_from _ _ h.arrived h.entered)
+  let_in (outcome.Ejected cpu apic slot) h = refl
+  let_in (outcome.Refused why) h = refl
+
+  pub has_place : (o : Outcome) → Now o → slot_in p (telling p past s o) o ≡ true
+  has_place (outcome.Added cpu apic slot) h =
+      rw (own_size p past, h.same_apic, h.same_slot) (has_its_slot (bound p (before p (entries_of past))) (bound p (entries_of past)) s.monarch.add.apic s.monarch.add.slot h.grown h.is_place)
+  has_place (outcome.Ejected cpu apic slot) h = refl
+  has_place (outcome.Refused why) h = refl
+
+  at_gate : (apic : ℕ) → NowNot (NotAtGate 0 apic) → is_not_at_gate p apic mine ≡ true
+  at_gate apic h = rw (h.same_apic, h.three, h.flags, h.pairs, eq_itself (replicate p.polls 0)) refl
+
+  checked_in : (apic : ℕ) → NowNot (NotCheckedIn 0 apic) → is_not_checked_in p apic mine ≡ true
+  checked_in apic h = rw (h.same_apic, h.three, h.seen, h.arrivals, eq_itself (replicate p.polls 0)) refl
+
+  pub looked : (o : Outcome) → Now o → refusals_in p (telling p past s o) o ≡ true
+  looked (outcome.Added cpu apic slot) h = refl
+  looked (outcome.Ejected cpu apic slot) h = refl
+  looked (outcome.Refused (Disabled cpu status)) h = refl
+  looked (outcome.Refused (Both cpu status)) h = refl
+  looked (outcome.Refused (AlreadyKnown cpu apic slot)) h = refl
+  looked (outcome.Refused (GateHeld cpu apic other)) h = refl
+  looked (outcome.Refused (NotAtGate cpu apic)) h = ap (is_not_at_gate p apic) (own_entries p past) ∙ at_gate apic h
+  looked (outcome.Refused (NotCheckedIn cpu apic)) h = ap (is_not_checked_in p apic) (own_entries p past) ∙ checked_in apic h
+  looked (outcome.Refused (NoUnplug cpu features)) h = refl
+  looked (outcome.Refused (NotKnown cpu apic)) h = refl
+  looked (outcome.Refused (NotArrived cpu apic)) h = refl
+  looked (outcome.Refused (NotParked cpu apic)) h = refl
+  looked (outcome.Refused (Foreign cpu apic)) h = refl
+  looked (outcome.Refused (StillPending cpu status)) h = refl
+
+pub looks_law : (p : Platform) (es : List Entry) → IsFit p → each_told p (shows_looks p) (transitions p es) ≡ true
+looks_law p es fits = law_by p fits (shows_looks p) (λ past s. looked p past s s.monarch.outcome) es
+
+pub entry_law : (p : Platform) (es : List Entry) → IsFit p → each_told p (shows_entry p) (transitions p es) ≡ true
+entry_law p es fits = law_by p fits (shows_entry p) (λ past s. let_in p past s s.monarch.outcome) es
+
+pub slot_law : (p : Platform) (es : List Entry) → IsFit p → each_told p (shows_slot p) (transitions p es) ≡ true
+slot_law p es fits = law_by p fits (shows_slot p) (λ past s. has_place p past s s.monarch.outcome) es
