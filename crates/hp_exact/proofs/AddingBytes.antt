@@ -148,16 +148,19 @@ pub bits_row : (p : Platform) (s : State) (k : ℕ) (q : Seat) (l : Label) (a : 
 bits_row p s k q l a x sound wants here = subst (Bytes p k s x) wants (row_bytes p k s q s.monarch x l sound here)
 
 -- an access from outside SMM
-pub bits_outside : (p : Platform) (s : State) (k : ℕ) (a : Access) (x : ℕ) → Sound p → Locked p s.locks → IsShared p x → Keeps x s.writes (access_effect p k false a s).writes
-bits_outside p s k a x sound locks (inl e) = inl ((left_acted p k a s x (default_locked p s.locks x locks (rw e refl))).byte)
-bits_outside p s k a x sound locks (inr e) = inl ((left_acted p k a s x (tseg_locked p s.locks x sound locks (inside (tseg p) p.low_memory (0x100000 * p.tseg_mib) x (0x10000 * count_of p) sound.top sound.room e.0 e.1))).byte)
+pub same_outside : (p : Platform) (s : State) (k : ℕ) (a : Access) (x : ℕ) → Sound p → Locked p s.locks → IsShared p x → byte_at (access_effect p k false a s).writes x ≡ byte_at s.writes x
+same_outside p s k a x sound locks (inl e) = (left_acted p k a s x (default_locked p s.locks x locks (rw e refl))).byte
+same_outside p s k a x sound locks (inr e) = (left_acted p k a s x (tseg_locked p s.locks x sound locks (inside (tseg p) p.low_memory (0x100000 * p.tseg_mib) x (0x10000 * count_of p) sound.top sound.room e.0 e.1))).byte
   where
     inside : (base top size x n : ℕ) → top ≡ base + size → n + 0x20000 ≤ size → base ≤ x → x < base + 0x5000 → (nat_le base x && nat_lt x top) ≡ true
     inside base top size x n is room from to = grind (arith, nat_tests)
 
+pub bits_outside : (p : Platform) (s : State) (k : ℕ) (a : Access) (x : ℕ) → Sound p → Locked p s.locks → IsShared p x → Keeps x s.writes (access_effect p k false a s).writes
+bits_outside p s k a x sound locks here = inl (same_outside p s k a x sound locks here)
+
 -- SMI entry
-pub bits_enters : (p : Platform) (s : State) (k : ℕ) (x : ℕ) → Sound p → IsStood p s → (at s k).present ≡ true → IsShared p x → Keeps x s.writes (enter_smm k s).writes
-bits_enters p s k x sound stood present here = inl ((left_saved s.locks (at s k) s.writes x base.unit base.whole (below here)).byte)
+pub same_enters : (p : Platform) (s : State) (k : ℕ) (x : ℕ) → Sound p → IsStood p s → (at s k).present ≡ true → IsShared p x → byte_at (enter_smm k s).writes x ≡ byte_at s.writes x
+same_enters p s k x sound stood present here = (left_saved s.locks (at s k) s.writes x base.unit base.whole (below here)).byte
   where
     base : Base p (at s k).smbase
     base = base_based p k (at s k).smbase sound (stood.based k present)
@@ -168,3 +171,6 @@ bits_enters p s k x sound stood present here = inl ((left_saved s.locks (at s k)
     below : IsShared p x → x % 0x10000 < 0xfefc
     below (inl e) = rw e (omega arith)
     below (inr e) = plain (tseg p) sound.unit x sound.whole e.0 e.1
+
+pub bits_enters : (p : Platform) (s : State) (k : ℕ) (x : ℕ) → Sound p → IsStood p s → (at s k).present ≡ true → IsShared p x → Keeps x s.writes (enter_smm k s).writes
+bits_enters p s k x sound stood present here = inl (same_enters p s k x sound stood present here)

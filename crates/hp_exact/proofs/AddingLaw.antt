@@ -1,7 +1,7 @@
--- The laws on adds, but for where the processor is: what their outcomes show in their entries.
+-- The laws on adds: what their outcomes show in their entries, and where an added processor is.
 use Rattle.std.proofs.Common.{ℕ, suc, ◌≡◌, ◌+◌, ◌≤◌, ◌==◌, ◌⊎◌, inl, inr, Bool, true, false, ◌&&◌, ◌||◌, not, cond, nat_le, List, [], ◌∷◌, ◌++◌, length, drop, replicate, filter, Option, Some, None, refl, sym, ap, subst, ◌∙◌, arith, if◌then◌else◌}
 use Rattle.std.specs.Str.{bytes_eq}
-use Rattle.std.proofs.lemmas.Bool.{and_from, and_parts}
+use Rattle.std.proofs.lemmas.Bool.{and_from, and_parts, or_right}
 use Rattle.std.proofs.lemmas.Bool.Decides.{nat_tests}
 use Rattle.hp_model.specs.declared.platforms.Platform.{Platform}
 use Rattle.hp_model.specs.declared.outcomes.Outcome.{Outcome}
@@ -10,18 +10,19 @@ use Rattle.hp_model.specs.declared.outcomes.Refusal.{Refusal}
 use Rattle.hp_model.specs.declared.outcomes.Refusal.TheVariants.{Foreign, Disabled, Both, AlreadyKnown, GateHeld, NoUnplug, NotKnown, NotArrived, NotAtGate, NotCheckedIn, NotParked, StillPending}
 use Rattle.hp_model.specs.declared.entries.Entry.{Entry}
 use Rattle.hp_model.specs.declared.labels.Label.TheVariants.{N7, N8a, N8b, N10, N11, T}
-use Rattle.hp_model.specs.Platform.{IsFit, counts_fit, ids_fit, boot_fits, memory_fits, tseg_fits, tiles_fit, features_fit, polls_fit}
+use Rattle.hp_model.specs.Platform.{IsFit, counts_fit, ids_fit, boot_fits, memory_fits, tseg_fits, tiles_fit, features_fit, polls_fit, tile}
 use Rattle.hp_model.specs.Block.{is_in}
 use Rattle.hp_model.specs.SharedBytes.{layout_of}
 use Rattle.hp_model.specs.Slots.{place_of}
 use Rattle.hp_model.specs.Add.{Add}
 use Rattle.hp_model.specs.Monarch.{Monarch}
-use Rattle.hp_model.specs.Step.{State, start, same_outcome}
+use Rattle.hp_model.specs.Step.{State, at, start, same_outcome}
+use Rattle.hp_model.specs.Sessions.{is_disturbed}
 use Rattle.hp_model.specs.Runs.{run_on}
 use Rattle.hp_model.specs.Events.{outcome_in}
 use Rattle.hp_model.specs.Transitions.{Transition, transitions, entries_of, since, older_than}
 use Rattle.hp_model.specs.Account.{is_at, bound, with_bound}
-use Rattle.hp_model.specs.Outcomes.{Telling, telling, when_told, each_told, opens, values_at, reads_zeros, was_seen, was_let_in, has_slot, has_three_attempts, is_not_at_gate, is_not_checked_in, own_of}
+use Rattle.hp_model.specs.Outcomes.{Telling, telling, when_told, each_told, opens, values_at, reads_zeros, was_seen, was_let_in, has_slot, has_three_attempts, is_not_at_gate, is_not_checked_in, own_of, is_at_tile}
 use Rattle.hp_model.proofs.AtEach.{made as step_made, each_passes}
 use Rattle.hp_sealed.specs.Left.{Sound}
 use Rattle.hp_sealed.specs.Sealed.{IsSealed}
@@ -36,7 +37,11 @@ use Rattle.hp_safety.proofs.Runs.{IsHanded, rebase}
 use Rattle.hp_safety.proofs.Named.{Accounted, accounted_on}
 use Rattle.hp_safety.proofs.Ties.{session_of, TiedAt, tie_of}
 use Rattle.hp_safety.proofs.Held.{Knows, knows_first, knows_on, boot_event}
-use Rattle.hp_exact.specs.Adds.{refusals_in, shows_looks, entry_in, shows_entry, slot_in, shows_slot}
+use Rattle.hp_exact.specs.Adds.{refusals_in, shows_looks, entry_in, shows_entry, slot_in, shows_slot, presence_in, shows_presence, add_in, shows_add}
+use Rattle.hp_exact.proofs.Naming.{ids_of}
+use Rattle.hp_exact.proofs.Invariant.{Invariant}
+use Rattle.hp_exact.proofs.Beginning.{Whole, whole_begins, whole_goes}
+use Rattle.hp_exact.proofs.AddingHome.{IsHome}
 use Rattle.hp_exact.proofs.Stood.{stood}
 use Rattle.hp_exact.proofs.Stepping.{AtMonarch, Kinds, by_kind}
 use Rattle.hp_exact.proofs.AddingTrail.{own, before, trail_of, own_entries, own_size}
@@ -101,51 +106,51 @@ polled p e =
 
 -- what is kept of each state
 abbrev pub Follows : Platform → List Transition → State → Type 0
-Follows p past s = Knows p past s × (IsBefore p s ⊎ (IsHanded p s × Accounted p past s × Shown p (entries_of past) s.writes s.monarch))
+Follows p past s = Whole p past s × Knows p past s × (IsBefore p s ⊎ (IsHanded p s × Accounted p past s × Shown p (entries_of past) s.writes (IsHome p s) s.monarch))
 
 module _ (p : Platform) (fits : IsFit p) where
   fit : Sound p
   fit = sound p fits
 
   pub follows_first : Follows p [] (start p)
-  follows_first = (knows_first p fits, inl (inl (starts p fits)))
+  follows_first = (whole_begins p fits, knows_first p fits, inl (inl (starts p fits)))
 
   pub follows_on : (past : List Transition) (s t : State) (e : Entry) → Follows p past s → run_on p s e ≡ Some t → Follows p (step_made s e t ∷ past) t
-  follows_on past s t e h on = by_kind_of h.1 (knows_on p fits past s t e h.0 on)
+  follows_on past s t e h on = (whole_goes p fit (ids_of p fits) past s t e h.0 on, knows_on p fits past s t e h.1 on, by_case h.2 (knows_on p fits past s t e h.1 on))
     where
       m : Made p s e t
       m = made p s e t on
 
-      sealed : (u : State) → Knows p (step_made s e u ∷ past) u → IsBooted p u → Follows p (step_made s e u ∷ past) u
-      sealed u all (inl b) = (all, inl (inl b))
-      sealed u all (inr (inl b)) = (all, inl (inr b))
-      sealed u (inl k) (inr (inr z)) = (inl k, inl k.0)
-      sealed u (inr k) (inr (inr z)) = (inr k, inr (k.0, k.1, subst (λ r. Shown p (e ∷ entries_of past) u.writes r) (sym z.cpus.begun) tt))
+      After : State → Type 0
+      After u = IsBefore p u ⊎ (IsHanded p u × Accounted p (step_made s e u ∷ past) u × Shown p (e ∷ entries_of past) u.writes (IsHome p u) u.monarch)
 
-      by_kind_of : IsBefore p s ⊎ (IsHanded p s × Accounted p past s × Shown p (entries_of past) s.writes s.monarch) → Knows p (step_made s e t ∷ past) t → Follows p (step_made s e t ∷ past) t
-      by_kind_of (inl (inl b)) all = subst (λ u. Knows p (step_made s e u ∷ past) u → Follows p (step_made s e u ∷ past) u) m.state (λ k. sealed m.after.state k (boot_goes p s e.event m.after fit b m.step).0) all
-      by_kind_of (inl (inr b)) all = absurd (refused_goes p s e.event m.after b m.step)
-      by_kind_of (inr k) all = (
-        all,
-        inr (
-          subst (IsHanded p) m.state (rebase p s.writes m.after.state fit (keeps p s.writes s e.event m.after fit k.0 m.step)),
-          accounted_on p past s t e fit k.0 on k.1,
-          shown_on p fit (polled p fits) past s (stood p s fit k.0) k.0 k.1 k.2 e t on,
-        ),
+      sealed : (u : State) → Knows p (step_made s e u ∷ past) u → IsBooted p u → After u
+      sealed u all (inl b) = inl (inl b)
+      sealed u all (inr (inl b)) = inl (inr b)
+      sealed u (inl k) (inr (inr z)) = inl k.0
+      sealed u (inr k) (inr (inr z)) = inr (k.0, k.1, subst (λ r. Shown p (e ∷ entries_of past) u.writes (IsHome p u) r) (sym z.cpus.begun) tt)
+
+      by_case : IsBefore p s ⊎ (IsHanded p s × Accounted p past s × Shown p (entries_of past) s.writes (IsHome p s) s.monarch) → Knows p (step_made s e t ∷ past) t → After t
+      by_case (inl (inl b)) all = subst (λ u. Knows p (step_made s e u ∷ past) u → After u) m.state (λ k. sealed m.after.state k (boot_goes p s e.event m.after fit b m.step).0) all
+      by_case (inl (inr b)) all = absurd (refused_goes p s e.event m.after b m.step)
+      by_case (inr k) all = inr (
+        subst (IsHanded p) m.state (rebase p s.writes m.after.state fit (keeps p s.writes s e.event m.after fit k.0 m.step)),
+        accounted_on p past s t e fit k.0 on k.1,
+        shown_on p fit (polled p fits) past s (stood p s fit k.0) k.0 k.1 (h.0.handed k.0.handed) k.2 (ids_of p fits) e t on,
       )
 
   -- what is told at T
-  module _ (past : List Transition) (s : State) (handed : IsHanded p s) (acc : Accounted p past s) (h : Shown p (entries_of past) s.writes s.monarch) (test : Telling → Bool)
-      (passes : Told p.polls (trail_of p s.monarch.add.apic (own p (entries_of past))) (bound p (before p (entries_of past))) (bound p (entries_of past)) s.monarch.add s.monarch.outcome → test (telling p past s s.monarch.outcome) ≡ true) where
+  module _ (past : List Transition) (s : State) (handed : IsHanded p s) (acc : Accounted p past s) (inv : Invariant p past s) (h : Shown p (entries_of past) s.writes (IsHome p s) s.monarch) (test : Telling → Bool)
+      (passes : Told p.polls (trail_of p s.monarch.add.apic (own p (entries_of past))) (bound p (before p (entries_of past))) (bound p (entries_of past)) (IsHome p s) s.monarch.add s.monarch.outcome → is_disturbed p (entries_of past) ≡ s.disturbed → test (telling p past s s.monarch.outcome) ≡ true) where
     abbrev Test : Entry → State → Type 0
     Test e t = when_told p test past s (outcome_in e.event) ≡ true
 
     says : (o : Outcome) → AtMonarch p s T → same_outcome o s.monarch.outcome ≡ true → test (telling p past s o) ≡ true
     says o here same =
         let tied : TiedAt (bound p (entries_of past)) (session_of p (entries_of past)) s.monarch (tie_of T) = subst (λ m. TiedAt (bound p (entries_of past)) (session_of p (entries_of past)) s.monarch (tie_of m)) here.label acc.tied in
-        let told : AddAt (layout_of p) (trail_of p s.monarch.add.apic (own p (entries_of past))) (bound p (before p (entries_of past))) s.writes s.monarch T = subst (AddAt (layout_of p) (trail_of p s.monarch.add.apic (own p (entries_of past))) (bound p (before p (entries_of past))) s.writes s.monarch) here.label h in
+        let told : AddAt (layout_of p) (trail_of p s.monarch.add.apic (own p (entries_of past))) (bound p (before p (entries_of past))) s.writes (IsHome p s) s.monarch T = subst (AddAt (layout_of p) (trail_of p s.monarch.add.apic (own p (entries_of past))) (bound p (before p (entries_of past))) s.writes (IsHome p s) s.monarch) here.label h in
         subst (λ x. test (telling p past s x) ≡ true) (sym (same_outcome-is o s.monarch.outcome same))
-        (passes (subst (λ ids. Told p.polls (trail_of p s.monarch.add.apic (own p (entries_of past))) (bound p (before p (entries_of past))) ids s.monarch.add s.monarch.outcome) tied.0 told))
+        (passes (subst (λ ids. Told p.polls (trail_of p s.monarch.add.apic (own p (entries_of past))) (bound p (before p (entries_of past))) ids (IsHome p s) s.monarch.add s.monarch.outcome) tied.0 told) (inv.tied.called (let label = here.label in rw label refl)).2)
 
     kinds : Kinds p s Test
     kinds = record {
@@ -170,19 +175,19 @@ module _ (p : Platform) (fits : IsFit p) where
   silent test past s t e (inr b) on = absurd (let m = made p s e t on in refused_goes p s e.event m.after b m.step)
 
   -- a test that what is told at T passes
-  law_by : (test : Telling → Bool) → ((past : List Transition) (s : State) → Told p.polls (trail_of p s.monarch.add.apic (own p (entries_of past))) (bound p (before p (entries_of past))) (bound p (entries_of past)) s.monarch.add s.monarch.outcome → test (telling p past s s.monarch.outcome) ≡ true)
+  law_by : (test : Telling → Bool) → ((past : List Transition) (s : State) → Told p.polls (trail_of p s.monarch.add.apic (own p (entries_of past))) (bound p (before p (entries_of past))) (bound p (entries_of past)) (IsHome p s) s.monarch.add s.monarch.outcome → is_disturbed p (entries_of past) ≡ s.disturbed → test (telling p past s s.monarch.outcome) ≡ true)
       → (es : List Entry) → each_told p test (transitions p es) ≡ true
   law_by test passes es =
-      each_passes p (Follows p) follows_on (λ older x. when_told p test older x.before (outcome_in x.entry.event)) (λ past s t e h on. by_case past s t e h.1 on) follows_first es
+      each_passes p (Follows p) follows_on (λ older x. when_told p test older x.before (outcome_in x.entry.event)) (λ past s t e h on. by_case past s t e h.0 h.2 on) follows_first es
     where
-      by_case : (past : List Transition) (s t : State) (e : Entry) → IsBefore p s ⊎ (IsHanded p s × Accounted p past s × Shown p (entries_of past) s.writes s.monarch) → run_on p s e ≡ Some t → when_told p test past s (outcome_in e.event) ≡ true
-      by_case past s t e (inl b) on = silent test past s t e b on
-      by_case past s t e (inr k) on = told_passes past s k.0 k.1 k.2 test (passes past s) e t on
+      by_case : (past : List Transition) (s t : State) (e : Entry) → Whole p past s → IsBefore p s ⊎ (IsHanded p s × Accounted p past s × Shown p (entries_of past) s.writes (IsHome p s) s.monarch) → run_on p s e ≡ Some t → when_told p test past s (outcome_in e.event) ≡ true
+      by_case past s t e whole (inl b) on = silent test past s t e b on
+      by_case past s t e whole (inr k) on = told_passes past s k.0 k.1 (whole.handed k.0.handed) k.2 test (passes past s) e t on
 
 -- each part
 module _ (p : Platform) (past : List Transition) (s : State) where
   abbrev Now : Outcome → Type 0
-  Now o = Told p.polls (trail_of p s.monarch.add.apic (own p (entries_of past))) (bound p (before p (entries_of past))) (bound p (entries_of past)) s.monarch.add o
+  Now o = Told p.polls (trail_of p s.monarch.add.apic (own p (entries_of past))) (bound p (before p (entries_of past))) (bound p (entries_of past)) (IsHome p s) s.monarch.add o
 
   abbrev NowNot : Refusal → Type 0
   NowNot why = ToldNot p.polls (trail_of p s.monarch.add.apic (own p (entries_of past))) s.monarch.add why
@@ -224,11 +229,43 @@ module _ (p : Platform) (past : List Transition) (s : State) where
   looked (outcome.Refused (Foreign cpu apic)) h = refl
   looked (outcome.Refused (StillPending cpu status)) h = refl
 
+-- presence
+module _ (p : Platform) (past : List Transition) (s : State) (flag : is_disturbed p (entries_of past) ≡ s.disturbed) where
+  at_home : (cpu slot : ℕ) → IsHome p s cpu slot → (is_disturbed p (entries_of past) || is_at_tile p slot (at s cpu)) ≡ true
+  at_home cpu slot home = by_flag s.disturbed refl
+    where
+      by_flag : (b : Bool) → s.disturbed ≡ b → (is_disturbed p (entries_of past) || is_at_tile p slot (at s cpu)) ≡ true
+      by_flag true is = let f = flag ∙ is in rw f refl
+      by_flag false is =
+          let there = home is in
+          let present = there.0 in
+          let place = there.1 in
+          let i = itself (tile p slot) in
+          or_right (is_disturbed p (entries_of past)) (is_at_tile p slot (at s cpu)) (rw (present, place, i) refl)
+
+  pub is_present : (o : Outcome) → Now p past s o → presence_in p (telling p past s o) o ≡ true
+  is_present (outcome.Added cpu apic slot) h = at_home cpu slot h.there
+  is_present (outcome.Ejected cpu apic slot) h = refl
+  is_present (outcome.Refused why) h = refl
+
+  -- and all of it
+  pub is_shown : (o : Outcome) → Now p past s o → add_in p (telling p past s o) o ≡ true
+  is_shown (outcome.Added cpu apic slot) h =
+      and_from _ _ (let_in p past s (outcome.Added cpu apic slot) h) (and_from _ _ (has_place p past s (outcome.Added cpu apic slot) h) (is_present (outcome.Added cpu apic slot) h))
+  is_shown (outcome.Ejected cpu apic slot) h = refl
+  is_shown (outcome.Refused why) h = looked p past s (outcome.Refused why) h
+
 pub looks_law : (p : Platform) (es : List Entry) → IsFit p → each_told p (shows_looks p) (transitions p es) ≡ true
-looks_law p es fits = law_by p fits (shows_looks p) (λ past s. looked p past s s.monarch.outcome) es
+looks_law p es fits = law_by p fits (shows_looks p) (λ past s told flag. looked p past s s.monarch.outcome told) es
 
 pub entry_law : (p : Platform) (es : List Entry) → IsFit p → each_told p (shows_entry p) (transitions p es) ≡ true
-entry_law p es fits = law_by p fits (shows_entry p) (λ past s. let_in p past s s.monarch.outcome) es
+entry_law p es fits = law_by p fits (shows_entry p) (λ past s told flag. let_in p past s s.monarch.outcome told) es
 
 pub slot_law : (p : Platform) (es : List Entry) → IsFit p → each_told p (shows_slot p) (transitions p es) ≡ true
-slot_law p es fits = law_by p fits (shows_slot p) (λ past s. has_place p past s s.monarch.outcome) es
+slot_law p es fits = law_by p fits (shows_slot p) (λ past s told flag. has_place p past s s.monarch.outcome told) es
+
+pub presence_law : (p : Platform) (es : List Entry) → IsFit p → each_told p (shows_presence p) (transitions p es) ≡ true
+presence_law p es fits = law_by p fits (shows_presence p) (λ past s told flag. is_present p past s flag s.monarch.outcome told) es
+
+pub adds_law : (p : Platform) (es : List Entry) → IsFit p → each_told p (shows_add p) (transitions p es) ≡ true
+adds_law p es fits = law_by p fits (shows_add p) (λ past s told flag. is_shown p past s flag s.monarch.outcome told) es

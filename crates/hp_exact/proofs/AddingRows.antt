@@ -1,6 +1,6 @@
 -- What ties the monarch's record of a running add to what the entries of its outcome show, label by label, and each row keeps it.
 use Rattle.std.proofs.Common.{ℕ, zero, suc, ◌≡◌, ◌+◌, ◌-◌, ◌≤◌, ◌==◌, ◌⊎◌, inl, inr, Bool, true, false, not, ◌&&◌, ◌||◌, nat_lt, nat_le, List, [], ◌∷◌, ◌++◌, length, drop, replicate, Option, Some, None, bit_and, refl, sym, ap, subst, ◌∙◌, arith, if◌then◌else◌}
-use Rattle.std.proofs.lemmas.Bool.{or_left, or_right}
+use Rattle.std.proofs.lemmas.Bool.{or_left, or_right, eqb-true}
 use Rattle.std.proofs.lemmas.Bool.Decides.{nat_tests}
 use Rattle.hp_model.specs.declared.platforms.Platform.{Platform}
 use Rattle.hp_model.specs.declared.outcomes.Outcome.{Outcome}
@@ -52,7 +52,7 @@ abbrev pub was_one : Trail → Bool
 was_one t = is_in 1 t.flags || is_in 1 t.pairs
 
 -- what an outcome of the add says
-pub record Adds' (t : Trail) (old now : List ℕ) (add : Add) (cpu apic slot : ℕ) : Type 0 where
+pub record Adds' (t : Trail) (old now : List ℕ) (home : ℕ → ℕ → Type 0) (add : Add) (cpu apic slot : ℕ) : Type 0 where
   pub same_cpu : cpu ≡ add.cpu
   pub same_apic : apic ≡ add.apic
   pub same_slot : slot ≡ add.slot
@@ -60,6 +60,7 @@ pub record Adds' (t : Trail) (old now : List ℕ) (add : Add) (cpu apic slot : �
   pub is_place : add.slot ≡ place_of now add.apic
   pub arrived : t.arrived ≡ true
   pub entered : t.entered ≡ true
+  pub there : home cpu slot
 
 pub record Unseen (polls : ℕ) (t : Trail) (add : Add) (apic : ℕ) : Type 0 where
   pub same_apic : apic ≡ add.apic
@@ -87,69 +88,69 @@ ToldNot polls t a (NotParked cpu apic) = Unit {0}
 ToldNot polls t a (Foreign cpu apic) = Unit {0}
 ToldNot polls t a (StillPending cpu status) = Unit {0}
 
-abbrev pub Told : ℕ → Trail → List ℕ → List ℕ → Add → Outcome → Type 0
-Told polls t old now a (outcome.Added cpu apic slot) = Adds' t old now a cpu apic slot
-Told polls t old now a (outcome.Ejected cpu apic slot) = Unit {0}
-Told polls t old now a (outcome.Refused why) = ToldNot polls t a why
+abbrev pub Told : ℕ → Trail → List ℕ → List ℕ → (ℕ → ℕ → Type 0) → Add → Outcome → Type 0
+Told polls t old now home a (outcome.Added cpu apic slot) = Adds' t old now home a cpu apic slot
+Told polls t old now home a (outcome.Ejected cpu apic slot) = Unit {0}
+Told polls t old now home a (outcome.Refused why) = ToldNot polls t a why
 
--- at each label, with these APIC IDs bound before the entries of the outcome, and this memory
-abbrev pub AddAt : Layout → Trail → List ℕ → List Write → Monarch → Label → Type 0
-AddAt y t old ws r F1 = Unit {0}
-AddAt y t old ws r F2 = Unit {0}
-AddAt y t old ws r F3 = Unit {0}
-AddAt y t old ws r F4 = Unit {0}
-AddAt y t old ws r F5 = Unit {0}
-AddAt y t old ws r F6 = Unit {0}
-AddAt y t old ws r R1 = Unit {0}
-AddAt y t old ws r R2 = Unit {0}
-AddAt y t old ws r R3 = Unit {0}
-AddAt y t old ws r R4 = Unit {0}
-AddAt y t old ws r R5 = Unit {0}
-AddAt y t old ws r R6 = Unit {0}
-AddAt y t old ws r S0 = Unit {0}
-AddAt y t old ws r S1 = Unit {0}
-AddAt y t old ws r S2 = Unit {0}
-AddAt y t old ws r S3 = Unit {0}
-AddAt y t old ws r S4 = Unit {0}
-AddAt y t old ws r C1 = Unit {0}
-AddAt y t old ws r C2 = Unit {0}
-AddAt y t old ws r C3 = Unit {0}
-AddAt y t old ws r C4 = Unit {0}
-AddAt y t old ws r C5 = Unit {0}
-AddAt y t old ws r C6 = Unit {0}
-AddAt y t old ws r NB = (t.opened ≡ 0) × (r.slots.bound ≡ with_bound (Some r.add.apic) old) × (r.add.slot ≡ place_of r.slots.bound r.add.apic)
-AddAt y t old ws r N0 = RunsBy (t.opened + 1) old r
-AddAt y t old ws r N1 = RunsBy (t.opened + 1) old r × IsBit ws (arrived_byte y r.add.slot)
-AddAt y t old ws r N2 = RunsBy (t.opened + 1) old r × IsBit ws (arrived_byte y r.add.slot) × IsBit ws flag
-AddAt y t old ws r N3 = RunsBy (t.opened + 1) old r × IsBit ws (arrived_byte y r.add.slot) × IsBit ws flag
-AddAt y t old ws r N4 = RunsBy (t.opened + 1) old r × IsBit ws (arrived_byte y r.add.slot) × IsBit ws flag
-AddAt y t old ws r N5 = RunsBy (t.opened + 1) old r × IsBit ws (arrived_byte y r.add.slot) × IsBit ws flag
-AddAt y t old ws r N6 = RunsBy (t.opened + 1) old r × IsBit ws (arrived_byte y r.add.slot) × IsBit ws flag
-AddAt y t old ws r N7 = RunsBy (t.opened + 1) old r × IsBit ws (arrived_byte y r.add.slot) × IsBit ws flag
-AddAt y t old ws r N8a = RunsBy t.opened old r × IsBit ws (arrived_byte y r.add.slot) × IsBit ws flag × (t.any ≡ true) × Left y.polls r.add.polls t.flags × (t.pairs ≡ t.flags)
-AddAt y t old ws r N8b = RunsBy t.opened old r × IsBit ws (arrived_byte y r.add.slot) × IsBit ws flag × (t.any ≡ true) × Left y.polls r.add.polls t.pairs × (t.flags ≡ 0 ∷ t.pairs)
-AddAt y t old ws r N9 = RunsBy t.opened old r × IsBit ws (arrived_byte y r.add.slot) × (t.any ≡ true) × (r.add.seen ≡ true → was_one t ≡ true) × (r.add.seen ≡ false → (t.flags ≡ replicate y.polls 0) × (t.pairs ≡ replicate y.polls 0))
-AddAt y t old ws r N10 = RunsBy t.opened old r × IsBit ws (arrived_byte y r.add.slot) × (t.shut ≡ true) × (was_one t ≡ true)
-AddAt y t old ws r N11 = RunsBy t.opened old r × IsBit ws (arrived_byte y r.add.slot) × (t.entered ≡ true) × (t.seen ≡ true) × Left y.polls r.add.polls t.arrivals
-AddAt y t old ws r E0 = Unit {0}
-AddAt y t old ws r E1 = Unit {0}
-AddAt y t old ws r E2 = Unit {0}
-AddAt y t old ws r E3 = Unit {0}
-AddAt y t old ws r E4a = Unit {0}
-AddAt y t old ws r E4b = Unit {0}
-AddAt y t old ws r E4c = Unit {0}
-AddAt y t old ws r E4d = Unit {0}
-AddAt y t old ws r E4e = Unit {0}
-AddAt y t old ws r E4f = Unit {0}
-AddAt y t old ws r E4g = Unit {0}
-AddAt y t old ws r E4h = Unit {0}
-AddAt y t old ws r T = Told y.polls t old r.slots.bound r.add r.outcome
-AddAt y t old ws r E5 = Unit {0}
-AddAt y t old ws r E6 = Unit {0}
-AddAt y t old ws r E7 = Unit {0}
+-- at each label, with these APIC IDs bound before the entries of the outcome, this memory, and this said of a processor that is at home in a slot
+abbrev pub AddAt : Layout → Trail → List ℕ → List Write → (ℕ → ℕ → Type 0) → Monarch → Label → Type 0
+AddAt y t old ws home r F1 = Unit {0}
+AddAt y t old ws home r F2 = Unit {0}
+AddAt y t old ws home r F3 = Unit {0}
+AddAt y t old ws home r F4 = Unit {0}
+AddAt y t old ws home r F5 = Unit {0}
+AddAt y t old ws home r F6 = Unit {0}
+AddAt y t old ws home r R1 = Unit {0}
+AddAt y t old ws home r R2 = Unit {0}
+AddAt y t old ws home r R3 = Unit {0}
+AddAt y t old ws home r R4 = Unit {0}
+AddAt y t old ws home r R5 = Unit {0}
+AddAt y t old ws home r R6 = Unit {0}
+AddAt y t old ws home r S0 = Unit {0}
+AddAt y t old ws home r S1 = Unit {0}
+AddAt y t old ws home r S2 = Unit {0}
+AddAt y t old ws home r S3 = Unit {0}
+AddAt y t old ws home r S4 = Unit {0}
+AddAt y t old ws home r C1 = Unit {0}
+AddAt y t old ws home r C2 = Unit {0}
+AddAt y t old ws home r C3 = Unit {0}
+AddAt y t old ws home r C4 = Unit {0}
+AddAt y t old ws home r C5 = Unit {0}
+AddAt y t old ws home r C6 = Unit {0}
+AddAt y t old ws home r NB = (t.opened ≡ 0) × (r.slots.bound ≡ with_bound (Some r.add.apic) old) × (r.add.slot ≡ place_of r.slots.bound r.add.apic)
+AddAt y t old ws home r N0 = RunsBy (t.opened + 1) old r
+AddAt y t old ws home r N1 = RunsBy (t.opened + 1) old r × IsBit ws (arrived_byte y r.add.slot)
+AddAt y t old ws home r N2 = RunsBy (t.opened + 1) old r × IsBit ws (arrived_byte y r.add.slot) × IsBit ws flag
+AddAt y t old ws home r N3 = RunsBy (t.opened + 1) old r × IsBit ws (arrived_byte y r.add.slot) × IsBit ws flag
+AddAt y t old ws home r N4 = RunsBy (t.opened + 1) old r × IsBit ws (arrived_byte y r.add.slot) × IsBit ws flag
+AddAt y t old ws home r N5 = RunsBy (t.opened + 1) old r × IsBit ws (arrived_byte y r.add.slot) × IsBit ws flag
+AddAt y t old ws home r N6 = RunsBy (t.opened + 1) old r × IsBit ws (arrived_byte y r.add.slot) × IsBit ws flag
+AddAt y t old ws home r N7 = RunsBy (t.opened + 1) old r × IsBit ws (arrived_byte y r.add.slot) × IsBit ws flag
+AddAt y t old ws home r N8a = RunsBy t.opened old r × IsBit ws (arrived_byte y r.add.slot) × IsBit ws flag × (t.any ≡ true) × Left y.polls r.add.polls t.flags × (t.pairs ≡ t.flags)
+AddAt y t old ws home r N8b = RunsBy t.opened old r × IsBit ws (arrived_byte y r.add.slot) × IsBit ws flag × (t.any ≡ true) × Left y.polls r.add.polls t.pairs × (t.flags ≡ 0 ∷ t.pairs)
+AddAt y t old ws home r N9 = RunsBy t.opened old r × IsBit ws (arrived_byte y r.add.slot) × (t.any ≡ true) × (r.add.seen ≡ true → was_one t ≡ true) × (r.add.seen ≡ false → (t.flags ≡ replicate y.polls 0) × (t.pairs ≡ replicate y.polls 0))
+AddAt y t old ws home r N10 = RunsBy t.opened old r × IsBit ws (arrived_byte y r.add.slot) × (t.shut ≡ true) × (was_one t ≡ true)
+AddAt y t old ws home r N11 = RunsBy t.opened old r × IsBit ws (arrived_byte y r.add.slot) × (t.entered ≡ true) × (t.seen ≡ true) × Left y.polls r.add.polls t.arrivals × (byte_at ws (arrived_byte y r.add.slot) ≡ 1 → home r.add.cpu r.add.slot)
+AddAt y t old ws home r E0 = Unit {0}
+AddAt y t old ws home r E1 = Unit {0}
+AddAt y t old ws home r E2 = Unit {0}
+AddAt y t old ws home r E3 = Unit {0}
+AddAt y t old ws home r E4a = Unit {0}
+AddAt y t old ws home r E4b = Unit {0}
+AddAt y t old ws home r E4c = Unit {0}
+AddAt y t old ws home r E4d = Unit {0}
+AddAt y t old ws home r E4e = Unit {0}
+AddAt y t old ws home r E4f = Unit {0}
+AddAt y t old ws home r E4g = Unit {0}
+AddAt y t old ws home r E4h = Unit {0}
+AddAt y t old ws home r T = Told y.polls t old r.slots.bound home r.add r.outcome
+AddAt y t old ws home r E5 = Unit {0}
+AddAt y t old ws home r E6 = Unit {0}
+AddAt y t old ws home r E7 = Unit {0}
 
-abbrev pub AddTied : Layout → Trail → List ℕ → List Write → Monarch → Type 0
-AddTied y t old ws r = AddAt y t old ws r r.label
+abbrev pub AddTied : Layout → Trail → List ℕ → List Write → (ℕ → ℕ → Type 0) → Monarch → Type 0
+AddTied y t old ws home r = AddAt y t old ws home r r.label
 
 -- whether a row is of the collection, and whether it ends the entries of an outcome
 abbrev pub is_collecting : Label → Bool
@@ -159,69 +160,73 @@ abbrev pub is_ending : Label → Bool
 is_ending l = is_collecting l || (index_of l == 34)
 
 -- what a row does to the two bytes, and what it has read of them; where it ends an outcome's entries, the bound APIC IDs are the record's
-pub record Deeds (y : Layout) (ws vs : List Write) (bound : List ℕ) (r : Monarch) (l : Label) (v : ℕ) : Type 0 where
+pub record Deeds (y : Layout) (ws vs : List Write) (home home2 : ℕ → ℕ → Type 0) (bound : List ℕ) (r : Monarch) (l : Label) (v : ℕ) : Type 0 where
   pub flag_kept : IsBit ws flag → IsBit vs flag
   pub arrived_kept : is_among l adding ≡ true → IsBit ws (arrived_byte y r.add.slot) → IsBit vs (arrived_byte y r.add.slot)
   pub flag_cleared : l ≡ N1 → byte_at vs flag ≡ 0
   pub arrived_cleared : l ≡ N0 → byte_at vs (arrived_byte y r.add.slot) ≡ 0
+  pub cleared_again : l ≡ N10 → byte_at vs (arrived_byte y r.add.slot) ≡ 0
+  pub looked_at : l ≡ N11 → byte_at vs (arrived_byte y r.add.slot) ≡ byte_at ws (arrived_byte y r.add.slot)
+  pub stays_home : l ≡ N11 → home r.add.cpu r.add.slot → home2 r.add.cpu r.add.slot
   pub flag_read : l ≡ N8a → v ≡ byte_at ws flag
   pub pair_read : l ≡ N8b → v ≡ byte_at ws (arrived_byte y r.add.slot)
   pub arrived_read : l ≡ N11 → v ≡ byte_at ws (arrived_byte y r.add.slot)
   pub is_bound : is_ending l ≡ true → r.slots.bound ≡ bound
 
 -- outcomes that are told of a report at once are no add's
-abbrev IsMere : Outcome → Type 0
-IsMere o = (polls : ℕ) (t : Trail) (old now : List ℕ) (a : Add) → Told polls t old now a o
+module _ (home : ℕ → ℕ → Type 0) where
+  abbrev IsMere : Outcome → Type 0
+  IsMere o = (polls : ℕ) (t : Trail) (old now : List ℕ) (a : Add) → Told polls t old now home a o
 
-abbrev TellsMere : Class → Type 0
-TellsMere (Tells o) = IsMere o
-TellsMere Adds = Unit {0}
-TellsMere Ejects = Unit {0}
+  abbrev TellsMere : Class → Type 0
+  TellsMere (Tells o) = IsMere o
+  TellsMere Adds = Unit {0}
+  TellsMere Ejects = Unit {0}
 
-insert_mere : (f : Tests) (t : Report) → TellsMere (insert_class f t)
-insert_mere f t = pick TellsMere f.known (refuses (AlreadyKnown t.cpu t.apic f.slot)) (held_class f.held t) (λ polls u old now a. tt) (by_held f.held)
-  where
-    by_held : (o : Option ℕ) → TellsMere (held_class o t)
-    by_held None = tt
-    by_held (Some b) = pick TellsMere (b == t.apic) Adds (refuses (GateHeld t.cpu t.apic b)) tt (λ polls u old now a. tt)
+  insert_mere : (f : Tests) (t : Report) → TellsMere (insert_class f t)
+  insert_mere f t = pick TellsMere f.known (refuses (AlreadyKnown t.cpu t.apic f.slot)) (held_class f.held t) (λ polls u old now a. tt) (by_held f.held)
+    where
+      by_held : (o : Option ℕ) → TellsMere (held_class o t)
+      by_held None = tt
+      by_held (Some b) = pick TellsMere (b == t.apic) Adds (refuses (GateHeld t.cpu t.apic b)) tt (λ polls u old now a. tt)
 
-class_mere : (f : Tests) (t : Report) → TellsMere (class f t)
-class_mere f t =
-    pick TellsMere (not f.own) (refuses (Foreign t.cpu t.apic)) _ (λ polls u old now a. tt)
-    (pick TellsMere (not (bit_and t.status 1 == 1)) (refuses (Disabled t.cpu t.status)) _ (λ polls u old now a. tt)
-    (pick TellsMere (bit_and t.status 0x12 == 0x12) (refuses (Both t.cpu t.status)) _ (λ polls u old now a. tt)
-    (pick TellsMere (bit_and t.status 2 == 2) (insert_class f t) (eject_class f t) (insert_mere f t)
-    (pick TellsMere (not (bit_and f.features 4 == 4)) (refuses (NoUnplug t.cpu f.features)) _ (λ polls u old now a. tt)
-    (pick TellsMere (not f.known) (refuses (NotKnown t.cpu t.apic)) _ (λ polls u old now a. tt)
-    (pick TellsMere (f.look == 0) (refuses (NotArrived t.cpu t.apic)) Ejects (λ polls u old now a. tt) tt))))))
+  class_mere : (f : Tests) (t : Report) → TellsMere (class f t)
+  class_mere f t =
+      pick TellsMere (not f.own) (refuses (Foreign t.cpu t.apic)) _ (λ polls u old now a. tt)
+      (pick TellsMere (not (bit_and t.status 1 == 1)) (refuses (Disabled t.cpu t.status)) _ (λ polls u old now a. tt)
+      (pick TellsMere (bit_and t.status 0x12 == 0x12) (refuses (Both t.cpu t.status)) _ (λ polls u old now a. tt)
+      (pick TellsMere (bit_and t.status 2 == 2) (insert_class f t) (eject_class f t) (insert_mere f t)
+      (pick TellsMere (not (bit_and f.features 4 == 4)) (refuses (NoUnplug t.cpu f.features)) _ (λ polls u old now a. tt)
+      (pick TellsMere (not f.known) (refuses (NotKnown t.cpu t.apic)) _ (λ polls u old now a. tt)
+      (pick TellsMere (f.look == 0) (refuses (NotArrived t.cpu t.apic)) Ejects (λ polls u old now a. tt) tt))))))
 
-module _ (y : Layout) (old : List ℕ) (vs : List Write) where
+module _ (y : Layout) (old : List ℕ) (vs : List Write) (home : ℕ → ℕ → Type 0) where
   -- the next report
-  add_answered : (ids : List ℕ) (r : Monarch) (t : Report) (c : Class) → TellsMere c → r.slots.bound ≡ old → AddTied y no_trail old vs (answered c t (took r))
+  add_answered : (ids : List ℕ) (r : Monarch) (t : Report) (c : Class) → TellsMere home c → r.slots.bound ≡ old → AddTied y no_trail old vs home (answered c t (took r))
   add_answered ids r t (Tells o) mere same = mere y.polls no_trail old r.slots.bound r.add
   add_answered ids r t Adds mere same = (refl, subst (λ ids. (bind t.apic r.slots).bound ≡ with_bound (Some t.apic) ids) same (pick_by (λ s. s.bound ≡ with_bound (Some t.apic) r.slots.bound) (is_in t.apic r.slots.bound) r.slots _ (λ e. rw e refl) (λ e. rw e refl)), refl)
   add_answered ids r t Ejects mere same = tt
 
-  pub add_report : (ids : List ℕ) (r : Monarch) → r.slots.bound ≡ old → AddTied y no_trail old vs (next_report ids r)
+  pub add_report : (ids : List ℕ) (r : Monarch) → r.slots.bound ≡ old → AddTied y no_trail old vs home (next_report ids r)
   add_report ids r same = by_rest (drop r.taken r.collection.reports)
     where
-      by_rest : (ts : List Report) → AddTied y no_trail old vs (taken_up ids ts r)
+      by_rest : (ts : List Report) → AddTied y no_trail old vs home (taken_up ids ts r)
       by_rest [] = tt
-      by_rest (t ∷ ts) = add_answered ids r t (class (facts_by ids r t) t) (class_mere (facts_by ids r t) t) same
+      by_rest (t ∷ ts) = add_answered ids r t (class (facts_by ids r t) t) (class_mere home (facts_by ids r t) t) same
 
-  add_processor : (ids : List ℕ) (count : ℕ) (c : Collection) (r : Monarch) → r.slots.bound ≡ old → AddTied y no_trail old vs (collected ids (next_processor count c) r)
+  add_processor : (ids : List ℕ) (count : ℕ) (c : Collection) (r : Monarch) → r.slots.bound ≡ old → AddTied y no_trail old vs home (collected ids (next_processor count c) r)
   add_processor ids count c r same =
-      pick (λ w. AddTied y no_trail old vs (collected ids w r)) (nat_lt (c.cpu + 1) count) (CollectsAt C1 (record c { cpu = c.cpu + 1 })) (CollectedAll (record c { cpu = c.cpu + 1 })) tt
+      pick (λ w. AddTied y no_trail old vs home (collected ids w r)) (nat_lt (c.cpu + 1) count) (CollectsAt C1 (record c { cpu = c.cpu + 1 })) (CollectedAll (record c { cpu = c.cpu + 1 })) tt
       (add_report ids (record r { collection = record c { cpu = c.cpu + 1 } }) same)
 
-  add_found : (ids : List ℕ) (count v : ℕ) (r : Monarch) → r.slots.bound ≡ old → AddTied y no_trail old vs (collected ids (found count v r.collection) r)
+  add_found : (ids : List ℕ) (count v : ℕ) (r : Monarch) → r.slots.bound ≡ old → AddTied y no_trail old vs home (collected ids (found count v r.collection) r)
   add_found ids count v r same =
-      pick (λ w. AddTied y no_trail old vs (collected ids w r)) (nat_lt v r.collection.cpu || not (nat_lt v count)) (CollectedAll r.collection) (CollectsAt C4 (record r.collection { cpu = v }))
+      pick (λ w. AddTied y no_trail old vs home (collected ids w r)) (nat_lt v r.collection.cpu || not (nat_lt v count)) (CollectedAll r.collection) (CollectsAt C4 (record r.collection { cpu = v }))
       (add_report ids (record r { collection = r.collection }) same) tt
 
-  add_judged : (ids : List ℕ) (count v : ℕ) (r : Monarch) → r.slots.bound ≡ old → AddTied y no_trail old vs (collected ids (judged count v r.collection) r)
+  add_judged : (ids : List ℕ) (count v : ℕ) (r : Monarch) → r.slots.bound ≡ old → AddTied y no_trail old vs home (collected ids (judged count v r.collection) r)
   add_judged ids count v r same =
-      pick (λ w. AddTied y no_trail old vs (collected ids w r)) (bit_and v 0x12 == 0) (next_processor count r.collection) (CollectsAt C5 (record r.collection { status = v })) (add_processor ids count r.collection r same) tt
+      pick (λ w. AddTied y no_trail old vs home (collected ids w r)) (bit_and v 0x12 == 0) (next_processor count r.collection) (CollectsAt C5 (record r.collection { status = v })) (add_processor ids count r.collection r same) tt
 
 told_bound : (o : Outcome) (r : Monarch) → (told o r).slots.bound ≡ r.slots.bound
 told_bound (outcome.Added cpu apic slot) r = refl
@@ -272,20 +277,20 @@ first_look all some = record { taken = 0; sum = omega arith; some = some; zeros 
 again : (n : ℕ) (old now : List ℕ) (attempt apic slot : ℕ) → Runs n old now attempt apic slot → nat_lt attempt 3 ≡ true → Runs (n + 1) old now (attempt + 1) apic slot
 again n old now attempt apic slot h e = record { tries = ap (λ k. k + 1) h.tries; few = next_try attempt e; grown = h.grown; is_place = h.is_place }
 
-module _ (y : Layout) (t : Trail) (old bound : List ℕ) (ws vs : List Write) (q : Seat) (r : Monarch) (v : ℕ) (some : 1 ≤ y.polls) where
+module _ (y : Layout) (t : Trail) (old bound : List ℕ) (ws vs : List Write) (home home2 : ℕ → ℕ → Type 0) (q : Seat) (r : Monarch) (v : ℕ) (some : 1 ≤ y.polls) where
   abbrev Then : Label → Monarch → Type 0
-  Then l u = AddTied y (if is_ending l then no_trail else trail_after l v t) (if is_ending l then bound else old) vs u
+  Then l u = AddTied y (if is_ending l then no_trail else trail_after l v t) (if is_ending l then bound else old) vs home2 u
 
-  row_opens : Deeds y ws vs bound r N7 v → AddAt y t old ws r N7 → Then N7 (led (looks N8a y.polls r.add) r)
+  row_opens : Deeds y ws vs home home2 bound r N7 v → AddAt y t old ws home r N7 → Then N7 (led (looks N8a y.polls r.add) r)
   row_opens d h = (record { tries = h.0.tries; few = h.0.few; grown = h.0.grown; is_place = h.0.is_place }, d.arrived_kept refl h.1, d.flag_kept h.2, refl, first_look y.polls some, refl)
 
-  row_flag : Deeds y ws vs bound r N8a v → AddAt y t old ws r N8a → Then N8a (led (saw_flag v r.add) r)
+  row_flag : Deeds y ws vs home home2 bound r N8a v → AddAt y t old ws home r N8a → Then N8a (led (saw_flag v r.add) r)
   row_flag d h =
       pick_by (λ w. Then N8a (led w r)) (v == 1) (AddsAt N9 (record r.add { seen = true })) (AddsAt N8b r.add)
       (λ e. (h.0, d.arrived_kept refl h.1, h.3, (λ s. or_left (is_in 1 (v ∷ t.flags)) (is_in 1 t.pairs) (rw e refl)), λ s. absurd cc))
       (λ e. (h.0, d.arrived_kept refl h.1, d.flag_kept h.2, h.3, subst (Left y.polls r.add.polls) (sym h.5) h.4, let z = is_0 v (byte_at ws flag) (d.flag_read refl) h.2 e in rw z (ap (λ xs. 0 ∷ xs) (sym h.5))))
 
-  row_pair : Deeds y ws vs bound r N8b v → AddAt y t old ws r N8b → Then N8b (led (saw_pair v r.add) (noted r.add.slot v r))
+  row_pair : Deeds y ws vs home home2 bound r N8b v → AddAt y t old ws home r N8b → Then N8b (led (saw_pair v r.add) (noted r.add.slot v r))
   row_pair d h =
       pick_by (λ w. Then N8b (led w (noted r.add.slot v r))) (v == 1) (AddsAt N9 (record r.add { seen = true })) _
       (λ e. (h.0, d.arrived_kept refl h.1, h.3, (λ s. or_right (is_in 1 t.flags) (is_in 1 (v ∷ t.pairs)) (rw e refl)), λ s. absurd cc))
@@ -294,7 +299,7 @@ module _ (y : Layout) (t : Trail) (old bound : List ℕ) (ws vs : List Write) (q
       (λ last. (h.0, d.arrived_kept refl h.1, h.3, (λ s. absurd cc), λ s. (h.5 ∙ left_last y.polls r.add.polls t.pairs 0 h.4 refl last, left_last y.polls r.add.polls t.pairs v h.4 z last)))
       (λ more. (h.0, d.arrived_kept refl h.1, d.flag_kept h.2, h.3, subst (Left y.polls (r.add.polls - 1)) (sym h.5) (left_more y.polls r.add.polls t.pairs 0 h.4 refl more), ap (λ n. n ∷ t.pairs) z ∙ sym h.5)))
 
-  row_shut : Deeds y ws vs bound r N9 v → AddAt y t old ws r N9 → Then N9 (led (shut r.add) r)
+  row_shut : Deeds y ws vs home home2 bound r N9 v → AddAt y t old ws home r N9 → Then N9 (led (shut r.add) r)
   row_shut d h =
       pick_by (λ w. Then N9 (led w r)) r.add.seen (AddsAt N10 r.add) _
       (λ e. (h.0, d.arrived_kept refl h.1, h.2, h.3 e))
@@ -302,23 +307,23 @@ module _ (y : Layout) (t : Trail) (old bound : List ℕ) (ws vs : List Write) (q
       (λ more. again t.opened old r.slots.bound r.add.attempt r.add.apic r.add.slot h.0 more)
       (λ last. record { same_apic = refl; three = is_three t.opened r.add.attempt h.0.tries h.0.few last; flags = (h.4 e).0; pairs = (h.4 e).1 }))
 
-  row_arrival : Deeds y ws vs bound r N11 v → AddAt y t old ws r N11 → Then N11 (led (saw_arrival v r.add) (noted r.add.slot v r))
+  row_arrival : Deeds y ws vs home home2 bound r N11 v → AddAt y t old ws home r N11 → Then N11 (led (saw_arrival v r.add) (noted r.add.slot v r))
   row_arrival d h =
       pick_by (λ w. Then N11 (led w (noted r.add.slot v r))) (v == 1) (Ends (outcome.Added r.add.cpu r.add.apic r.add.slot)) _
-      (λ e. record { same_cpu = refl; same_apic = refl; same_slot = refl; grown = h.0.grown; is_place = h.0.is_place; arrived = e; entered = h.2 })
+      (λ e. record { same_cpu = refl; same_apic = refl; same_slot = refl; grown = h.0.grown; is_place = h.0.is_place; arrived = e; entered = h.2; there = d.stays_home refl (h.5 (sym (d.arrived_read refl) ∙ eqb-true v 1 e)) })
       (λ e. let z = is_0 v (byte_at ws (arrived_byte y r.add.slot)) (d.arrived_read refl) h.1 e in
       pick_by (λ w. Then N11 (led w (noted r.add.slot v r))) (is_last_look r.add) _ (looks N11 (r.add.polls - 1) r.add)
       (λ last. pick_by (λ w. Then N11 (led w (noted r.add.slot v r))) (nat_lt r.add.attempt 3) (AddsAt N0 (record r.add { attempt = r.add.attempt + 1 })) (Ends (outcome.Refused (NotCheckedIn r.add.cpu r.add.apic)))
       (λ more. again t.opened old r.slots.bound r.add.attempt r.add.apic r.add.slot h.0 more)
       (λ most. record { same_apic = refl; three = is_three t.opened r.add.attempt h.0.tries h.0.few most; seen = h.3; arrivals = left_last y.polls r.add.polls t.arrivals v h.4 z last }))
-      (λ more. (h.0, d.arrived_kept refl h.1, h.2, h.3, left_more y.polls r.add.polls t.arrivals v h.4 z more)))
+      (λ more. (h.0, d.arrived_kept refl h.1, h.2, h.3, left_more y.polls r.add.polls t.arrivals v h.4 z more, λ one. d.stays_home refl (h.5 (sym (d.looked_at refl) ∙ one)))))
 
   add_look : (l : Label) (polls : ℕ) (o : Option ℕ) (u : Monarch) → Then l (look_at polls o u)
   add_look l polls None u = tt
   add_look l polls (Some slot) u = tt
 
   -- each row
-  pub row_add : (l : Label) → part_of l ≡ Monarchs → r.label ≡ l → Deeds y ws vs bound r l v → AddAt y t old ws r l → Then l (next_at y q r l v).monarch
+  pub row_add : (l : Label) → part_of l ≡ Monarchs → r.label ≡ l → Deeds y ws vs home home2 bound r l v → AddAt y t old ws home r l → Then l (next_at y q r l v).monarch
   row_add F1 mine is d h = absurd cc
   row_add F2 mine is d h = absurd cc
   row_add F3 mine is d h = absurd cc
@@ -335,14 +340,14 @@ module _ (y : Layout) (t : Trail) (old bound : List ℕ) (ws vs : List Write) (q
   row_add S1 mine is d h = pick (Then S1) (nat_lt (r.slot + 1) (length r.slots.bound)) (record r { label = S1; slot = r.slot + 1 }) (at_label S2 r) tt tt
   row_add S2 mine is d h = add_look S2 y.polls (known_from r.slots 1) r
   row_add S3 mine is d h =
-      pick (Then S3) ((v == 1) || nat_le r.polls 1) _ (record (noted r.slot v r) { polls = r.polls - 1 }) (add_look S3 y.polls (known_from r.slots (r.slot + 1)) (noted r.slot v r)) (subst (AddAt y _ old vs (record (noted r.slot v r) { polls = r.polls - 1 })) (sym is) tt)
+      pick (Then S3) ((v == 1) || nat_le r.polls 1) _ (record (noted r.slot v r) { polls = r.polls - 1 }) (add_look S3 y.polls (known_from r.slots (r.slot + 1)) (noted r.slot v r)) (subst (AddAt y _ old vs home2 (record (noted r.slot v r) { polls = r.polls - 1 })) (sym is) tt)
   row_add S4 mine is d h = pick (Then S4) (v == 4) (record r { label = C1; collection = collection_start; taken = 0 }) (at_label E5 r) tt tt
   row_add C1 mine is d h = tt
   row_add C2 mine is d h = tt
-  row_add C3 mine is d h = add_found y bound vs y.apics y.count v r (d.is_bound refl)
-  row_add C4 mine is d h = add_judged y bound vs y.apics y.count v r (d.is_bound refl)
+  row_add C3 mine is d h = add_found y bound vs home2 y.apics y.count v r (d.is_bound refl)
+  row_add C4 mine is d h = add_judged y bound vs home2 y.apics y.count v r (d.is_bound refl)
   row_add C5 mine is d h = tt
-  row_add C6 mine is d h = add_processor y bound vs y.apics y.count (record r.collection { reports = r.collection.reports ++ record { cpu = r.collection.cpu; status = r.collection.status; apic = v } ∷ [] }) r (d.is_bound refl)
+  row_add C6 mine is d h = add_processor y bound vs home2 y.apics y.count (record r.collection { reports = r.collection.reports ++ record { cpu = r.collection.cpu; status = r.collection.status; apic = v } ∷ [] }) r (d.is_bound refl)
   row_add NB mine is d h = record { tries = ap (λ n. n + 1) h.0; few = omega arith; grown = h.1; is_place = h.2 }
   row_add N0 mine is d h = (h, inl (d.arrived_cleared refl))
   row_add N1 mine is d h = (h.0, d.arrived_kept refl h.1, inl (d.flag_cleared refl))
@@ -355,7 +360,7 @@ module _ (y : Layout) (t : Trail) (old bound : List ℕ) (ws vs : List Write) (q
   row_add N8a mine is d h = row_flag d h
   row_add N8b mine is d h = row_pair d h
   row_add N9 mine is d h = row_shut d h
-  row_add N10 mine is d h = (h.0, d.arrived_kept refl h.1, h.2, h.3, first_look y.polls some)
+  row_add N10 mine is d h = (h.0, d.arrived_kept refl h.1, h.2, h.3, first_look y.polls some, λ one. absurd (let zero : byte_at vs (arrived_byte y r.add.slot) ≡ 0 = d.cleared_again refl in let both = sym zero ∙ one in cc))
   row_add N11 mine is d h = row_arrival d h
   row_add E0 mine is d h = tt
   row_add E1 mine is d h = tt
@@ -369,122 +374,129 @@ module _ (y : Layout) (t : Trail) (old bound : List ℕ) (ws vs : List Write) (q
   row_add E4f mine is d h = tt
   row_add E4g mine is d h = pick (λ w. Then E4g (eject_led w r)) (bit_and v 0x10 == 0x10) (EjectsAt E4h (record r.eject { status = v })) (EjectsAt E4c r.eject) tt tt
   row_add E4h mine is d h = tt
-  row_add T mine is d h = add_report y bound vs y.apics (told r.outcome r) (told_bound r.outcome r ∙ d.is_bound refl)
+  row_add T mine is d h = add_report y bound vs home2 y.apics (told r.outcome r) (told_bound r.outcome r ∙ d.is_bound refl)
   row_add E5 mine is d h = pick (Then E5) (nat_lt 1 (length r.slots.bound)) (record r { label = E6; slot = 1 }) (at_label E7 r) tt tt
   row_add E6 mine is d h = pick (Then E6) (nat_lt (r.slot + 1) (length r.slots.bound)) (record r { label = E6; slot = r.slot + 1 }) (at_label E7 r) tt tt
-  row_add E7 mine is d h = subst (AddAt y _ old vs r) (sym is) tt
+  row_add E7 mine is d h = subst (AddAt y _ old vs home2 r) (sym is) tt
 
 -- where its label needs nothing nothing is tied
-pub add_resting : (y : Layout) (t : Trail) (old : List ℕ) (ws : List Write) (r : Monarch) (l : Label) → need_of l ≡ Nothing → AddAt y t old ws r l
-add_resting y t old ws r F1 e = tt
-add_resting y t old ws r F2 e = absurd cc
-add_resting y t old ws r F3 e = absurd cc
-add_resting y t old ws r F4 e = absurd cc
-add_resting y t old ws r F5 e = absurd cc
-add_resting y t old ws r F6 e = absurd cc
-add_resting y t old ws r R1 e = tt
-add_resting y t old ws r R2 e = tt
-add_resting y t old ws r R3 e = tt
-add_resting y t old ws r R4 e = tt
-add_resting y t old ws r R5 e = tt
-add_resting y t old ws r R6 e = tt
-add_resting y t old ws r S0 e = tt
-add_resting y t old ws r S1 e = tt
-add_resting y t old ws r S2 e = tt
-add_resting y t old ws r S3 e = tt
-add_resting y t old ws r S4 e = tt
-add_resting y t old ws r C1 e = tt
-add_resting y t old ws r C2 e = tt
-add_resting y t old ws r C3 e = tt
-add_resting y t old ws r C4 e = tt
-add_resting y t old ws r C5 e = tt
-add_resting y t old ws r C6 e = tt
-add_resting y t old ws r NB e = absurd cc
-add_resting y t old ws r N0 e = absurd cc
-add_resting y t old ws r N1 e = absurd cc
-add_resting y t old ws r N2 e = absurd cc
-add_resting y t old ws r N3 e = absurd cc
-add_resting y t old ws r N4 e = absurd cc
-add_resting y t old ws r N5 e = absurd cc
-add_resting y t old ws r N6 e = absurd cc
-add_resting y t old ws r N7 e = absurd cc
-add_resting y t old ws r N8a e = absurd cc
-add_resting y t old ws r N8b e = absurd cc
-add_resting y t old ws r N9 e = absurd cc
-add_resting y t old ws r N10 e = absurd cc
-add_resting y t old ws r N11 e = absurd cc
-add_resting y t old ws r E0 e = absurd cc
-add_resting y t old ws r E1 e = absurd cc
-add_resting y t old ws r E2 e = absurd cc
-add_resting y t old ws r E3 e = absurd cc
-add_resting y t old ws r E4a e = absurd cc
-add_resting y t old ws r E4b e = absurd cc
-add_resting y t old ws r E4c e = absurd cc
-add_resting y t old ws r E4d e = absurd cc
-add_resting y t old ws r E4e e = absurd cc
-add_resting y t old ws r E4f e = absurd cc
-add_resting y t old ws r E4g e = absurd cc
-add_resting y t old ws r E4h e = absurd cc
-add_resting y t old ws r T e = absurd cc
-add_resting y t old ws r E5 e = tt
-add_resting y t old ws r E6 e = tt
-add_resting y t old ws r E7 e = tt
+pub add_resting : (y : Layout) (t : Trail) (old : List ℕ) (ws : List Write) (home : ℕ → ℕ → Type 0) (r : Monarch) (l : Label) → need_of l ≡ Nothing → AddAt y t old ws home r l
+add_resting y t old ws home r F1 e = tt
+add_resting y t old ws home r F2 e = absurd cc
+add_resting y t old ws home r F3 e = absurd cc
+add_resting y t old ws home r F4 e = absurd cc
+add_resting y t old ws home r F5 e = absurd cc
+add_resting y t old ws home r F6 e = absurd cc
+add_resting y t old ws home r R1 e = tt
+add_resting y t old ws home r R2 e = tt
+add_resting y t old ws home r R3 e = tt
+add_resting y t old ws home r R4 e = tt
+add_resting y t old ws home r R5 e = tt
+add_resting y t old ws home r R6 e = tt
+add_resting y t old ws home r S0 e = tt
+add_resting y t old ws home r S1 e = tt
+add_resting y t old ws home r S2 e = tt
+add_resting y t old ws home r S3 e = tt
+add_resting y t old ws home r S4 e = tt
+add_resting y t old ws home r C1 e = tt
+add_resting y t old ws home r C2 e = tt
+add_resting y t old ws home r C3 e = tt
+add_resting y t old ws home r C4 e = tt
+add_resting y t old ws home r C5 e = tt
+add_resting y t old ws home r C6 e = tt
+add_resting y t old ws home r NB e = absurd cc
+add_resting y t old ws home r N0 e = absurd cc
+add_resting y t old ws home r N1 e = absurd cc
+add_resting y t old ws home r N2 e = absurd cc
+add_resting y t old ws home r N3 e = absurd cc
+add_resting y t old ws home r N4 e = absurd cc
+add_resting y t old ws home r N5 e = absurd cc
+add_resting y t old ws home r N6 e = absurd cc
+add_resting y t old ws home r N7 e = absurd cc
+add_resting y t old ws home r N8a e = absurd cc
+add_resting y t old ws home r N8b e = absurd cc
+add_resting y t old ws home r N9 e = absurd cc
+add_resting y t old ws home r N10 e = absurd cc
+add_resting y t old ws home r N11 e = absurd cc
+add_resting y t old ws home r E0 e = absurd cc
+add_resting y t old ws home r E1 e = absurd cc
+add_resting y t old ws home r E2 e = absurd cc
+add_resting y t old ws home r E3 e = absurd cc
+add_resting y t old ws home r E4a e = absurd cc
+add_resting y t old ws home r E4b e = absurd cc
+add_resting y t old ws home r E4c e = absurd cc
+add_resting y t old ws home r E4d e = absurd cc
+add_resting y t old ws home r E4e e = absurd cc
+add_resting y t old ws home r E4f e = absurd cc
+add_resting y t old ws home r E4g e = absurd cc
+add_resting y t old ws home r E4h e = absurd cc
+add_resting y t old ws home r T e = absurd cc
+add_resting y t old ws home r E5 e = tt
+add_resting y t old ws home r E6 e = tt
+add_resting y t old ws home r E7 e = tt
+
+told_still : (polls : ℕ) (t : Trail) (old now : List ℕ) (home home2 : ℕ → ℕ → Type 0) (a : Add) (o : Outcome) → ((cpu slot : ℕ) → home cpu slot → home2 cpu slot) → Told polls t old now home a o → Told polls t old now home2 a o
+told_still polls t old now home home2 a (outcome.Added cpu apic slot) j h = record { same_cpu = h.same_cpu; same_apic = h.same_apic; same_slot = h.same_slot; grown = h.grown; is_place = h.is_place; arrived = h.arrived; entered = h.entered; there = j cpu slot h.there }
+told_still polls t old now home home2 a (outcome.Ejected cpu apic slot) j h = h
+told_still polls t old now home home2 a (outcome.Refused why) j h = h
 
 -- other steps leave the two bytes 0 or 1
-pub add_still : (y : Layout) (t : Trail) (old : List ℕ) (ws vs : List Write) (r : Monarch) (l : Label) → (IsBit ws flag → IsBit vs flag) → (is_among l adding ≡ true → IsBit ws (arrived_byte y r.add.slot) → IsBit vs (arrived_byte y r.add.slot)) → AddAt y t old ws r l → AddAt y t old vs r l
-add_still y t old ws vs r F1 f g h = h
-add_still y t old ws vs r F2 f g h = h
-add_still y t old ws vs r F3 f g h = h
-add_still y t old ws vs r F4 f g h = h
-add_still y t old ws vs r F5 f g h = h
-add_still y t old ws vs r F6 f g h = h
-add_still y t old ws vs r R1 f g h = h
-add_still y t old ws vs r R2 f g h = h
-add_still y t old ws vs r R3 f g h = h
-add_still y t old ws vs r R4 f g h = h
-add_still y t old ws vs r R5 f g h = h
-add_still y t old ws vs r R6 f g h = h
-add_still y t old ws vs r S0 f g h = h
-add_still y t old ws vs r S1 f g h = h
-add_still y t old ws vs r S2 f g h = h
-add_still y t old ws vs r S3 f g h = h
-add_still y t old ws vs r S4 f g h = h
-add_still y t old ws vs r C1 f g h = h
-add_still y t old ws vs r C2 f g h = h
-add_still y t old ws vs r C3 f g h = h
-add_still y t old ws vs r C4 f g h = h
-add_still y t old ws vs r C5 f g h = h
-add_still y t old ws vs r C6 f g h = h
-add_still y t old ws vs r NB f g h = h
-add_still y t old ws vs r N0 f g h = h
-add_still y t old ws vs r N1 f g h = (h.0, g refl h.1)
-add_still y t old ws vs r N2 f g h = (h.0, g refl h.1, f h.2)
-add_still y t old ws vs r N3 f g h = (h.0, g refl h.1, f h.2)
-add_still y t old ws vs r N4 f g h = (h.0, g refl h.1, f h.2)
-add_still y t old ws vs r N5 f g h = (h.0, g refl h.1, f h.2)
-add_still y t old ws vs r N6 f g h = (h.0, g refl h.1, f h.2)
-add_still y t old ws vs r N7 f g h = (h.0, g refl h.1, f h.2)
-add_still y t old ws vs r N8a f g h = (h.0, g refl h.1, f h.2, h.3, h.4, h.5)
-add_still y t old ws vs r N8b f g h = (h.0, g refl h.1, f h.2, h.3, h.4, h.5)
-add_still y t old ws vs r N9 f g h = (h.0, g refl h.1, h.2, h.3, h.4)
-add_still y t old ws vs r N10 f g h = (h.0, g refl h.1, h.2, h.3)
-add_still y t old ws vs r N11 f g h = (h.0, g refl h.1, h.2, h.3, h.4)
-add_still y t old ws vs r E0 f g h = h
-add_still y t old ws vs r E1 f g h = h
-add_still y t old ws vs r E2 f g h = h
-add_still y t old ws vs r E3 f g h = h
-add_still y t old ws vs r E4a f g h = h
-add_still y t old ws vs r E4b f g h = h
-add_still y t old ws vs r E4c f g h = h
-add_still y t old ws vs r E4d f g h = h
-add_still y t old ws vs r E4e f g h = h
-add_still y t old ws vs r E4f f g h = h
-add_still y t old ws vs r E4g f g h = h
-add_still y t old ws vs r E4h f g h = h
-add_still y t old ws vs r T f g h = h
-add_still y t old ws vs r E5 f g h = h
-add_still y t old ws vs r E6 f g h = h
-add_still y t old ws vs r E7 f g h = h
+pub add_still : (y : Layout) (t : Trail) (old : List ℕ) (ws vs : List Write) (home home2 : ℕ → ℕ → Type 0) (r : Monarch) (l : Label) → (IsBit ws flag → IsBit vs flag) → (is_among l adding ≡ true → IsBit ws (arrived_byte y r.add.slot) → IsBit vs (arrived_byte y r.add.slot))
+    → (is_among l (N11 ∷ []) ≡ true → (byte_at ws (arrived_byte y r.add.slot) ≡ 1 → home r.add.cpu r.add.slot) → byte_at vs (arrived_byte y r.add.slot) ≡ 1 → home2 r.add.cpu r.add.slot)
+    → (is_among l (T ∷ []) ≡ true → (cpu slot : ℕ) → home cpu slot → home2 cpu slot) → AddAt y t old ws home r l → AddAt y t old vs home2 r l
+add_still y t old ws vs home home2 r F1 f g i j h = h
+add_still y t old ws vs home home2 r F2 f g i j h = h
+add_still y t old ws vs home home2 r F3 f g i j h = h
+add_still y t old ws vs home home2 r F4 f g i j h = h
+add_still y t old ws vs home home2 r F5 f g i j h = h
+add_still y t old ws vs home home2 r F6 f g i j h = h
+add_still y t old ws vs home home2 r R1 f g i j h = h
+add_still y t old ws vs home home2 r R2 f g i j h = h
+add_still y t old ws vs home home2 r R3 f g i j h = h
+add_still y t old ws vs home home2 r R4 f g i j h = h
+add_still y t old ws vs home home2 r R5 f g i j h = h
+add_still y t old ws vs home home2 r R6 f g i j h = h
+add_still y t old ws vs home home2 r S0 f g i j h = h
+add_still y t old ws vs home home2 r S1 f g i j h = h
+add_still y t old ws vs home home2 r S2 f g i j h = h
+add_still y t old ws vs home home2 r S3 f g i j h = h
+add_still y t old ws vs home home2 r S4 f g i j h = h
+add_still y t old ws vs home home2 r C1 f g i j h = h
+add_still y t old ws vs home home2 r C2 f g i j h = h
+add_still y t old ws vs home home2 r C3 f g i j h = h
+add_still y t old ws vs home home2 r C4 f g i j h = h
+add_still y t old ws vs home home2 r C5 f g i j h = h
+add_still y t old ws vs home home2 r C6 f g i j h = h
+add_still y t old ws vs home home2 r NB f g i j h = h
+add_still y t old ws vs home home2 r N0 f g i j h = h
+add_still y t old ws vs home home2 r N1 f g i j h = (h.0, g refl h.1)
+add_still y t old ws vs home home2 r N2 f g i j h = (h.0, g refl h.1, f h.2)
+add_still y t old ws vs home home2 r N3 f g i j h = (h.0, g refl h.1, f h.2)
+add_still y t old ws vs home home2 r N4 f g i j h = (h.0, g refl h.1, f h.2)
+add_still y t old ws vs home home2 r N5 f g i j h = (h.0, g refl h.1, f h.2)
+add_still y t old ws vs home home2 r N6 f g i j h = (h.0, g refl h.1, f h.2)
+add_still y t old ws vs home home2 r N7 f g i j h = (h.0, g refl h.1, f h.2)
+add_still y t old ws vs home home2 r N8a f g i j h = (h.0, g refl h.1, f h.2, h.3, h.4, h.5)
+add_still y t old ws vs home home2 r N8b f g i j h = (h.0, g refl h.1, f h.2, h.3, h.4, h.5)
+add_still y t old ws vs home home2 r N9 f g i j h = (h.0, g refl h.1, h.2, h.3, h.4)
+add_still y t old ws vs home home2 r N10 f g i j h = (h.0, g refl h.1, h.2, h.3)
+add_still y t old ws vs home home2 r N11 f g i j h = (h.0, g refl h.1, h.2, h.3, h.4, i refl h.5)
+add_still y t old ws vs home home2 r E0 f g i j h = h
+add_still y t old ws vs home home2 r E1 f g i j h = h
+add_still y t old ws vs home home2 r E2 f g i j h = h
+add_still y t old ws vs home home2 r E3 f g i j h = h
+add_still y t old ws vs home home2 r E4a f g i j h = h
+add_still y t old ws vs home home2 r E4b f g i j h = h
+add_still y t old ws vs home home2 r E4c f g i j h = h
+add_still y t old ws vs home home2 r E4d f g i j h = h
+add_still y t old ws vs home home2 r E4e f g i j h = h
+add_still y t old ws vs home home2 r E4f f g i j h = h
+add_still y t old ws vs home home2 r E4g f g i j h = h
+add_still y t old ws vs home home2 r E4h f g i j h = h
+add_still y t old ws vs home home2 r T f g i j h = told_still y.polls t old r.slots.bound home home2 r.add r.outcome (j refl) h
+add_still y t old ws vs home home2 r E5 f g i j h = h
+add_still y t old ws vs home home2 r E6 f g i j h = h
+add_still y t old ws vs home home2 r E7 f g i j h = h
 
 look_apic : (polls : ℕ) (o : Option ℕ) (u : Monarch) → (look_at polls o u).add.apic ≡ u.add.apic
 look_apic polls None u = refl

@@ -27,5 +27,6 @@ pub mod Pending
 pub mod AddingTrail
 pub mod AddingRows
 pub mod AddingBytes
+pub mod AddingHome
 pub mod Adding
 pub mod AddingLaw
