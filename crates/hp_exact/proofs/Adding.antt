@@ -1,20 +1,18 @@
 -- Each kind of step keeps what ties the running add to the entries of its outcome.
-use Rattle.std.proofs.Common.{ℕ, ◌≡◌, ◌≢◌, ◌+◌, ◌<◌, ◌≤◌, ◌==◌, ◌⊎◌, inl, inr, Bool, true, false, cond, not, ◌&&◌, ◌||◌, nat_le, List, [], ◌∷◌, length, drop, Option, Some, None, refl, sym, ap, subst, ◌∙◌, arith}
-use Rattle.std.proofs.lemmas.Bool.{and_parts, eqb-true, leb-true, cases_eq}
+use Rattle.std.proofs.Common.{ℕ, ◌≡◌, ◌≢◌, ◌≤◌, ◌==◌, ◌⊎◌, inl, inr, Bool, true, false, cond, not, ◌&&◌, ◌||◌, List, [], ◌∷◌, Option, Some, None, refl, sym, ap, subst, ◌∙◌, arith}
+use Rattle.std.proofs.lemmas.Bool.{and_parts, eqb-true}
 use Rattle.std.proofs.lemmas.Bool.Decides.{nat_tests}
 use Rattle.hp_model.specs.declared.platforms.Platform.{Platform}
-use Rattle.hp_model.specs.declared.processors.Cpu.{Cpu}
 use Rattle.hp_model.specs.declared.accesses.Access.{Access}
-use Rattle.hp_model.specs.declared.accesses.Access.TheVariants.{Load, Store, Nop}
+use Rattle.hp_model.specs.declared.accesses.Access.TheVariants.{Store, Nop}
 use Rattle.hp_model.specs.declared.accesses.Want.{Want}
 use Rattle.hp_model.specs.declared.accesses.Want.TheVariants as want
 use Rattle.hp_model.specs.declared.outcomes.Outcome.{Outcome}
 use Rattle.hp_model.specs.declared.labels.Label.{Label}
-use Rattle.hp_model.specs.declared.labels.Label.TheVariants.{F6, R5, C1, C2, C3, C4, C5, C6, S2, N0, N1, N7, N8a, N8b, N10, N11, T, E7}
-use Rattle.hp_model.specs.declared.entries.Event.{Event}
+use Rattle.hp_model.specs.declared.labels.Label.TheVariants.{C1, C2, C3, C4, C5, C6, S2, N0, N1, N7, N8a, N8b, N10, N11, T, E7}
 use Rattle.hp_model.specs.declared.entries.Event.TheVariants.{Insert, Remove, Do, TakeSmi, TakeInit, Resume, Tell}
 use Rattle.hp_model.specs.declared.entries.Entry.{Entry}
-use Rattle.hp_model.specs.Platform.{tseg, count_of, tile, apic_of, is_late}
+use Rattle.hp_model.specs.Platform.{count_of, tile, apic_of, is_late}
 use Rattle.hp_model.specs.Memory.{Write, byte_at}
 use Rattle.hp_model.specs.Cpu.{is_in_smm, is_outside, is_free, smm_address, may_take_smi, may_take_init, take_init}
 use Rattle.hp_model.specs.Boot.{Stage, value_in}
@@ -23,12 +21,12 @@ use Rattle.hp_model.specs.View.{is_hole}
 use Rattle.hp_model.specs.Events.{is_access_of}
 use Rattle.hp_model.specs.SharedBytes.{layout_of, flag, arrived_byte, gate}
 use Rattle.hp_model.specs.Monarch.{Monarch, restarted}
-use Rattle.hp_model.specs.Handlers.{want_at, next_at, address_of_label}
+use Rattle.hp_model.specs.Handlers.{want_at, next_at}
 use Rattle.hp_model.specs.Step.{State, at, seat, access_effect, answer_to, insert, request_removal, enter_smm, leave_smm, set_cpu, with_session, same_outcome, writes_block, is_after_broadcast}
 use Rattle.hp_model.specs.Runs.{run_on}
 use Rattle.hp_model.specs.Transitions.{Transition, entries_of}
-use Rattle.hp_model.specs.Account.{is_at, opened_for, bound}
-use Rattle.hp_model.specs.Sessions.{bounds_session, tells, collects, ends_outcome}
+use Rattle.hp_model.specs.Account.{is_at, bound}
+use Rattle.hp_model.specs.Sessions.{bounds_session, tells, ends_outcome}
 use Rattle.hp_model.specs.Outcomes.{opens}
 use Rattle.hp_sealed.specs.Left.{Sound}
 use Rattle.hp_sealed.proofs.Outside.{acts}
@@ -43,7 +41,7 @@ use Rattle.hp_safety.proofs.Runs.{IsHanded}
 use Rattle.hp_exact.proofs.Stood.{IsStood}
 use Rattle.hp_exact.proofs.Stepping.{AtMonarch, AtOther, Kinds, entry_by, ends, led_on, by_kind}
 use Rattle.hp_exact.proofs.Keeping.{none_outside, outside_in}
-use Rattle.hp_exact.proofs.AddingTrail.{own, before, Trail, trail_of, no_trail, trail_after, trail_none, trail_made, trail_still, own_more, own_ends, before_more, before_ends}
+use Rattle.hp_exact.proofs.AddingTrail.{own, before, trail_of, no_trail, trail_after, trail_none, trail_made, trail_still, own_more, own_ends, before_more, before_ends}
 use Rattle.hp_exact.proofs.AddingBytes.{IsShared, Keeps, zero_here, read_here, reach_flag, reach_arrived, bits_row, bits_outside, bits_enters, same_outside, same_enters}
 use Rattle.hp_exact.proofs.Monarchs.{is_among, adding, next_other}
 use Rattle.hp_exact.proofs.Naming.{Ids}

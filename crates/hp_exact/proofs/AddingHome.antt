@@ -1,5 +1,5 @@
 -- A processor that is at home in a slot: present, at the slot's tile. While the session is undisturbed it stays so, and the add's processor is whoever tells its arrival.
-use Rattle.std.proofs.Common.{ℕ, zero, suc, ◌++◌, ◌≡◌, ◌≢◌, ◌+◌, ◌-◌, ◌*◌, ◌/◌, ◌<◌, ◌≤◌, ◌==◌, ◌⊎◌, inl, inr, Bool, true, false, cond, not, ◌&&◌, ◌||◌, nat_lt, nat_le, List, [], ◌∷◌, slice_set, Option, Some, None, refl, sym, ap, subst, ◌∙◌, arith}
+use Rattle.std.proofs.Common.{ℕ, zero, suc, ◌++◌, ◌≡◌, ◌≢◌, ◌+◌, ◌-◌, ◌*◌, ◌/◌, ◌<◌, ◌≤◌, ◌==◌, ◌⊎◌, inl, inr, Bool, true, false, not, ◌&&◌, ◌||◌, nat_lt, nat_le, List, [], ◌∷◌, slice_set, Option, Some, None, refl, sym, ap, subst, ◌∙◌, arith}
 use Rattle.std.specs.Prelude.{slice_index_or}
 use Rattle.std.proofs.lemmas.Bool.{and_parts, eqb-true}
 use Rattle.std.proofs.lemmas.Bool.Decides.{nat_tests}
@@ -8,30 +8,28 @@ use Rattle.hp_model.specs.declared.processors.Cpu.{Cpu}
 use Rattle.hp_model.specs.declared.accesses.Access.{Access}
 use Rattle.hp_model.specs.declared.accesses.Want.{Want}
 use Rattle.hp_model.specs.declared.accesses.Want.TheVariants as want
-use Rattle.hp_model.specs.declared.outcomes.Outcome.{Outcome}
 use Rattle.hp_model.specs.declared.labels.Label.{Label}
 use Rattle.hp_model.specs.declared.labels.Label.TheVariants.{F1, F2, F3, F4, F5, F6, R1, R2, R3, R4, R5, R6, S0, S1, S2, S3, S4, C1, C2, C3, C4, C5, C6, NB, N0, N1, N2, N3, N4, N5, N6, N7, N8a, N8b, N9, N10, N11, E0, E1, E2, E3, E4a, E4b, E4c, E4d, E4e, E4f, E4g, E4h, T, E5, E6, E7}
-use Rattle.hp_model.specs.declared.entries.Event.TheVariants.{Insert, Remove, Do, TakeSmi, TakeInit, Resume, Tell}
 use Rattle.hp_model.specs.declared.entries.Entry.{Entry}
-use Rattle.hp_model.specs.Platform.{tseg, count_of, tile, apic_of, is_late}
+use Rattle.hp_model.specs.Platform.{tseg, count_of, tile, apic_of}
 use Rattle.hp_model.specs.Memory.{Write, covers, byte_at, bytes_of, write_of}
 use Rattle.hp_model.specs.View.{Locks, is_hole, loaded, stored}
-use Rattle.hp_model.specs.Cpu.{inserted, cpu_at, is_in_smm, is_free, may_take_smi, take_smi, may_take_init, take_init, resumed, smm_address}
+use Rattle.hp_model.specs.Cpu.{inserted, cpu_at, take_smi, take_init, resumed}
 use Rattle.hp_model.specs.Block.{is_in}
-use Rattle.hp_model.specs.Boot.{Stage, value_in}
-use Rattle.hp_model.specs.Labels.{Relocated, Monarch as Monarchs, part_of, same_label}
-use Rattle.hp_model.specs.SharedBytes.{layout_of, arrived_byte, parked_byte, gate, closed, new_smbase, flag, default_smbase_field}
+use Rattle.hp_model.specs.Boot.{value_in}
+use Rattle.hp_model.specs.Labels.{Relocated, Monarch as Monarchs, part_of}
+use Rattle.hp_model.specs.SharedBytes.{layout_of, arrived_byte, parked_byte, gate, closed, flag, default_smbase_field}
 use Rattle.hp_model.specs.SaveArea.{saved_smbase, saved_rip}
 use Rattle.hp_model.specs.Slots.{place_of}
 use Rattle.hp_model.specs.Account.{with_bound}
 use Rattle.hp_model.specs.Monarch.{Monarch, restarted}
-use Rattle.hp_model.specs.Handlers.{Seat, want_at, next_at, runs_at, slot_at, is_tile}
-use Rattle.hp_model.specs.Step.{State, at, set_cpu, seat, access_effect, answer_to, insert, request_removal, enter_smm, leave_smm, go_on, with_session, is_after_broadcast, writes_block, same_outcome}
+use Rattle.hp_model.specs.Handlers.{Seat, want_at, next_at, runs_at, slot_at}
+use Rattle.hp_model.specs.Step.{State, at, seat, access_effect, answer_to, enter_smm, is_after_broadcast, writes_block}
 use Rattle.hp_model.specs.Runs.{run_on}
 use Rattle.hp_model.specs.Transitions.{Transition}
 use Rattle.hp_sealed.specs.Left.{Sound}
 use Rattle.hp_sealed.specs.Sealed.{is_other_tile}
-use Rattle.hp_sealed.proofs.Left.{pick, pick_by, length-bytes_of, left_store}
+use Rattle.hp_sealed.proofs.Left.{pick, pick_by, left_store}
 use Rattle.hp_sealed.proofs.Stay.{at_set}
 use Rattle.hp_sealed.proofs.Places.{slot_of}
 use Rattle.hp_sealed.proofs.Runs.{made as made_by}
@@ -41,13 +39,13 @@ use Rattle.hp_safety.proofs.Moves.{Moves, moves}
 use Rattle.hp_safety.proofs.Placing.{place_same}
 use Rattle.hp_safety.proofs.Runs.{IsHanded}
 use Rattle.hp_exact.proofs.Stood.{IsStood}
-use Rattle.hp_exact.proofs.Stepping.{AtMonarch, AtOther, Kinds, entry_by, ends, led_on, by_kind}
-use Rattle.hp_exact.proofs.Monarchs.{is_among, adding}
+use Rattle.hp_exact.proofs.Stepping.{AtOther, Kinds, by_kind}
+use Rattle.hp_exact.proofs.Monarchs.{is_among}
 use Rattle.hp_exact.proofs.Naming.{Ids, own_is, one_cpu}
 use Rattle.hp_exact.proofs.Agreeing.{present_kept}
 use Rattle.hp_exact.proofs.Rows.{stays_row, is_one}
 use Rattle.hp_exact.proofs.Keeping.{present_set, present_go, was_quiet, not_broadcast, Unwritten, other_unwritten}
-use Rattle.hp_exact.proofs.Invariant.{Undisturbed, last_read, Invariant}
+use Rattle.hp_exact.proofs.Invariant.{Invariant}
 
 -- a processor is there, at the tile of a slot, if the session is undisturbed
 abbrev pub IsHome : Platform → State → ℕ → ℕ → Type 0
@@ -104,11 +102,13 @@ module _ (p : Platform) (sound : Sound p) (ids : Ids p) (past : List Transition)
       let was = home stays.calm in
       let now = stays.there cpu was.0 in
       let m = made_by p s e t is in
-      let mv : Moves p s e.event t = subst (Moves p s e.event) m.state (moves p s.writes s e.event m.after sound handed m.step) in
-      (now, elim (mv.changes cpu was.0 now) [
-        | inl same ↦ same ∙ was.1
-        | inr r ↦ absurd (far (tseg p) (at s cpu).smbase slot sound.above was.1 (past_aloft p s.writes s cpu sound handed r.past).base)
-      ])
+      let mv : Moves p s e.event t = subst (Moves p s e.event) m.state (moves p s.writes s e.event m.after sound handed m.step) in (
+        now,
+        elim (mv.changes cpu was.0 now) [
+          | inl same ↦ same ∙ was.1
+          | inr r ↦ absurd (far (tseg p) (at s cpu).smbase slot sound.above was.1 (past_aloft p s.writes s cpu sound handed r.past).base)
+        ],
+      )
     where
       far : (base b slot : ℕ) → 0x800000 ≤ base → b ≡ base + 0x20000 + slot * 0x10000 → b ≡ 0x30000 → ⊥
       far base b slot above e f = omega (arith, above, e, f)
@@ -315,7 +315,8 @@ row_arrived p k s q r x E5 sound from to other own = absurd (other refl)
 row_arrived p k s q r x E6 sound from to other own = absurd (other refl)
 row_arrived p k s q r x E7 sound from to other own = absurd (other refl)
 
-in_end : (ids : List ℕ) (a : ℕ) → is_in a (ids ++ a ∷ []) ≡ true
+-- places in lists
+pub in_end : (ids : List ℕ) (a : ℕ) → is_in a (ids ++ a ∷ []) ≡ true
 in_end [] a = let i = itself a in rw i refl
   where
     itself : (n : ℕ) → (n == n) ≡ true

@@ -1,5 +1,5 @@
 -- The laws on adds: what their outcomes show in their entries, and where an added processor is.
-use Rattle.std.proofs.Common.{ℕ, suc, ◌≡◌, ◌+◌, ◌≤◌, ◌==◌, ◌⊎◌, inl, inr, Bool, true, false, ◌&&◌, ◌||◌, not, cond, nat_le, List, [], ◌∷◌, ◌++◌, length, drop, replicate, filter, Option, Some, None, refl, sym, ap, subst, ◌∙◌, arith, if◌then◌else◌}
+use Rattle.std.proofs.Common.{ℕ, suc, ◌≡◌, ◌+◌, ◌≤◌, ◌==◌, ◌⊎◌, inl, inr, Bool, true, false, ◌||◌, not, cond, nat_le, List, [], ◌∷◌, ◌++◌, length, replicate, Option, Some, None, refl, sym, ap, subst, ◌∙◌, arith, if◌then◌else◌}
 use Rattle.std.specs.Str.{bytes_eq}
 use Rattle.std.proofs.lemmas.Bool.{and_from, and_parts, or_right}
 use Rattle.std.proofs.lemmas.Bool.Decides.{nat_tests}
@@ -9,23 +9,20 @@ use Rattle.hp_model.specs.declared.outcomes.Outcome.TheVariants as outcome
 use Rattle.hp_model.specs.declared.outcomes.Refusal.{Refusal}
 use Rattle.hp_model.specs.declared.outcomes.Refusal.TheVariants.{Foreign, Disabled, Both, AlreadyKnown, GateHeld, NoUnplug, NotKnown, NotArrived, NotAtGate, NotCheckedIn, NotParked, StillPending}
 use Rattle.hp_model.specs.declared.entries.Entry.{Entry}
-use Rattle.hp_model.specs.declared.labels.Label.TheVariants.{N7, N8a, N8b, N10, N11, T}
+use Rattle.hp_model.specs.declared.labels.Label.TheVariants.{T}
 use Rattle.hp_model.specs.Platform.{IsFit, counts_fit, ids_fit, boot_fits, memory_fits, tseg_fits, tiles_fit, features_fit, polls_fit, tile}
 use Rattle.hp_model.specs.Block.{is_in}
 use Rattle.hp_model.specs.SharedBytes.{layout_of}
 use Rattle.hp_model.specs.Slots.{place_of}
-use Rattle.hp_model.specs.Add.{Add}
-use Rattle.hp_model.specs.Monarch.{Monarch}
 use Rattle.hp_model.specs.Step.{State, at, start, same_outcome}
 use Rattle.hp_model.specs.Sessions.{is_disturbed}
 use Rattle.hp_model.specs.Runs.{run_on}
 use Rattle.hp_model.specs.Events.{outcome_in}
-use Rattle.hp_model.specs.Transitions.{Transition, transitions, entries_of, since, older_than}
-use Rattle.hp_model.specs.Account.{is_at, bound, with_bound}
-use Rattle.hp_model.specs.Outcomes.{Telling, telling, when_told, each_told, opens, values_at, reads_zeros, was_seen, was_let_in, has_slot, has_three_attempts, is_not_at_gate, is_not_checked_in, own_of, is_at_tile}
+use Rattle.hp_model.specs.Transitions.{Transition, transitions, entries_of}
+use Rattle.hp_model.specs.Account.{bound, with_bound}
+use Rattle.hp_model.specs.Outcomes.{Telling, telling, when_told, each_told, has_slot, is_not_at_gate, is_not_checked_in, is_at_tile}
 use Rattle.hp_model.proofs.AtEach.{made as step_made, each_passes}
 use Rattle.hp_sealed.specs.Left.{Sound}
-use Rattle.hp_sealed.specs.Sealed.{IsSealed}
 use Rattle.hp_sealed.specs.Booting.{IsBooted}
 use Rattle.hp_sealed.proofs.Same.{same_outcome-is}
 use Rattle.hp_sealed.proofs.Starts.{sound, starts}
@@ -41,11 +38,11 @@ use Rattle.hp_exact.specs.Adds.{refusals_in, shows_looks, entry_in, shows_entry,
 use Rattle.hp_exact.proofs.Naming.{ids_of}
 use Rattle.hp_exact.proofs.Invariant.{Invariant}
 use Rattle.hp_exact.proofs.Beginning.{Whole, whole_begins, whole_goes}
-use Rattle.hp_exact.proofs.AddingHome.{IsHome}
+use Rattle.hp_exact.proofs.AddingHome.{IsHome, in_end}
 use Rattle.hp_exact.proofs.Stood.{stood}
 use Rattle.hp_exact.proofs.Stepping.{AtMonarch, Kinds, by_kind}
 use Rattle.hp_exact.proofs.AddingTrail.{own, before, trail_of, own_entries, own_size}
-use Rattle.hp_exact.proofs.AddingRows.{Adds', Unseen, Unarrived, Told, ToldNot, AddAt}
+use Rattle.hp_exact.proofs.AddingRows.{Told, ToldNot, AddAt}
 use Rattle.hp_exact.proofs.Adding.{Shown, shown_on}
 
 -- lists are equal to themselves
@@ -57,14 +54,6 @@ eq_itself [] = refl
 eq_itself (x ∷ xs) = let i = itself x in rw i (eq_itself xs)
 
 -- places in lists
-in_end : (ids : List ℕ) (a : ℕ) → is_in a (ids ++ a ∷ []) ≡ true
-in_end [] a = let i = itself a in rw i refl
-in_end (x ∷ xs) a = by_head (x == a) (in_end xs a)
-  where
-    by_head : (c : Bool) → is_in a (xs ++ a ∷ []) ≡ true → (c || is_in a (xs ++ a ∷ [])) ≡ true
-    by_head true e = refl
-    by_head false e = e
-
 place_last : (ids : List ℕ) (a : ℕ) → is_in a ids ≡ false → place_of (ids ++ a ∷ []) a ≡ length ids
 place_last [] a e = let i = itself a in rw i refl
 place_last (x ∷ xs) a e = by_head (x == a) e (λ f. place_last xs a f)

@@ -1,8 +1,7 @@
 -- What ties the monarch's record of a running add to what the entries of its outcome show, label by label, and each row keeps it.
-use Rattle.std.proofs.Common.{ℕ, zero, suc, ◌≡◌, ◌+◌, ◌-◌, ◌≤◌, ◌==◌, ◌⊎◌, inl, inr, Bool, true, false, not, ◌&&◌, ◌||◌, nat_lt, nat_le, List, [], ◌∷◌, ◌++◌, length, drop, replicate, Option, Some, None, bit_and, refl, sym, ap, subst, ◌∙◌, arith, if◌then◌else◌}
+use Rattle.std.proofs.Common.{ℕ, suc, ◌≡◌, ◌+◌, ◌-◌, ◌≤◌, ◌==◌, ◌⊎◌, inl, inr, Bool, true, false, not, ◌||◌, nat_lt, nat_le, List, [], ◌∷◌, ◌++◌, length, drop, replicate, Option, Some, None, bit_and, refl, sym, ap, subst, ◌∙◌, arith, if◌then◌else◌}
 use Rattle.std.proofs.lemmas.Bool.{or_left, or_right, eqb-true}
 use Rattle.std.proofs.lemmas.Bool.Decides.{nat_tests}
-use Rattle.hp_model.specs.declared.platforms.Platform.{Platform}
 use Rattle.hp_model.specs.declared.outcomes.Outcome.{Outcome}
 use Rattle.hp_model.specs.declared.outcomes.Outcome.TheVariants as outcome
 use Rattle.hp_model.specs.declared.outcomes.Refusal.{Refusal}
@@ -13,15 +12,15 @@ use Rattle.hp_model.specs.Memory.{Write, byte_at}
 use Rattle.hp_model.specs.Block.{is_in}
 use Rattle.hp_model.specs.Labels.{Monarch as Monarchs, part_of, index_of}
 use Rattle.hp_model.specs.SharedBytes.{Layout, flag, arrived_byte}
-use Rattle.hp_model.specs.Slots.{known_from, place_of, with_slot, bind}
-use Rattle.hp_model.specs.Collection.{Report, Collection, CollectsAt, CollectedAll, next_processor, found, judged, reported, collection_start}
-use Rattle.hp_model.specs.Add.{Add, AddsAt, Ends, failed, looks, is_last_look, saw_flag, saw_pair, shut, saw_arrival}
-use Rattle.hp_model.specs.Eject.{EjectsAt, EjectEnds, awaits, saw_parked, handed_to_block, saw_status}
-use Rattle.hp_model.specs.Monarch.{Monarch, at_label, first_slot, next_slot, look_at, looked, noted, commanded, Class, Tells, Adds, Ejects, refuses, Facts as Tests, held_class, insert_class, eject_class, class, facts_of as facts_by, tells, took, answered, taken_up, next_report, collected, led, eject_led, told}
+use Rattle.hp_model.specs.Slots.{known_from, place_of, bind}
+use Rattle.hp_model.specs.Collection.{Report, Collection, CollectsAt, CollectedAll, next_processor, found, judged, collection_start}
+use Rattle.hp_model.specs.Add.{Add, AddsAt, Ends, looks, is_last_look, saw_flag, saw_pair, shut, saw_arrival}
+use Rattle.hp_model.specs.Eject.{EjectsAt, awaits}
+use Rattle.hp_model.specs.Monarch.{Monarch, at_label, look_at, noted, Class, Tells, Adds, Ejects, refuses, Facts as Tests, held_class, insert_class, eject_class, class, facts_of as facts_by, took, answered, taken_up, next_report, collected, led, eject_led, told}
 use Rattle.hp_model.specs.Account.{with_bound}
 use Rattle.hp_model.specs.Handlers.{Seat, next_at}
 use Rattle.hp_sealed.proofs.Left.{pick, pick_by}
-use Rattle.hp_safety.proofs.Needs.{Nothing, need_of, IsSlot, Facts as Facts', MonarchNeeds}
+use Rattle.hp_safety.proofs.Needs.{Nothing, need_of, IsSlot, Facts as Needed, MonarchNeeds}
 use Rattle.hp_safety.proofs.Ties.{Session, TiedAt, tie_of}
 use Rattle.hp_exact.proofs.Monarchs.{is_among, adding, adds_on}
 use Rattle.hp_exact.proofs.AddingTrail.{Trail, no_trail, trail_after}
@@ -52,7 +51,7 @@ abbrev pub was_one : Trail → Bool
 was_one t = is_in 1 t.flags || is_in 1 t.pairs
 
 -- what an outcome of the add says
-pub record Adds' (t : Trail) (old now : List ℕ) (home : ℕ → ℕ → Type 0) (add : Add) (cpu apic slot : ℕ) : Type 0 where
+pub record CompleteAdd (t : Trail) (old now : List ℕ) (home : ℕ → ℕ → Type 0) (add : Add) (cpu apic slot : ℕ) : Type 0 where
   pub same_cpu : cpu ≡ add.cpu
   pub same_apic : apic ≡ add.apic
   pub same_slot : slot ≡ add.slot
@@ -89,7 +88,7 @@ ToldNot polls t a (Foreign cpu apic) = Unit {0}
 ToldNot polls t a (StillPending cpu status) = Unit {0}
 
 abbrev pub Told : ℕ → Trail → List ℕ → List ℕ → (ℕ → ℕ → Type 0) → Add → Outcome → Type 0
-Told polls t old now home a (outcome.Added cpu apic slot) = Adds' t old now home a cpu apic slot
+Told polls t old now home a (outcome.Added cpu apic slot) = CompleteAdd t old now home a cpu apic slot
 Told polls t old now home a (outcome.Ejected cpu apic slot) = Unit {0}
 Told polls t old now home a (outcome.Refused why) = ToldNot polls t a why
 
@@ -615,7 +614,7 @@ ending_bound B S r E6 mine e h = absurd cc
 ending_bound B S r E7 mine e h = absurd cc
 
 -- while an add runs its slot is one that a processor may get
-pub adding_slot : (f : Facts') (l : Label) → is_among l adding ≡ true → MonarchNeeds f (need_of l) → IsSlot f.count f.slot
+pub adding_slot : (f : Needed) (l : Label) → is_among l adding ≡ true → MonarchNeeds f (need_of l) → IsSlot f.count f.slot
 adding_slot f F1 e h = absurd cc
 adding_slot f F2 e h = absurd cc
 adding_slot f F3 e h = absurd cc

@@ -1,20 +1,19 @@
 -- What the entries of an outcome show of an add, and what one entry more makes of it.
-use Rattle.std.proofs.Common.{ℕ, zero, suc, ◌≡◌, ◌+◌, ◌-◌, ◌==◌, Bool, true, false, ◌&&◌, ◌||◌, List, [], ◌∷◌, ◌++◌, length, map, filter, replicate, drop, Option, Some, None, option_and_then, refl, sym, ap, ◌∙◌, arith, if◌then◌else◌}
+use Rattle.std.proofs.Common.{ℕ, suc, ◌≡◌, ◌+◌, ◌==◌, Bool, true, false, ◌&&◌, ◌||◌, List, [], ◌∷◌, length, filter, drop, Some, None, refl, sym, ap, ◌∙◌, arith, if◌then◌else◌}
 use Rattle.std.specs.List.{list_any}
 use Rattle.hp_model.specs.declared.platforms.Platform.{Platform}
 use Rattle.hp_model.specs.declared.labels.Label.{Label}
-use Rattle.hp_model.specs.declared.labels.Label.TheVariants.{C1, C2, C3, C4, C5, C6, N7, N8a, N8b, N9, N10, N11}
+use Rattle.hp_model.specs.declared.labels.Label.TheVariants.{N7, N8a, N8b, N9, N10, N11}
 use Rattle.hp_model.specs.declared.entries.Entry.{Entry}
 use Rattle.hp_model.specs.Boot.{value_in}
 use Rattle.hp_model.specs.Block.{is_in}
 use Rattle.hp_model.specs.Labels.{Monarch as Monarchs, part_of, index_of}
-use Rattle.hp_model.specs.Events.{outcome_in, is_access_of}
+use Rattle.hp_model.specs.Events.{is_access_of}
 use Rattle.hp_model.specs.Transitions.{Transition, entries_of, since, older_than, newest}
-use Rattle.hp_model.specs.Account.{is_at, opened_for, bound}
-use Rattle.hp_model.specs.Sessions.{bounds_session, tells, collects, ends_outcome}
+use Rattle.hp_model.specs.Account.{is_at}
+use Rattle.hp_model.specs.Sessions.{ends_outcome}
 use Rattle.hp_model.specs.Outcomes.{own_of, values_at, opens, is_last_look, was_seen}
-use Rattle.hp_safety.proofs.Ties.{bound_more}
-use Rattle.hp_safety.proofs.Backward.{newest_it, newest_other, older_it, older_other, since_it, since_other, bound_step}
+use Rattle.hp_safety.proofs.Backward.{newest_it, newest_other, older_it, older_other, since_it, since_other}
 
 -- the entries of the running outcome, and those before them
 abbrev pub own : Platform → List Entry → List Entry

@@ -1,5 +1,5 @@
 -- What is shown of adds: each outcome of one, and the parts of this.
-use Rattle.std.specs.Prelude.{ℕ, Bool, true, ◌&&◌, ◌||◌, length, drop}
+use Rattle.std.specs.Prelude.{Bool, true, ◌||◌, length, drop}
 use Rattle.hp_model.specs.declared.platforms.Platform.{Platform}
 use Rattle.hp_model.specs.declared.outcomes.Outcome.{Outcome}
 use Rattle.hp_model.specs.declared.outcomes.Outcome.TheVariants.{Added, Ejected, Refused}

@@ -10,4 +10,8 @@ pub use laws::{
 };
 pub use adds::{added_processors_have_their_slots, added_processors_were_let_in, refused_adds_show_their_looks};
 pub use adds::{added_processors_are_present, added_processors_have_their_slots, added_processors_were_let_in, adds_show, refused_adds_show_their_looks};
+pub use adds::{
+    added_processors_are_present, added_processors_have_their_slots, added_processors_were_let_in,
+    adds_show, refused_adds_show_their_looks,
+};
 pub use laws::{outcomes_lose_none, refusals_blame_rightly, reports_are_true, sessions_are_quiet};
