@@ -30,3 +30,6 @@ pub mod AddingBytes
 pub mod AddingHome
 pub mod Adding
 pub mod AddingLaw
+pub mod Ejecting
+pub mod EjectReads
+pub mod EjectTold

@@ -8,6 +8,7 @@ ghost use Rattle.hp_model.specs.Transitions.{transitions, at_each};
 ghost use Rattle.hp_model.specs.Outcomes.{each_told, loses_none};
 ghost use Rattle.hp_model.specs.Exact.{is_quiet, reports_truly};
 ghost use Rattle.hp_exact.specs.Refusals.{blames_rightly, pends_rightly};
+ghost use Rattle.hp_exact.specs.Ejects.{refused_shows};
 
 /// Under prompt delivery no processor outside SMM makes an access or takes INIT while a session has all others called in, which is
 /// from its entry at S2 to its entry at E5, or to its end. So no session is disturbed.
@@ -34,4 +35,8 @@ pub fn refusals_blame_rightly()
 /// An eject that is told as still pending was looked at in its entries: an E4g read the status byte that is told, with bit 4 set.
 pub fn pending_ejects_were_seen()
     ensures { (p : Platform) (es : List Entry) → IsFit p → each_told p (pends_rightly p) (transitions p es) ≡ true }
+/// A refusal of an eject shows in the entries of its outcome: `NotParked` in P looks at the parked byte, each of which read 0. `Foreign`
+/// and `StillPending` are told in disturbed sessions alone, and the status of `StillPending` was read, with bit 4.
+pub fn refused_ejects_show()
+    ensures { (p : Platform) (es : List Entry) → IsFit p → each_told p (refused_shows p) (transitions p es) ≡ true }
 {}

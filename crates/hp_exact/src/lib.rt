@@ -15,3 +15,4 @@ pub use adds::{
     adds_show, refused_adds_show_their_looks,
 };
 pub use laws::{outcomes_lose_none, refusals_blame_rightly, reports_are_true, sessions_are_quiet};
+pub use laws::{outcomes_lose_none, refused_ejects_show, reports_are_true, sessions_are_quiet};
