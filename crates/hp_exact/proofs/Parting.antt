@@ -1,0 +1,281 @@
+-- Ejects: the eject's processor has a slot, has parked in its tile before it is ejected, and it alone leaves. What each label's record says, and where rows lead.
+use Rattle.std.proofs.Common.{ℕ, ◌≡◌, ◌+◌, ◌-◌, ◌<◌, ◌==◌, Bool, true, false, not, ◌&&◌, ◌||◌, nat_lt, nat_le, List, [], ◌∷◌, ◌++◌, length, drop, Option, Some, None, bit_and, refl, sym, ap, subst, ◌∙◌, arith}
+use Rattle.std.proofs.lemmas.Bool.{and_from}
+use Rattle.std.proofs.lemmas.Bool.Decides.{nat_tests}
+use Rattle.hp_model.specs.declared.platforms.Platform.{Platform}
+use Rattle.hp_model.specs.declared.processors.Cpu.{Cpu}
+use Rattle.hp_model.specs.declared.labels.Label.{Label}
+use Rattle.hp_model.specs.declared.labels.Label.TheVariants.{F1, F2, F3, F4, F5, F6, R1, R2, R3, R4, R5, R6, S0, S1, S2, S3, S4, C1, C2, C3, C4, C5, C6, NB, N0, N1, N2, N3, N4, N5, N6, N7, N8a, N8b, N9, N10, N11, E0, E1, E2, E3, E4a, E4b, E4c, E4d, E4e, E4f, E4g, E4h, T, E5, E6, E7}
+use Rattle.hp_model.specs.declared.outcomes.Outcome.{Outcome}
+use Rattle.hp_model.specs.declared.outcomes.Outcome.TheVariants.{Added, Ejected, Refused}
+use Rattle.hp_model.specs.declared.outcomes.Refusal.{Refusal}
+use Rattle.hp_model.specs.declared.outcomes.Refusal.TheVariants.{NotAtGate, NotCheckedIn}
+use Rattle.hp_model.specs.Platform.{count_of, apic_of, tile, is_late}
+use Rattle.hp_model.specs.Memory.{Write, byte_at}
+use Rattle.hp_model.specs.Cpu.{cpu_at, smm_address}
+use Rattle.hp_model.specs.Block.{is_in}
+use Rattle.hp_model.specs.Labels.{Monarch as Monarchs, part_of}
+use Rattle.hp_model.specs.SharedBytes.{layout_of, parked_byte}
+use Rattle.hp_model.specs.Slots.{place_of, known_from, is_known}
+use Rattle.hp_model.specs.Collection.{Report, Collection, Collected, CollectsAt, CollectedAll, collection_start, next_processor}
+use Rattle.hp_model.specs.Add.{Led, AddsAt, Ends, failed, is_last_look}
+use Rattle.hp_model.specs.Eject.{EjectLed, EjectsAt, EjectEnds}
+use Rattle.hp_model.specs.Monarch.{Monarch, Facts, Class, Tells, Adds, Ejects, class, held_class, facts_of, at_label, look_at, noted, tells, adds, ejects, took, answered, taken_up, next_report, collected, told, led, eject_led}
+use Rattle.hp_model.specs.Handlers.{Seat, next_at, address_of_label}
+use Rattle.hp_model.specs.Transitions.{Transition}
+use Rattle.hp_model.specs.Outcomes.{departures, is_eject_of, is_only}
+use Rattle.hp_sealed.specs.Sealed.{Placed}
+use Rattle.hp_sealed.proofs.Left.{pick, pick_by}
+use Rattle.hp_safety.proofs.FactRows.{known_out}
+use Rattle.hp_exact.proofs.Monarchs.{is_among}
+use Rattle.hp_exact.proofs.Naming.{own_is}
+
+-- the labels of a processor that stays in its tile
+abbrev pub looping : List Label
+looping = R1 ∷ R2 ∷ R3 ∷ R6 ∷ []
+
+-- a processor stays in the tile of a slot
+pub record Parked (p : Platform) (slot : ℕ) (c : Cpu) : Type 0 where
+  pub present : c.present ≡ true
+  pub smbase : c.smbase ≡ tile p slot
+  pub label : Label
+  pub loops : is_among label looping ≡ true
+  pub place : smm_address c ≡ Some (address_of_label (tile p slot) label)
+
+-- the running eject is of a processor with this APIC ID, and this is its slot
+pub record Seated (p : Platform) (r : Monarch) : Type 0 where
+  pub own : apic_of p r.eject.cpu ≡ r.eject.apic
+  pub less : r.eject.cpu < count_of p
+  pub bound : is_in r.eject.apic r.slots.bound ≡ true
+  pub place : place_of r.slots.bound r.eject.apic ≡ r.eject.slot
+
+-- while its parked byte is looked at: once it is 1, the processor stays in its tile
+abbrev pub Waits : Platform → Bool → List Cpu → List Write → Monarch → Type 0
+Waits p d cs ws r = d ≡ false → byte_at ws (parked_byte (layout_of p) r.eject.slot) ≡ 1 → Parked p r.eject.slot (cpu_at cs r.eject.cpu)
+
+-- it alone has left
+abbrev pub Alone : Platform → List Transition → Bool → Monarch → Type 0
+Alone p own d r = d ≡ false → is_only (is_eject_of p r.eject.cpu r.eject.slot) (departures p own) ≡ true
+
+-- what is told of an eject
+abbrev pub Gone : Platform → List Transition → Bool → Monarch → Outcome → Type 0
+Gone p own d r (Added cpu apic slot) = Unit {0}
+Gone p own d r (Ejected cpu apic slot) = ((is_in apic r.slots.bound && (place_of r.slots.bound apic == slot)) ≡ true) × (d ≡ false → is_only (is_eject_of p cpu slot) (departures p own) ≡ true)
+Gone p own d r (Refused why) = Unit {0}
+
+-- by the label at which the monarch stands
+abbrev pub PartsAt : Platform → List Transition → Bool → List Cpu → List Write → Monarch → Label → Type 0
+PartsAt p own d cs ws r F1 = Unit {0}
+PartsAt p own d cs ws r F2 = Unit {0}
+PartsAt p own d cs ws r F3 = Unit {0}
+PartsAt p own d cs ws r F4 = Unit {0}
+PartsAt p own d cs ws r F5 = Unit {0}
+PartsAt p own d cs ws r F6 = Unit {0}
+PartsAt p own d cs ws r R1 = Unit {0}
+PartsAt p own d cs ws r R2 = Unit {0}
+PartsAt p own d cs ws r R3 = Unit {0}
+PartsAt p own d cs ws r R4 = Unit {0}
+PartsAt p own d cs ws r R5 = Unit {0}
+PartsAt p own d cs ws r R6 = Unit {0}
+PartsAt p own d cs ws r S0 = Unit {0}
+PartsAt p own d cs ws r S1 = Unit {0}
+PartsAt p own d cs ws r S2 = Unit {0}
+PartsAt p own d cs ws r S3 = Unit {0}
+PartsAt p own d cs ws r S4 = Unit {0}
+PartsAt p own d cs ws r C1 = Unit {0}
+PartsAt p own d cs ws r C2 = Unit {0}
+PartsAt p own d cs ws r C3 = Unit {0}
+PartsAt p own d cs ws r C4 = Unit {0}
+PartsAt p own d cs ws r C5 = Unit {0}
+PartsAt p own d cs ws r C6 = Unit {0}
+PartsAt p own d cs ws r NB = Unit {0}
+PartsAt p own d cs ws r N0 = Unit {0}
+PartsAt p own d cs ws r N1 = Unit {0}
+PartsAt p own d cs ws r N2 = Unit {0}
+PartsAt p own d cs ws r N3 = Unit {0}
+PartsAt p own d cs ws r N4 = Unit {0}
+PartsAt p own d cs ws r N5 = Unit {0}
+PartsAt p own d cs ws r N6 = Unit {0}
+PartsAt p own d cs ws r N7 = Unit {0}
+PartsAt p own d cs ws r N8a = Unit {0}
+PartsAt p own d cs ws r N8b = Unit {0}
+PartsAt p own d cs ws r N9 = Unit {0}
+PartsAt p own d cs ws r N10 = Unit {0}
+PartsAt p own d cs ws r N11 = Unit {0}
+PartsAt p own d cs ws r E0 = Seated p r
+PartsAt p own d cs ws r E1 = Seated p r × Waits p d cs ws r
+PartsAt p own d cs ws r E2 = Seated p r × Waits p d cs ws r
+PartsAt p own d cs ws r E3 = Unit {0}
+PartsAt p own d cs ws r E4a = Seated p r × (d ≡ false → Parked p r.eject.slot (cpu_at cs r.eject.cpu))
+PartsAt p own d cs ws r E4b = Seated p r × (d ≡ false → Parked p r.eject.slot (cpu_at cs r.eject.cpu))
+PartsAt p own d cs ws r E4c = Seated p r × Alone p own d r
+PartsAt p own d cs ws r E4d = Seated p r × Alone p own d r
+PartsAt p own d cs ws r E4e = Seated p r × Alone p own d r
+PartsAt p own d cs ws r E4f = Seated p r × Alone p own d r
+PartsAt p own d cs ws r E4g = Seated p r × Alone p own d r
+PartsAt p own d cs ws r E4h = Unit {0}
+PartsAt p own d cs ws r T = Gone p own d r r.outcome
+PartsAt p own d cs ws r E5 = Unit {0}
+PartsAt p own d cs ws r E6 = Unit {0}
+PartsAt p own d cs ws r E7 = Unit {0}
+
+-- a class begins an eject of a processor's own report, of a known APIC ID, and tells refusals alone
+abbrev Begins : Facts → Class → Type 0
+Begins f (Tells (Added cpu apic slot)) = ⊥
+Begins f (Tells (Ejected cpu apic slot)) = ⊥
+Begins f (Tells (Refused why)) = Unit {0}
+Begins f Adds = Unit {0}
+Begins f Ejects = (f.own ≡ true) × (f.known ≡ true)
+
+class_begins : (f : Facts) (t : Report) → Begins f (class f t)
+class_begins f t =
+    let g = Begins f in
+    pick_by g (not f.own) _ _ (λ _. tt)
+    (λ own. pick g (not (bit_and t.status 1 == 1)) _ _ tt
+    (pick g (bit_and t.status 0x12 == 0x12) _ _ tt
+    (pick g (bit_and t.status 2 == 2) _ _ (pick g f.known _ _ tt (by_held f.held))
+    (pick g (not (bit_and f.features 4 == 4)) _ _ tt (pick_by g (not f.known) _ _ (λ _. tt) (λ known. pick g (f.look == 0) _ _ tt (holds f.own own, holds f.known known)))))))
+  where
+    holds : (b : Bool) → not b ≡ false → b ≡ true
+    holds true e = refl
+    holds false e = absurd cc
+
+    by_held : (o : Option ℕ) → Begins f (held_class o t)
+    by_held None = tt
+    by_held (Some a) = pick (Begins f) (a == t.apic) _ _ tt tt
+
+module _ (p : Platform) (own : List Transition) (d : Bool) (cs : List Cpu) (ws : List Write) where
+  abbrev Then : Monarch → Type 0
+  Then m = Placed p m.slots → PartsAt p own d cs ws m m.label
+
+  parts_look : (polls : ℕ) (k : Option ℕ) (r : Monarch) → Then (look_at polls k r)
+  parts_look polls (Some slot) r = λ placed. tt
+  parts_look polls None r = λ placed. tt
+
+  -- the next report
+  parts_next : (r : Monarch) → Then (next_report p.apic r)
+  parts_next r = by_reports (drop r.taken r.collection.reports)
+    where
+      seated : (t : Report) → (facts_of p.apic r t).own ≡ true → (facts_of p.apic r t).known ≡ true → Placed p r.slots → Seated p (ejects t (took r))
+      seated t own known placed = let o = own_is p t own in record { own = o.apic; less = o.less; bound = by_test (is_in t.apic r.slots.bound) refl; place = refl }
+        where
+          by_test : (b : Bool) → is_in t.apic r.slots.bound ≡ b → is_in t.apic r.slots.bound ≡ true
+          by_test true is = is
+          by_test false is = absurd (let none = known_out p r.slots t.apic placed is in let both : true ≡ false = sym known ∙ none in cc)
+
+      by_class : (t : Report) (c : Class) → Begins (facts_of p.apic r t) c → Then (answered c t (took r))
+      by_class t (Tells (Added cpu apic slot)) h = absurd h
+      by_class t (Tells (Ejected cpu apic slot)) h = absurd h
+      by_class t (Tells (Refused why)) h = λ placed. tt
+      by_class t Adds h = λ placed. tt
+      by_class t Ejects h = seated t h.0 h.1
+
+      by_reports : (xs : List Report) → Then (taken_up p.apic xs r)
+      by_reports [] = λ placed. tt
+      by_reports (t ∷ ts) = by_class t (class (facts_of p.apic r t) t) (class_begins (facts_of p.apic r t) t)
+
+  abbrev Collects : Monarch → Collected → Type 0
+  Collects r w = Then (collected p.apic w r)
+
+  parts_processor : (n : ℕ) (r : Monarch) (c : Collection) → Collects r (next_processor n c)
+  parts_processor n r c = pick (Collects r) (nat_lt (c.cpu + 1) n) (CollectsAt C1 (record c { cpu = c.cpu + 1 })) (CollectedAll (record c { cpu = c.cpu + 1 })) (λ placed. tt) (parts_next (record r { collection = record c { cpu = c.cpu + 1 } }))
+
+  abbrev Leads : Monarch → List ℕ → Led → Type 0
+  Leads r last w = Then (led w (record r { last = last }))
+
+  parts_failed : (r : Monarch) (last : List ℕ) (why : Refusal) → Leads r last (failed (Refused why) r.add)
+  parts_failed r last why = pick (Leads r last) (nat_lt r.add.attempt 3) _ (Ends (Refused why)) (λ placed. tt) (λ placed. tt)
+
+-- what a row does: with own2, d2, cs2 and ws2 after it
+pub record Does (p : Platform) (own own2 : List Transition) (d d2 : Bool) (cs cs2 : List Cpu) (ws ws2 : List Write) (r : Monarch) (l : Label) (v : ℕ) : Type 0 where
+  pub still : is_among l (E1 ∷ E2 ∷ E4a ∷ []) ≡ true → d2 ≡ false → Parked p r.eject.slot (cpu_at cs r.eject.cpu) → Parked p r.eject.slot (cpu_at cs2 r.eject.cpu)
+  pub zeroed : l ≡ E0 → byte_at ws2 (parked_byte (layout_of p) r.eject.slot) ≡ 0
+  pub same : is_among l (E1 ∷ E2 ∷ []) ≡ true → byte_at ws2 (parked_byte (layout_of p) r.eject.slot) ≡ byte_at ws (parked_byte (layout_of p) r.eject.slot)
+  pub sees : l ≡ E2 → v ≡ 1 → byte_at ws (parked_byte (layout_of p) r.eject.slot) ≡ 1
+  pub on : is_among l (E4c ∷ E4d ∷ E4e ∷ E4f ∷ E4g ∷ []) ≡ true → d2 ≡ false → departures p own2 ≡ departures p own
+  pub leaves : l ≡ E4b → d2 ≡ false → Seated p r → Parked p r.eject.slot (cpu_at cs r.eject.cpu) → is_only (is_eject_of p r.eject.cpu r.eject.slot) (departures p own2) ≡ true
+  pub quiet : is_among l (E1 ∷ E2 ∷ E4a ∷ E4b ∷ E4c ∷ E4d ∷ E4e ∷ E4f ∷ E4g ∷ []) ≡ true → d2 ≡ false → d ≡ false
+
+one_is : (v : ℕ) → (v == 1) ≡ true → v ≡ 1
+one_is v e = grind (arith, nat_tests)
+
+same_number : (m n : ℕ) → m ≡ n → (m == n) ≡ true
+same_number m n e = grind (arith, nat_tests)
+
+module _ (p : Platform) (own own2 : List Transition) (d d2 : Bool) (cs cs2 : List Cpu) (ws ws2 : List Write) (q : Seat) (r : Monarch) (v : ℕ) (before : PartsAt p own d cs ws r r.label) where
+  abbrev Now : Monarch → Type 0
+  Now m = Placed p m.slots → PartsAt p own2 d2 cs2 ws2 m m.label
+
+  -- what is said at its label
+  here : (l : Label) → r.label ≡ l → PartsAt p own d cs ws r l
+  here l is = subst (PartsAt p own d cs ws r) is before
+
+  alone : (l : Label) → Does p own own2 d d2 cs cs2 ws ws2 r l v → is_among l (E1 ∷ E2 ∷ E4a ∷ E4b ∷ E4c ∷ E4d ∷ E4e ∷ E4f ∷ E4g ∷ []) ≡ true → is_among l (E4c ∷ E4d ∷ E4e ∷ E4f ∷ E4g ∷ []) ≡ true → Alone p own d r → Alone p own2 d2 r
+  alone l does mine late h calm = subst (λ xs. is_only (is_eject_of p r.eject.cpu r.eject.slot) xs ≡ true) (sym (does.on late calm)) (h (does.quiet mine calm))
+
+  waits : (l : Label) → Does p own own2 d d2 cs cs2 ws ws2 r l v → is_among l (E1 ∷ E2 ∷ E4a ∷ E4b ∷ E4c ∷ E4d ∷ E4e ∷ E4f ∷ E4g ∷ []) ≡ true → is_among l (E1 ∷ E2 ∷ []) ≡ true → is_among l (E1 ∷ E2 ∷ E4a ∷ []) ≡ true → Waits p d cs ws r → Waits p d2 cs2 ws2 r
+  waits l does mine early may h calm one = does.still may calm (h (does.quiet mine calm) (sym (does.same early) ∙ one))
+
+  -- its fields are the same
+  seated_as : (m : Monarch) → m.slots ≡ r.slots → m.eject.cpu ≡ r.eject.cpu → m.eject.apic ≡ r.eject.apic → m.eject.slot ≡ r.eject.slot → Seated p r → Seated p m
+  seated_as m a b c e h = record { own = ap (apic_of p) b ∙ (h.own ∙ sym c); less = subst (λ k. k < count_of p) (sym b) h.less; bound = rw (a, c) h.bound; place = rw (a, c, e) h.place }
+
+  pub parts_row : (l : Label) → part_of l ≡ Monarchs → r.label ≡ l → Does p own own2 d d2 cs cs2 ws ws2 r l v → Now (next_at (layout_of p) q r l v).monarch
+  parts_row F1 mine is does = absurd cc
+  parts_row F2 mine is does = absurd cc
+  parts_row F3 mine is does = absurd cc
+  parts_row F4 mine is does = absurd cc
+  parts_row F5 mine is does = absurd cc
+  parts_row F6 mine is does = absurd cc
+  parts_row R1 mine is does = absurd cc
+  parts_row R2 mine is does = absurd cc
+  parts_row R3 mine is does = absurd cc
+  parts_row R4 mine is does = absurd cc
+  parts_row R5 mine is does = absurd cc
+  parts_row R6 mine is does = absurd cc
+  parts_row S0 mine is does = pick Now (nat_lt 1 (length r.slots.bound)) (record r { label = S1; slot = 1 }) (at_label S2 r) (λ placed. tt) (λ placed. tt)
+  parts_row S1 mine is does = pick Now (nat_lt (r.slot + 1) (length r.slots.bound)) (record r { label = S1; slot = r.slot + 1 }) (at_label S2 r) (λ placed. tt) (λ placed. tt)
+  parts_row S2 mine is does = parts_look p own2 d2 cs2 ws2 p.polls (known_from r.slots 1) r
+  parts_row S3 mine is does = pick Now ((v == 1) || nat_le r.polls 1) _ _ (parts_look p own2 d2 cs2 ws2 p.polls (known_from r.slots (r.slot + 1)) (noted r.slot v r)) (λ placed. subst (λ m. PartsAt p own2 d2 cs2 ws2 (record r { polls = r.polls - 1; last = (noted r.slot v r).last }) m) (sym is) tt)
+  parts_row S4 mine is does = pick Now (v == 4) (record r { label = C1; collection = collection_start; taken = 0 }) (at_label E5 r) (λ placed. tt) (λ placed. tt)
+  parts_row C1 mine is does = λ placed. tt
+  parts_row C2 mine is does = λ placed. tt
+  parts_row C3 mine is does = pick (λ w. Now (collected p.apic w r)) (nat_lt v r.collection.cpu || not (nat_lt v (count_of p))) (CollectedAll r.collection) (CollectsAt C4 (record r.collection { cpu = v })) (parts_next p own2 d2 cs2 ws2 (record r { collection = r.collection })) (λ placed. tt)
+  parts_row C4 mine is does = pick (λ w. Now (collected p.apic w r)) (bit_and v 0x12 == 0) (next_processor (count_of p) r.collection) (CollectsAt C5 (record r.collection { status = v })) (parts_processor p own2 d2 cs2 ws2 (count_of p) r r.collection) (λ placed. tt)
+  parts_row C5 mine is does = λ placed. tt
+  parts_row C6 mine is does = parts_processor p own2 d2 cs2 ws2 (count_of p) r (record r.collection { reports = r.collection.reports ++ record { cpu = r.collection.cpu; status = r.collection.status; apic = v } ∷ [] })
+  parts_row NB mine is does = λ placed. tt
+  parts_row N0 mine is does = λ placed. tt
+  parts_row N1 mine is does = λ placed. tt
+  parts_row N2 mine is does = λ placed. tt
+  parts_row N3 mine is does = λ placed. tt
+  parts_row N4 mine is does = λ placed. tt
+  parts_row N5 mine is does = λ placed. tt
+  parts_row N6 mine is does = λ placed. tt
+  parts_row N7 mine is does = λ placed. tt
+  parts_row N8a mine is does = pick (λ w. Now (led w r)) (v == 1) _ _ (λ placed. tt) (λ placed. tt)
+  parts_row N8b mine is does = pick (λ w. Now (led w (noted r.add.slot v r))) (v == 1) _ _ (λ placed. tt) (pick (λ w. Now (led w (noted r.add.slot v r))) (is_last_look r.add) _ _ (λ placed. tt) (λ placed. tt))
+  parts_row N9 mine is does = pick (λ w. Now (led w r)) r.add.seen _ _ (λ placed. tt) (parts_failed p own2 d2 cs2 ws2 r r.last (NotAtGate r.add.cpu r.add.apic))
+  parts_row N10 mine is does = λ placed. tt
+  parts_row N11 mine is does = pick (λ w. Now (led w (noted r.add.slot v r))) (v == 1) _ _ (λ placed. tt) (pick (λ w. Now (led w (noted r.add.slot v r))) (is_last_look r.add) _ _ (parts_failed p own2 d2 cs2 ws2 r (noted r.add.slot v r).last (NotCheckedIn r.add.cpu r.add.apic)) (λ placed. tt))
+  parts_row E0 mine is does = λ placed. (seated_as (at_label E1 r) refl refl refl refl (here E0 is), λ calm one. absurd (let z = does.zeroed refl in let both : 0 ≡ 1 = sym z ∙ one in cc))
+  parts_row E1 mine is does = λ placed. (seated_as (next_at (layout_of p) q r E1 v).monarch refl refl refl refl (here E1 is).0, waits E1 does refl refl refl (here E1 is).1)
+  parts_row E2 mine is does = pick_by (λ w. Now (eject_led w r)) (v == 1) (EjectsAt E4a r.eject) _
+      (λ one placed. (seated_as (record r { label = E4a; eject = r.eject }) refl refl refl refl (here E2 is).0, λ calm. does.still refl calm ((here E2 is).1 (does.quiet refl calm) (does.sees refl (one_is v one)))))
+      (λ _. pick (λ w. Now (eject_led w r)) (nat_le r.eject.polls 1) (EjectsAt E3 r.eject) (EjectsAt E2 (record r.eject { polls = r.eject.polls - 1 })) (λ placed. tt)
+      (λ placed. (seated_as (record r { label = E2; eject = record r.eject { polls = r.eject.polls - 1 } }) refl refl refl refl (here E2 is).0, waits E2 does refl refl refl (here E2 is).1)))
+  parts_row E3 mine is does = λ placed. tt
+  parts_row E4a mine is does = λ placed. (seated_as (at_label E4b r) refl refl refl refl (here E4a is).0, λ calm. does.still refl calm ((here E4a is).1 (does.quiet refl calm)))
+  parts_row E4b mine is does = let h = here E4b is in
+      let gone : Alone p own2 d2 r = λ calm. does.leaves refl calm h.0 (h.1 (does.quiet refl calm)) in
+      pick (λ m. Now (at_label m r)) (is_late p.delivery) E4f E4c (λ placed. (seated_as (at_label E4f r) refl refl refl refl h.0, gone)) (λ placed. (seated_as (at_label E4c r) refl refl refl refl h.0, gone))
+  parts_row E4c mine is does = λ placed. (seated_as (at_label E4d r) refl refl refl refl (here E4c is).0, alone E4c does refl refl (here E4c is).1)
+  parts_row E4d mine is does = λ placed. (seated_as (at_label E4e r) refl refl refl refl (here E4d is).0, alone E4d does refl refl (here E4d is).1)
+  parts_row E4e mine is does = let h = here E4e is in λ placed. (and_from (is_in r.eject.apic r.slots.bound) (place_of r.slots.bound r.eject.apic == r.eject.slot) h.0.bound (same_number (place_of r.slots.bound r.eject.apic) r.eject.slot h.0.place), alone E4e does refl refl h.1)
+  parts_row E4f mine is does = λ placed. (seated_as (at_label E4g r) refl refl refl refl (here E4f is).0, alone E4f does refl refl (here E4f is).1)
+  parts_row E4g mine is does = pick (λ w. Now (eject_led w r)) (bit_and v 0x10 == 0x10) (EjectsAt E4h (record r.eject { status = v })) (EjectsAt E4c r.eject) (λ placed. tt) (λ placed. (seated_as (record r { label = E4c; eject = r.eject }) refl refl refl refl (here E4g is).0, alone E4g does refl refl (here E4g is).1))
+  parts_row E4h mine is does = λ placed. tt
+  parts_row T mine is does = parts_next p own2 d2 cs2 ws2 (told r.outcome r)
+  parts_row E5 mine is does = pick Now (nat_lt 1 (length r.slots.bound)) (record r { label = E6; slot = 1 }) (at_label E7 r) (λ placed. tt) (λ placed. tt)
+  parts_row E6 mine is does = pick Now (nat_lt (r.slot + 1) (length r.slots.bound)) (record r { label = E6; slot = r.slot + 1 }) (at_label E7 r) (λ placed. tt) (λ placed. tt)
+  parts_row E7 mine is does = λ placed. subst (PartsAt p own2 d2 cs2 ws2 r) (sym is) tt
