@@ -33,3 +33,5 @@ pub mod AddingLaw
 pub mod Ejecting
 pub mod EjectReads
 pub mod EjectTold
+pub mod Parting
+pub mod PartSteps

@@ -1,0 +1,1112 @@
+-- An eject's processor has parked in its tile before it is ejected, and it alone leaves: over each kind of step.
+use Rattle.std.proofs.Common.{ℕ, zero, suc, ◌≡◌, ◌≢◌, ◌+◌, ◌-◌, ◌*◌, ◌<◌, ◌≤◌, ◌==◌, ◌⊎◌, inl, inr, Bool, true, false, cond, not, ◌&&◌, ◌||◌, nat_lt, nat_le, List, [], ◌∷◌, ◌++◌, length, map, slice_set, Option, Some, None, refl, sym, ap, subst, ◌∙◌, arith, get_or-set_other}
+use Rattle.std.specs.Prelude.{slice_index_or, filter}
+use Rattle.std.proofs.lemmas.Bool.{and_parts, and_from, ltb-true, eqb-true}
+use Rattle.std.proofs.lemmas.Bool.Decides.{nat_tests}
+use Rattle.std.proofs.lemmas.Option.{same_Some}
+use Rattle.hp_model.specs.declared.platforms.Platform.{Platform}
+use Rattle.hp_model.specs.declared.processors.Mode.{Mode}
+use Rattle.hp_model.specs.declared.processors.Mode.TheVariants.{Wait, Running, Halted, Smm}
+use Rattle.hp_model.specs.declared.processors.Cpu.{Cpu}
+use Rattle.hp_model.specs.declared.accesses.Access.{Access}
+use Rattle.hp_model.specs.declared.accesses.Access.TheVariants.{Load}
+use Rattle.hp_model.specs.declared.accesses.Want.{Want}
+use Rattle.hp_model.specs.declared.accesses.Want.TheVariants as want
+use Rattle.hp_model.specs.declared.labels.Label.{Label}
+use Rattle.hp_model.specs.declared.labels.Label.TheVariants.{F1, F2, F3, F4, F5, F6, R1, R2, R3, R4, R5, R6, S0, S1, S2, S3, S4, C1, C2, C3, C4, C5, C6, NB, N0, N1, N2, N3, N4, N5, N6, N7, N8a, N8b, N9, N10, N11, E0, E1, E2, E3, E4a, E4b, E4c, E4d, E4e, E4f, E4g, E4h, T, E5, E6, E7}
+use Rattle.hp_model.specs.declared.outcomes.Outcome.{Outcome}
+use Rattle.hp_model.specs.declared.outcomes.Outcome.TheVariants.{Added, Ejected, Refused}
+use Rattle.hp_model.specs.declared.entries.Event.TheVariants.{Insert, Remove, Do, TakeSmi, TakeInit, Resume, Tell}
+use Rattle.hp_model.specs.declared.entries.Entry.{Entry}
+use Rattle.hp_model.specs.Platform.{count_of, apic_of, tile, tseg, is_late}
+use Rattle.hp_model.specs.Memory.{Write, byte_at, value_from}
+use Rattle.hp_model.specs.View.{is_hole, ones}
+use Rattle.hp_model.specs.Cpu.{absent, inserted, cpu_at, is_outside, is_in_smm, address_in, is_free, smm_address, may_take_smi, take_smi, may_take_init, take_init, resumed, moved}
+use Rattle.hp_model.specs.Block.{Block, Slot, slot_at, no_slot, is_in, is_selected, controlled, write_control, block_write, ejected_by}
+use Rattle.hp_model.specs.Boot.{Stage, value_in}
+use Rattle.hp_model.specs.Labels.{Part, First, Relocated, Monarch as Monarchs, part_of, index_of, same_label}
+use Rattle.hp_model.specs.SharedBytes.{layout_of, tile_in, parked_byte, release_byte}
+use Rattle.hp_model.specs.Slots.{place_of}
+use Rattle.hp_model.specs.SaveArea.{saved_smbase, saved_rip}
+use Rattle.hp_model.specs.Monarch.{Monarch, restarted}
+use Rattle.hp_model.specs.Handlers.{Seat, Next, want_at, next_at, runs_at, is_tile, address_of_label, slot_at as slot_of_tile}
+use Rattle.hp_model.specs.Step.{State, at, set_cpu, seat, access_effect, answer_to, insert, request_removal, enter_smm, leave_smm, go_on, stands_in_smm, with_session, is_after_broadcast, writes_block, same_outcome}
+use Rattle.hp_model.specs.Runs.{run_on}
+use Rattle.hp_model.specs.Transitions.{Transition, entries_of, places, has_left, left_in}
+use Rattle.hp_model.specs.Account.{is_at}
+use Rattle.hp_model.specs.Sessions.{bounds_session, tells, ends_outcome}
+use Rattle.hp_model.specs.Outcomes.{Departure, own_of, departures, is_at_tile, is_eject_of, is_only, is_none}
+use Rattle.hp_model.proofs.AtEach.{made}
+use Rattle.hp_sealed.specs.Left.{Sound}
+use Rattle.hp_sealed.specs.Sealed.{Placed, IsAtSlot, is_other_tile}
+use Rattle.hp_sealed.proofs.Left.{pick}
+use Rattle.hp_sealed.proofs.Outside.{acts}
+use Rattle.hp_sealed.proofs.Stay.{at_set}
+use Rattle.hp_safety.proofs.Marked.{at_none, at_monarch, at_other, same_index}
+use Rattle.hp_safety.proofs.Placing.{place_same}
+use Rattle.hp_exact.proofs.Stood.{IsStood}
+use Rattle.hp_exact.proofs.Stepping.{AtMonarch, AtOther, Kinds, entry_by, ends, led_on, by_kind}
+use Rattle.hp_exact.proofs.Monarchs.{is_among, ejecting, next_other}
+use Rattle.hp_exact.proofs.Naming.{Ids, one_cpu}
+use Rattle.hp_exact.proofs.Hits.{Alike, AllAlike, row_alike, keeps_acted}
+use Rattle.hp_exact.proofs.Calling.{aside}
+use Rattle.hp_exact.proofs.Agreeing.{present_kept}
+use Rattle.hp_exact.proofs.Releasing.{slot_small, kept_called}
+use Rattle.hp_exact.proofs.Rows.{access_of, at_want, stays_row}
+use Rattle.hp_exact.proofs.Keeping.{none_outside, outside_in, was_quiet, present_set, present_go, Unwritten, other_unwritten}
+use Rattle.hp_exact.proofs.Losing.{pending, Losses}
+use Rattle.hp_exact.proofs.Invariant.{Invariant}
+use Rattle.hp_exact.proofs.EjectReads.{own_more, own_none, elsewhere, is_collects, by_label, ejecting_goes, marks_other, left_outside, left_entering, loads_parked, cleared, map_leaves}
+use Rattle.hp_exact.proofs.Parting.{looping, Parked, Seated, Waits, Alone, Gone, PartsAt, Does, parts_row}
+
+-- who leaves in a transition
+filter_below : (f : ℕ → Bool) (k : ℕ) → ((j : ℕ) → j ≢ k → f j ≡ false) → (n : ℕ) → n ≤ k → filter f (places n) ≡ []
+unfolding places
+filter_below f k other zero less = refl
+filter_below f k other (suc n) less = let here : f n ≡ false = other n (λ e. omega (arith, e, less)) in rw here (filter_below f k other n (omega (arith, less)))
+
+filter_one : (f : ℕ → Bool) (k : ℕ) → ((j : ℕ) → j ≢ k → f j ≡ false) → f k ≡ true → (n : ℕ) → k < n → filter f (places n) ≡ k ∷ []
+unfolding places
+filter_one f k other there zero less = absurd (omega (arith, less))
+filter_one f k other there (suc n) less = by_test (n == k) refl (λ more. filter_one f k other there n more)
+  where
+    same : (i j : ℕ) → (i == j) ≡ true → i ≡ j
+    same i j e = grind (arith, nat_tests)
+
+    unlike : (i j : ℕ) → (i == j) ≡ false → i ≢ j
+    unlike i j e f = grind (arith, nat_tests)
+
+    by_test : (b : Bool) → (n == k) ≡ b → (k < n → filter f (places n) ≡ k ∷ []) → filter f (n ∷ places n) ≡ k ∷ []
+    by_test true is more =
+        let e = same n k is in
+        let here : f n ≡ true = subst (λ j. f j ≡ true) (sym e) there in
+        let rest = filter_below f k other n (omega (arith, e)) in
+        rw (here, rest) (ap (λ j. j ∷ []) e)
+    by_test false is more = let n_other = unlike n k is in let here : f n ≡ false = other n n_other in rw here (more (omega (arith, less, n_other)))
+
+filter_none : (f : ℕ → Bool) → ((k : ℕ) → f k ≡ false) → (xs : List ℕ) → filter f xs ≡ []
+filter_none f none [] = refl
+filter_none f none (x ∷ xs) = rw (none x) (filter_none f none xs)
+
+stays_there : (a b : Bool) → (a ≡ true → b ≡ true) → (a && not b) ≡ false
+stays_there true b h = rw (h refl) refl
+stays_there false b h = refl
+
+departures_same : (p : Platform) (x : Transition) (own : List Transition) → ((k : ℕ) → (at x.before k).present ≡ true → (at x.after k).present ≡ true) → departures p (x ∷ own) ≡ departures p own
+departures_same p x own stays =
+    let left : left_in p x ≡ [] = filter_none (has_left x) (λ k. stays_there (at x.before k).present (at x.after k).present (stays k)) (places (count_of p)) in
+    rw left refl
+
+none_is : (ds : List Departure) → is_none ds ≡ true → ds ≡ []
+none_is [] e = refl
+none_is (d ∷ ds) e = absurd cc
+
+-- control 8 ejects the selected processor
+slot_there : (ss : List Slot) (k : ℕ) (t : Slot) → k < length ss → slice_index_or (slice_set ss k t) k no_slot ≡ t
+slot_there [] k t less = absurd (omega (arith, less))
+slot_there (s ∷ ss) zero t less = refl
+slot_there (s ∷ ss) (suc k) t less = slot_there ss k t (omega (arith, less))
+
+is_0 : (k : ℕ) → k ≢ 0 → (k == 0) ≡ false
+is_0 k n = grind (arith, nat_tests)
+
+ejected_from : (b d : Block) → (slot_at b b.selector).enabled ≡ true → (slot_at d b.selector).enabled ≡ false → ejected_by b d ≡ Some b.selector
+ejected_from b d on off = rw (on, off) refl
+
+eject_gone : (b : Block) → b.modern ≡ true → b.selector < length b.slots → b.selector ≢ 0 → (slot_at b b.selector).enabled ≡ true → ejected_by b (block_write b 4 1 8) ≡ Some b.selector
+eject_gone b modern less other enabled =
+    let chosen = selected b.selector (length b.slots) less in
+    let first = is_0 b.selector other in
+    let slot = slot_there b.slots b.selector (controlled (slot_at b b.selector) (b.selector == 0) 8) less in
+    let gone : (controlled (slot_at b b.selector) (b.selector == 0) 8).enabled ≡ false = rw (first, enabled) refl in
+    let written : block_write b 4 1 8 ≡ write_control b 8 = rw (modern, chosen) refl in
+    let off : (slot_at (block_write b 4 1 8) b.selector).enabled ≡ false = ap (λ (c : Block). (slot_at c b.selector).enabled) written ∙ (ap (λ (t : Slot). t.enabled) slot ∙ gone) in
+    ejected_from b (block_write b 4 1 8) enabled off
+  where
+    selected : (a n : ℕ) → a < n → nat_lt a n ≡ true
+    selected a n less = grind (arith, nat_tests)
+
+gone_at : (cs : List Cpu) (k : ℕ) → (cpu_at (slice_set cs k absent) k).present ≡ false
+gone_at [] k = refl
+gone_at (c ∷ cs) zero = refl
+gone_at (c ∷ cs) (suc k) = gone_at cs k
+
+set_there : (cs : List Cpu) (k : ℕ) (d : Cpu) → (cpu_at cs k).present ≡ true → cpu_at (slice_set cs k d) k ≡ d
+set_there [] k d e = absurd cc
+set_there (c ∷ cs) zero d e = refl
+set_there (c ∷ cs) (suc k) d e = set_there cs k d e
+
+-- whoever has an address in SMM
+smm_there : (c : Cpu) (a : ℕ) → smm_address c ≡ Some a → (c.present ≡ true) × (is_in_smm c.mode ≡ true)
+smm_there c a e = by_presence c.present c.mode e
+  where
+    by_mode : (m : Mode) → address_in m ≡ Some a → is_in_smm m ≡ true
+    by_mode Wait f = absurd cc
+    by_mode (Running g) f = absurd cc
+    by_mode (Halted g) f = absurd cc
+    by_mode (Smm x) f = refl
+
+    by_presence : (b : Bool) (m : Mode) → (cond b (address_in m) None) ≡ Some a → (b ≡ true) × (is_in_smm m ≡ true)
+    by_presence true m f = (refl, by_mode m f)
+    by_presence false m f = absurd cc
+
+-- a parked processor
+parked_stays : (p : Platform) (slot : ℕ) (c d : Cpu) → d.present ≡ c.present → d.smbase ≡ c.smbase → smm_address d ≡ smm_address c → Parked p slot c → Parked p slot d
+parked_stays p slot c d present smbase address h = record { present = present ∙ h.present; smbase = smbase ∙ h.smbase; label = h.label; loops = h.loops; place = address ∙ h.place }
+
+parked_alike : (p : Platform) (slot : ℕ) (c d : Cpu) → Alike c d → Parked p slot c → Parked p slot d
+parked_alike p slot c d h = parked_stays p slot c d h.present h.smbase (rw (h.present, h.mode) refl)
+
+parked_inside : (p : Platform) (slot : ℕ) (c : Cpu) → Parked p slot c → smm_address c ≡ None → ⊥
+parked_inside p slot c h e = let both : None ≡ Some (address_of_label (tile p slot) h.label) = sym e ∙ h.place in cc
+
+loops_relocated : (l : Label) → is_among l looping ≡ true → part_of l ≡ Relocated
+loops_relocated F1 e = absurd cc
+loops_relocated F2 e = absurd cc
+loops_relocated F3 e = absurd cc
+loops_relocated F4 e = absurd cc
+loops_relocated F5 e = absurd cc
+loops_relocated F6 e = absurd cc
+loops_relocated R1 e = refl
+loops_relocated R2 e = refl
+loops_relocated R3 e = refl
+loops_relocated R4 e = absurd cc
+loops_relocated R5 e = absurd cc
+loops_relocated R6 e = refl
+loops_relocated S0 e = absurd cc
+loops_relocated S1 e = absurd cc
+loops_relocated S2 e = absurd cc
+loops_relocated S3 e = absurd cc
+loops_relocated S4 e = absurd cc
+loops_relocated C1 e = absurd cc
+loops_relocated C2 e = absurd cc
+loops_relocated C3 e = absurd cc
+loops_relocated C4 e = absurd cc
+loops_relocated C5 e = absurd cc
+loops_relocated C6 e = absurd cc
+loops_relocated NB e = absurd cc
+loops_relocated N0 e = absurd cc
+loops_relocated N1 e = absurd cc
+loops_relocated N2 e = absurd cc
+loops_relocated N3 e = absurd cc
+loops_relocated N4 e = absurd cc
+loops_relocated N5 e = absurd cc
+loops_relocated N6 e = absurd cc
+loops_relocated N7 e = absurd cc
+loops_relocated N8a e = absurd cc
+loops_relocated N8b e = absurd cc
+loops_relocated N9 e = absurd cc
+loops_relocated N10 e = absurd cc
+loops_relocated N11 e = absurd cc
+loops_relocated E0 e = absurd cc
+loops_relocated E1 e = absurd cc
+loops_relocated E2 e = absurd cc
+loops_relocated E3 e = absurd cc
+loops_relocated E4a e = absurd cc
+loops_relocated E4b e = absurd cc
+loops_relocated E4c e = absurd cc
+loops_relocated E4d e = absurd cc
+loops_relocated E4e e = absurd cc
+loops_relocated E4f e = absurd cc
+loops_relocated E4g e = absurd cc
+loops_relocated E4h e = absurd cc
+loops_relocated T e = absurd cc
+loops_relocated E5 e = absurd cc
+loops_relocated E6 e = absurd cc
+loops_relocated E7 e = absurd cc
+
+loops_next : (p : Platform) (q : Seat) (r : Monarch) (v : ℕ) (l : Label) → is_among l looping ≡ true → (l ≡ R3 → (v == 1) ≡ false) → is_among (next_at (layout_of p) q r l v).label looping ≡ true
+loops_next p q r v F1 e held = absurd cc
+loops_next p q r v F2 e held = absurd cc
+loops_next p q r v F3 e held = absurd cc
+loops_next p q r v F4 e held = absurd cc
+loops_next p q r v F5 e held = absurd cc
+loops_next p q r v F6 e held = absurd cc
+loops_next p q r v R1 e held = refl
+loops_next p q r v R2 e held = pick (λ m. is_among m looping ≡ true) (v == 1) R6 R3 refl refl
+loops_next p q r v R3 e held = let no = held refl in rw no refl
+loops_next p q r v R4 e held = absurd cc
+loops_next p q r v R5 e held = absurd cc
+loops_next p q r v R6 e held = refl
+loops_next p q r v S0 e held = absurd cc
+loops_next p q r v S1 e held = absurd cc
+loops_next p q r v S2 e held = absurd cc
+loops_next p q r v S3 e held = absurd cc
+loops_next p q r v S4 e held = absurd cc
+loops_next p q r v C1 e held = absurd cc
+loops_next p q r v C2 e held = absurd cc
+loops_next p q r v C3 e held = absurd cc
+loops_next p q r v C4 e held = absurd cc
+loops_next p q r v C5 e held = absurd cc
+loops_next p q r v C6 e held = absurd cc
+loops_next p q r v NB e held = absurd cc
+loops_next p q r v N0 e held = absurd cc
+loops_next p q r v N1 e held = absurd cc
+loops_next p q r v N2 e held = absurd cc
+loops_next p q r v N3 e held = absurd cc
+loops_next p q r v N4 e held = absurd cc
+loops_next p q r v N5 e held = absurd cc
+loops_next p q r v N6 e held = absurd cc
+loops_next p q r v N7 e held = absurd cc
+loops_next p q r v N8a e held = absurd cc
+loops_next p q r v N8b e held = absurd cc
+loops_next p q r v N9 e held = absurd cc
+loops_next p q r v N10 e held = absurd cc
+loops_next p q r v N11 e held = absurd cc
+loops_next p q r v E0 e held = absurd cc
+loops_next p q r v E1 e held = absurd cc
+loops_next p q r v E2 e held = absurd cc
+loops_next p q r v E3 e held = absurd cc
+loops_next p q r v E4a e held = absurd cc
+loops_next p q r v E4b e held = absurd cc
+loops_next p q r v E4c e held = absurd cc
+loops_next p q r v E4d e held = absurd cc
+loops_next p q r v E4e e held = absurd cc
+loops_next p q r v E4f e held = absurd cc
+loops_next p q r v E4g e held = absurd cc
+loops_next p q r v E4h e held = absurd cc
+loops_next p q r v T e held = absurd cc
+loops_next p q r v E5 e held = absurd cc
+loops_next p q r v E6 e held = absurd cc
+loops_next p q r v E7 e held = absurd cc
+
+-- where the eject waits for its processor
+waiting_rows : (l : Label) → is_among l (E1 ∷ E2 ∷ E4a ∷ E4b ∷ []) ≡ true → (is_after_broadcast l ≡ true) × (is_among l ejecting ≡ true) × (is_among l pending ≡ true)
+waiting_rows F1 e = absurd cc
+waiting_rows F2 e = absurd cc
+waiting_rows F3 e = absurd cc
+waiting_rows F4 e = absurd cc
+waiting_rows F5 e = absurd cc
+waiting_rows F6 e = absurd cc
+waiting_rows R1 e = absurd cc
+waiting_rows R2 e = absurd cc
+waiting_rows R3 e = absurd cc
+waiting_rows R4 e = absurd cc
+waiting_rows R5 e = absurd cc
+waiting_rows R6 e = absurd cc
+waiting_rows S0 e = absurd cc
+waiting_rows S1 e = absurd cc
+waiting_rows S2 e = absurd cc
+waiting_rows S3 e = absurd cc
+waiting_rows S4 e = absurd cc
+waiting_rows C1 e = absurd cc
+waiting_rows C2 e = absurd cc
+waiting_rows C3 e = absurd cc
+waiting_rows C4 e = absurd cc
+waiting_rows C5 e = absurd cc
+waiting_rows C6 e = absurd cc
+waiting_rows NB e = absurd cc
+waiting_rows N0 e = absurd cc
+waiting_rows N1 e = absurd cc
+waiting_rows N2 e = absurd cc
+waiting_rows N3 e = absurd cc
+waiting_rows N4 e = absurd cc
+waiting_rows N5 e = absurd cc
+waiting_rows N6 e = absurd cc
+waiting_rows N7 e = absurd cc
+waiting_rows N8a e = absurd cc
+waiting_rows N8b e = absurd cc
+waiting_rows N9 e = absurd cc
+waiting_rows N10 e = absurd cc
+waiting_rows N11 e = absurd cc
+waiting_rows E0 e = absurd cc
+waiting_rows E1 e = (refl, refl, refl)
+waiting_rows E2 e = (refl, refl, refl)
+waiting_rows E3 e = absurd cc
+waiting_rows E4a e = (refl, refl, refl)
+waiting_rows E4b e = (refl, refl, refl)
+waiting_rows E4c e = absurd cc
+waiting_rows E4d e = absurd cc
+waiting_rows E4e e = absurd cc
+waiting_rows E4f e = absurd cc
+waiting_rows E4g e = absurd cc
+waiting_rows E4h e = absurd cc
+waiting_rows T e = absurd cc
+waiting_rows E5 e = absurd cc
+waiting_rows E6 e = absurd cc
+waiting_rows E7 e = absurd cc
+
+still_rows : (l : Label) → is_among l (E1 ∷ E2 ∷ E4a ∷ []) ≡ true → (is_among l (N5 ∷ N6 ∷ E4b ∷ []) ≡ false) × (is_among l (E1 ∷ E2 ∷ E4a ∷ E4b ∷ []) ≡ true)
+still_rows F1 e = absurd cc
+still_rows F2 e = absurd cc
+still_rows F3 e = absurd cc
+still_rows F4 e = absurd cc
+still_rows F5 e = absurd cc
+still_rows F6 e = absurd cc
+still_rows R1 e = absurd cc
+still_rows R2 e = absurd cc
+still_rows R3 e = absurd cc
+still_rows R4 e = absurd cc
+still_rows R5 e = absurd cc
+still_rows R6 e = absurd cc
+still_rows S0 e = absurd cc
+still_rows S1 e = absurd cc
+still_rows S2 e = absurd cc
+still_rows S3 e = absurd cc
+still_rows S4 e = absurd cc
+still_rows C1 e = absurd cc
+still_rows C2 e = absurd cc
+still_rows C3 e = absurd cc
+still_rows C4 e = absurd cc
+still_rows C5 e = absurd cc
+still_rows C6 e = absurd cc
+still_rows NB e = absurd cc
+still_rows N0 e = absurd cc
+still_rows N1 e = absurd cc
+still_rows N2 e = absurd cc
+still_rows N3 e = absurd cc
+still_rows N4 e = absurd cc
+still_rows N5 e = absurd cc
+still_rows N6 e = absurd cc
+still_rows N7 e = absurd cc
+still_rows N8a e = absurd cc
+still_rows N8b e = absurd cc
+still_rows N9 e = absurd cc
+still_rows N10 e = absurd cc
+still_rows N11 e = absurd cc
+still_rows E0 e = absurd cc
+still_rows E1 e = (refl, refl)
+still_rows E2 e = (refl, refl)
+still_rows E3 e = absurd cc
+still_rows E4a e = (refl, refl)
+still_rows E4b e = absurd cc
+still_rows E4c e = absurd cc
+still_rows E4d e = absurd cc
+still_rows E4e e = absurd cc
+still_rows E4f e = absurd cc
+still_rows E4g e = absurd cc
+still_rows E4h e = absurd cc
+still_rows T e = absurd cc
+still_rows E5 e = absurd cc
+still_rows E6 e = absurd cc
+still_rows E7 e = absurd cc
+
+late_rows : (l : Label) → is_among l (E4c ∷ E4d ∷ E4e ∷ E4f ∷ E4g ∷ []) ≡ true → (is_among l ejecting ≡ true) × (is_among l (E4b ∷ []) ≡ false)
+late_rows F1 e = absurd cc
+late_rows F2 e = absurd cc
+late_rows F3 e = absurd cc
+late_rows F4 e = absurd cc
+late_rows F5 e = absurd cc
+late_rows F6 e = absurd cc
+late_rows R1 e = absurd cc
+late_rows R2 e = absurd cc
+late_rows R3 e = absurd cc
+late_rows R4 e = absurd cc
+late_rows R5 e = absurd cc
+late_rows R6 e = absurd cc
+late_rows S0 e = absurd cc
+late_rows S1 e = absurd cc
+late_rows S2 e = absurd cc
+late_rows S3 e = absurd cc
+late_rows S4 e = absurd cc
+late_rows C1 e = absurd cc
+late_rows C2 e = absurd cc
+late_rows C3 e = absurd cc
+late_rows C4 e = absurd cc
+late_rows C5 e = absurd cc
+late_rows C6 e = absurd cc
+late_rows NB e = absurd cc
+late_rows N0 e = absurd cc
+late_rows N1 e = absurd cc
+late_rows N2 e = absurd cc
+late_rows N3 e = absurd cc
+late_rows N4 e = absurd cc
+late_rows N5 e = absurd cc
+late_rows N6 e = absurd cc
+late_rows N7 e = absurd cc
+late_rows N8a e = absurd cc
+late_rows N8b e = absurd cc
+late_rows N9 e = absurd cc
+late_rows N10 e = absurd cc
+late_rows N11 e = absurd cc
+late_rows E0 e = absurd cc
+late_rows E1 e = absurd cc
+late_rows E2 e = absurd cc
+late_rows E3 e = absurd cc
+late_rows E4a e = absurd cc
+late_rows E4b e = absurd cc
+late_rows E4c e = (refl, refl)
+late_rows E4d e = (refl, refl)
+late_rows E4e e = (refl, refl)
+late_rows E4f e = (refl, refl)
+late_rows E4g e = (refl, refl)
+late_rows E4h e = absurd cc
+late_rows T e = absurd cc
+late_rows E5 e = absurd cc
+late_rows E6 e = absurd cc
+late_rows E7 e = absurd cc
+
+early_rows : (l : Label) → is_among l (E1 ∷ E2 ∷ []) ≡ true → is_among l (E1 ∷ E2 ∷ E4a ∷ E4b ∷ []) ≡ true
+early_rows F1 e = absurd cc
+early_rows F2 e = absurd cc
+early_rows F3 e = absurd cc
+early_rows F4 e = absurd cc
+early_rows F5 e = absurd cc
+early_rows F6 e = absurd cc
+early_rows R1 e = absurd cc
+early_rows R2 e = absurd cc
+early_rows R3 e = absurd cc
+early_rows R4 e = absurd cc
+early_rows R5 e = absurd cc
+early_rows R6 e = absurd cc
+early_rows S0 e = absurd cc
+early_rows S1 e = absurd cc
+early_rows S2 e = absurd cc
+early_rows S3 e = absurd cc
+early_rows S4 e = absurd cc
+early_rows C1 e = absurd cc
+early_rows C2 e = absurd cc
+early_rows C3 e = absurd cc
+early_rows C4 e = absurd cc
+early_rows C5 e = absurd cc
+early_rows C6 e = absurd cc
+early_rows NB e = absurd cc
+early_rows N0 e = absurd cc
+early_rows N1 e = absurd cc
+early_rows N2 e = absurd cc
+early_rows N3 e = absurd cc
+early_rows N4 e = absurd cc
+early_rows N5 e = absurd cc
+early_rows N6 e = absurd cc
+early_rows N7 e = absurd cc
+early_rows N8a e = absurd cc
+early_rows N8b e = absurd cc
+early_rows N9 e = absurd cc
+early_rows N10 e = absurd cc
+early_rows N11 e = absurd cc
+early_rows E0 e = absurd cc
+early_rows E1 e = refl
+early_rows E2 e = refl
+early_rows E3 e = absurd cc
+early_rows E4a e = absurd cc
+early_rows E4b e = absurd cc
+early_rows E4c e = absurd cc
+early_rows E4d e = absurd cc
+early_rows E4e e = absurd cc
+early_rows E4f e = absurd cc
+early_rows E4g e = absurd cc
+early_rows E4h e = absurd cc
+early_rows T e = absurd cc
+early_rows E5 e = absurd cc
+early_rows E6 e = absurd cc
+early_rows E7 e = absurd cc
+
+-- where the record stays
+module _ (p : Platform) (own own2 : List Transition) (d d2 : Bool) (cs cs2 : List Cpu) (ws ws2 : List Write) (r : Monarch) (quiet : d2 ≡ false → d ≡ false) (left : d2 ≡ false → departures p own2 ≡ departures p own) where
+  gone_same : (o : Outcome) → Gone p own d r o → Gone p own2 d2 r o
+  gone_same (Added cpu apic slot) h = tt
+  gone_same (Ejected cpu apic slot) h = (h.0, λ calm. subst (λ xs. is_only (is_eject_of p cpu slot) xs ≡ true) (sym (left calm)) (h.1 (quiet calm)))
+  gone_same (Refused why) h = tt
+
+  alone_same : Alone p own d r → Alone p own2 d2 r
+  alone_same h calm = subst (λ xs. is_only (is_eject_of p r.eject.cpu r.eject.slot) xs ≡ true) (sym (left calm)) (h (quiet calm))
+
+  abbrev Was : Type 0
+  Was = byte_at ws (parked_byte (layout_of p) r.eject.slot) ≡ 1
+
+  abbrev Is : Type 0
+  Is = Parked p r.eject.slot (cpu_at cs2 r.eject.cpu)
+
+  waits_same : (d2 ≡ false → Parked p r.eject.slot (cpu_at cs r.eject.cpu) → Is) → (d2 ≡ false → byte_at ws2 (parked_byte (layout_of p) r.eject.slot) ≡ 1 → Was ⊎ Is) → Waits p d cs ws r → Waits p d2 cs2 ws2 r
+  waits_same still byte h calm one = elim (byte calm one) [ inl was ↦ still calm (h (quiet calm) was) | inr is ↦ is ]
+
+  parts_same : (l : Label) → (is_among l (E1 ∷ E2 ∷ E4a ∷ E4b ∷ []) ≡ true → d2 ≡ false → Parked p r.eject.slot (cpu_at cs r.eject.cpu) → Is)
+      → (is_among l (E1 ∷ E2 ∷ []) ≡ true → d2 ≡ false → Seated p r → byte_at ws2 (parked_byte (layout_of p) r.eject.slot) ≡ 1 → Was ⊎ Is) → PartsAt p own d cs ws r l → PartsAt p own2 d2 cs2 ws2 r l
+  parts_same F1 still byte q = tt
+  parts_same F2 still byte q = tt
+  parts_same F3 still byte q = tt
+  parts_same F4 still byte q = tt
+  parts_same F5 still byte q = tt
+  parts_same F6 still byte q = tt
+  parts_same R1 still byte q = tt
+  parts_same R2 still byte q = tt
+  parts_same R3 still byte q = tt
+  parts_same R4 still byte q = tt
+  parts_same R5 still byte q = tt
+  parts_same R6 still byte q = tt
+  parts_same S0 still byte q = tt
+  parts_same S1 still byte q = tt
+  parts_same S2 still byte q = tt
+  parts_same S3 still byte q = tt
+  parts_same S4 still byte q = tt
+  parts_same C1 still byte q = tt
+  parts_same C2 still byte q = tt
+  parts_same C3 still byte q = tt
+  parts_same C4 still byte q = tt
+  parts_same C5 still byte q = tt
+  parts_same C6 still byte q = tt
+  parts_same NB still byte q = tt
+  parts_same N0 still byte q = tt
+  parts_same N1 still byte q = tt
+  parts_same N2 still byte q = tt
+  parts_same N3 still byte q = tt
+  parts_same N4 still byte q = tt
+  parts_same N5 still byte q = tt
+  parts_same N6 still byte q = tt
+  parts_same N7 still byte q = tt
+  parts_same N8a still byte q = tt
+  parts_same N8b still byte q = tt
+  parts_same N9 still byte q = tt
+  parts_same N10 still byte q = tt
+  parts_same N11 still byte q = tt
+  parts_same E0 still byte q = q
+  parts_same E1 still byte q = (q.0, waits_same (still refl) (λ calm. byte refl calm q.0) q.1)
+  parts_same E2 still byte q = (q.0, waits_same (still refl) (λ calm. byte refl calm q.0) q.1)
+  parts_same E3 still byte q = tt
+  parts_same E4a still byte q = (q.0, λ calm. still refl calm (q.1 (quiet calm)))
+  parts_same E4b still byte q = (q.0, λ calm. still refl calm (q.1 (quiet calm)))
+  parts_same E4c still byte q = (q.0, alone_same q.1)
+  parts_same E4d still byte q = (q.0, alone_same q.1)
+  parts_same E4e still byte q = (q.0, alone_same q.1)
+  parts_same E4f still byte q = (q.0, alone_same q.1)
+  parts_same E4g still byte q = (q.0, alone_same q.1)
+  parts_same E4h still byte q = tt
+  parts_same T still byte q = gone_same r.outcome q
+  parts_same E5 still byte q = tt
+  parts_same E6 still byte q = tt
+  parts_same E7 still byte q = tt
+
+pub parts_fresh : (p : Platform) (own : List Transition) (d : Bool) (cs : List Cpu) (ws : List Write) (r : Monarch) (l : Label) → is_after_broadcast l ≡ false → PartsAt p own d cs ws r l
+parts_fresh p own d cs ws r F1 e = tt
+parts_fresh p own d cs ws r F2 e = tt
+parts_fresh p own d cs ws r F3 e = tt
+parts_fresh p own d cs ws r F4 e = tt
+parts_fresh p own d cs ws r F5 e = tt
+parts_fresh p own d cs ws r F6 e = tt
+parts_fresh p own d cs ws r R1 e = tt
+parts_fresh p own d cs ws r R2 e = tt
+parts_fresh p own d cs ws r R3 e = tt
+parts_fresh p own d cs ws r R4 e = tt
+parts_fresh p own d cs ws r R5 e = tt
+parts_fresh p own d cs ws r R6 e = tt
+parts_fresh p own d cs ws r S0 e = tt
+parts_fresh p own d cs ws r S1 e = tt
+parts_fresh p own d cs ws r S2 e = tt
+parts_fresh p own d cs ws r S3 e = tt
+parts_fresh p own d cs ws r S4 e = tt
+parts_fresh p own d cs ws r C1 e = tt
+parts_fresh p own d cs ws r C2 e = tt
+parts_fresh p own d cs ws r C3 e = tt
+parts_fresh p own d cs ws r C4 e = tt
+parts_fresh p own d cs ws r C5 e = tt
+parts_fresh p own d cs ws r C6 e = tt
+parts_fresh p own d cs ws r NB e = tt
+parts_fresh p own d cs ws r N0 e = tt
+parts_fresh p own d cs ws r N1 e = tt
+parts_fresh p own d cs ws r N2 e = tt
+parts_fresh p own d cs ws r N3 e = tt
+parts_fresh p own d cs ws r N4 e = tt
+parts_fresh p own d cs ws r N5 e = tt
+parts_fresh p own d cs ws r N6 e = tt
+parts_fresh p own d cs ws r N7 e = tt
+parts_fresh p own d cs ws r N8a e = tt
+parts_fresh p own d cs ws r N8b e = tt
+parts_fresh p own d cs ws r N9 e = tt
+parts_fresh p own d cs ws r N10 e = tt
+parts_fresh p own d cs ws r N11 e = tt
+parts_fresh p own d cs ws r E0 e = absurd cc
+parts_fresh p own d cs ws r E1 e = absurd cc
+parts_fresh p own d cs ws r E2 e = absurd cc
+parts_fresh p own d cs ws r E3 e = tt
+parts_fresh p own d cs ws r E4a e = absurd cc
+parts_fresh p own d cs ws r E4b e = absurd cc
+parts_fresh p own d cs ws r E4c e = absurd cc
+parts_fresh p own d cs ws r E4d e = absurd cc
+parts_fresh p own d cs ws r E4e e = absurd cc
+parts_fresh p own d cs ws r E4f e = absurd cc
+parts_fresh p own d cs ws r E4g e = absurd cc
+parts_fresh p own d cs ws r E4h e = tt
+parts_fresh p own d cs ws r T e = absurd cc
+parts_fresh p own d cs ws r E5 e = tt
+parts_fresh p own d cs ws r E6 e = tt
+parts_fresh p own d cs ws r E7 e = tt
+
+want_of : (p : Platform) (k : ℕ) (s : State) (F : Access → Type 0) (l m : Label) (a : Access) → l ≡ m → want_at (layout_of p) (seat p s k) s.monarch l ≡ Some (want.Do a) → F (access_of (want_at (layout_of p) (seat p s k) s.monarch m)) → F a
+unfolding access_of
+want_of p k s F l m a is wants h = subst F (ap access_of (subst (λ n. want_at (layout_of p) (seat p s k) s.monarch n ≡ Some (want.Do a)) is wants)) h
+
+-- a release byte that is 0 isn't read as 1
+reads_none : (p : Platform) (s : State) (slot : ℕ) → byte_at s.writes (release_byte (layout_of p) slot) ≡ 0 → (value_in (answer_to true (Load (release_byte (layout_of p) slot) 1) s) == 1) ≡ false
+unfolding value_from
+reads_none p s slot is = pick (λ v. (v == 1) ≡ false) (is_hole s.locks true (release_byte (layout_of p) slot) 1) (ones 1) (value_from (byte_at s.writes) (release_byte (layout_of p) slot) 1) refl (rw is refl)
+
+module _ (p : Platform) (fit : Sound p) (ids : Ids p) (past : List Transition) (s : State) (standing : IsStood p s) (h : Invariant p past s)
+    (lost : is_after_broadcast s.monarch.label ≡ true → s.disturbed ≡ false → Losses p (own_of p past) s.block s.cpus s.monarch)
+    (small : is_among s.monarch.label ejecting ≡ true → s.monarch.eject.slot < 0x1000)
+    (slotted : (k : ℕ) → (at s k).present ≡ true → IsAtSlot p s.monarch.slots.bound (apic_of p k) (at s k).smbase)
+    (parts : PartsAt p (own_of p past) s.disturbed s.cpus s.writes s.monarch s.monarch.label) where
+  abbrev Now : Entry → State → Type 0
+  Now e t = PartsAt p (own_of p (made s e t ∷ past)) t.disturbed t.cpus t.writes t.monarch t.monarch.label
+
+  abbrev Follows : Entry → State → Type 0
+  Follows e t = Placed p t.monarch.slots → Now e t
+
+  abbrev c : ℕ
+  c = s.monarch.eject.cpu
+
+  abbrev slot : ℕ
+  slot = s.monarch.eject.slot
+
+  abbrev x : ℕ
+  x = parked_byte (layout_of p) slot
+
+  -- steps of others, and of the host
+  same_parts : (e : Entry) (t : State) → ((m : Label) → part_of m ≡ Monarchs → is_at p m e ≡ false) → tells e ≡ false → bounds_session e ≡ false → t.monarch ≡ s.monarch → (t.disturbed ≡ false → s.disturbed ≡ false)
+      → (t.disturbed ≡ false → (k : ℕ) → (at s k).present ≡ true → (at t k).present ≡ true)
+      → (is_among s.monarch.label (E1 ∷ E2 ∷ E4a ∷ E4b ∷ []) ≡ true → t.disturbed ≡ false → Parked p slot (at s c) → Parked p slot (at t c))
+      → (is_among s.monarch.label (E1 ∷ E2 ∷ []) ≡ true → t.disturbed ≡ false → Seated p s.monarch → byte_at t.writes x ≡ 1 → (byte_at s.writes x ≡ 1) ⊎ Parked p slot (at t c)) → Now e t
+  same_parts e t unseen silent within same quiet stays still byte =
+      let own = own_more p (made s e t) past (elsewhere p e unseen silent within) in
+      subst (λ r. PartsAt p (own_of p (made s e t ∷ past)) t.disturbed t.cpus t.writes r r.label) (sym same)
+      (parts_same p (own_of p past) (own_of p (made s e t ∷ past)) s.disturbed t.disturbed s.cpus t.cpus s.writes t.writes s.monarch quiet
+      (λ calm. ap (departures p) own ∙ departures_same p (made s e t) (own_of p past) (stays calm)) s.monarch.label still byte parts)
+
+  out_of : (k : ℕ) → is_outside (at s k).mode ≡ true → smm_address (at s k) ≡ None
+  out_of k e = none_outside (at s k) (outside_in (at s k).mode e)
+
+  -- a processor outside SMM isn't the parked one
+  aside_of : (k : ℕ) → smm_address (at s k) ≡ None → Parked p slot (at s c) → c ≢ k
+  aside_of k out parked z = parked_inside p slot (at s c) parked (subst (λ i. smm_address (at s i) ≡ None) (sym z) out)
+
+  set_aside : (k : ℕ) (d : Cpu) → c ≢ k → Parked p slot (at s c) → Parked p slot (cpu_at (slice_set s.cpus k d) c)
+  set_aside k d other parked = subst (Parked p slot) (sym (get_or-set_other s.cpus k c d absent other)) parked
+
+  inserts : (k : ℕ) (g : Stage) → k < count_of p → (at s k).present ≡ false → Follows (entry_by s (Insert k)) (ends (insert k s) g s.disturbed)
+  inserts k g less gone placed =
+      same_parts (entry_by s (Insert k)) (ends (insert k s) g s.disturbed) (λ m part. at_none p m (entry_by s (Insert k)) refl) refl refl refl (λ e. e)
+      (λ calm j e. at_set (λ c d. c.present ≡ true → d.present ≡ true) s.cpus k inserted (λ _ f. f) (λ f. refl) j e)
+      (λ there calm parked. set_aside k inserted (λ z. let f : (at s k).present ≡ true = subst (λ i. (at s i).present ≡ true) z parked.present in let both : true ≡ false = sym f ∙ gone in cc) parked)
+      (λ there calm seated one. inl one)
+
+  removes : (k : ℕ) (g : Stage) → Follows (entry_by s (Remove k)) (ends (request_removal k s) g s.disturbed)
+  removes k g placed = same_parts (entry_by s (Remove k)) (ends (request_removal k s) g s.disturbed) (λ m part. at_none p m (entry_by s (Remove k)) refl) refl refl refl (λ e. e) (λ calm j e. e) (λ there calm parked. parked) (λ there calm seated one. inl one)
+
+  outside : (k : ℕ) (a : Access) (g : Stage) → is_free (is_late p.delivery) (at s k) ≡ true → is_in_smm (at s k).mode ≡ false
+      → Follows (record { event = Do k a; answer = answer_to false a s; at = smm_address (at s k) }) (ends (access_effect p k false a s) g (s.disturbed || (writes_block a && is_after_broadcast s.monarch.label)))
+  outside k a g free out placed = by_after (is_after_broadcast s.monarch.label) refl
+    where
+      e : Entry
+      e = record { event = Do k a; answer = answer_to false a s; at = smm_address (at s k) }
+
+      t : State
+      t = ends (access_effect p k false a s) g (s.disturbed || (writes_block a && is_after_broadcast s.monarch.label))
+
+      same : (access_effect p k false a s).monarch ≡ s.monarch
+      same = (acts p k false a s).monarch
+
+      flags : (d w after : Bool) → after ≡ true → (d || (w && after)) ≡ false → (d ≡ false) × (w ≡ false)
+      flags true w after f q = absurd cc
+      flags false true true f q = absurd cc
+      flags false true false f q = absurd cc
+      flags false false after f q = (refl, refl)
+
+      parked_on : writes_block a ≡ false → Parked p slot (at s c) → Parked p slot (at (access_effect p k false a s) c)
+      parked_on calm parked = elim (keeps_acted p k false a s c) [
+        | inl both ↦ parked_stays p slot (at s c) (at (access_effect p k false a s) c) both.1.present both.1.smbase both.1.address parked
+        | inr gone ↦ absurd (let f : (at (access_effect p k false a s) c).present ≡ true = present_kept p k false a s c calm ∙ parked.present in let none : (at (access_effect p k false a s) c).present ≡ false = ap (λ (d : Cpu). d.present) gone in let both : true ≡ false = sym f ∙ none in cc)
+      ]
+
+      by_after : (b : Bool) → is_after_broadcast s.monarch.label ≡ b → Now e t
+      by_after false f = parts_fresh p (own_of p (made s e t ∷ past)) t.disturbed t.cpus t.writes t.monarch t.monarch.label (subst (λ (r : Monarch). is_after_broadcast r.label ≡ false) (sym same) f)
+      by_after true f =
+          same_parts e t (λ m part. at_none p m e (none_outside (at s k) out)) refl refl same (λ calm. (flags s.disturbed (writes_block a) (is_after_broadcast s.monarch.label) f calm).0)
+          (λ calm j there. present_kept p k false a s j (flags s.disturbed (writes_block a) (is_after_broadcast s.monarch.label) f calm).1 ∙ there)
+          (λ there calm. parked_on (flags s.disturbed (writes_block a) (is_after_broadcast s.monarch.label) f calm).1)
+          (λ there calm seated one. inl (sym (left_outside p s slot fit standing (small (waiting_rows s.monarch.label (early_rows s.monarch.label there)).1) k a) ∙ one))
+
+  inits : (k : ℕ) (g : Stage) → may_take_init (at s k) ≡ true → Follows (entry_by s (TakeInit k)) (ends (set_cpu k (take_init (at s k)) s) g s.disturbed)
+  inits k g may placed =
+      same_parts (entry_by s (TakeInit k)) (ends (set_cpu k (take_init (at s k)) s) g s.disturbed) (λ m part. at_none p m (entry_by s (TakeInit k)) out) refl refl refl (λ e. e)
+      (λ calm. present_set p fit ids past s standing h k (take_init (at s k)) refl) (λ there calm parked. set_aside k (take_init (at s k)) (aside_of k out parked) parked) (λ there calm seated one. inl one)
+    where
+      out : smm_address (at s k) ≡ None
+      out = out_of k (and_parts (at s k).init (is_outside (at s k).mode) (and_parts (not (at s k).smi) ((at s k).init && is_outside (at s k).mode) (and_parts (at s k).present (not (at s k).smi && ((at s k).init && is_outside (at s k).mode)) may).1).1).1
+
+  rests : (g : Stage) → AtMonarch p s E7 → Follows (entry_by s (Resume 0)) (ends (leave_smm 0 s) g s.disturbed)
+  rests g here placed = let t = ends (leave_smm 0 s) g s.disturbed in parts_fresh p (own_of p (made s (entry_by s (Resume 0)) t ∷ past)) s.disturbed t.cpus s.writes s.monarch s.monarch.label (let label = here.label in rw label refl)
+
+  enters : (k : ℕ) (g : Stage) → may_take_smi (at s k) ≡ true → Follows (entry_by s (TakeSmi k)) (ends (with_session k (enter_smm k s)) g s.disturbed)
+  enters k g may = by_first (k == 0) refl
+    where
+      e : Entry
+      e = entry_by s (TakeSmi k)
+
+      to : Bool → State
+      to b = ends (cond b (record (enter_smm k s) { monarch = restarted s.monarch }) (enter_smm k s)) g s.disturbed
+
+      there : ((at s k).present ≡ true) × (((at s k).smi && is_outside (at s k).mode) ≡ true)
+      there = and_parts (at s k).present ((at s k).smi && is_outside (at s k).mode) may
+
+      out : smm_address (at s k) ≡ None
+      out = out_of k (and_parts (at s k).smi (is_outside (at s k).mode) there.1).1
+
+      begins : Follows e (to true)
+      begins placed = tt
+
+      comes : (k == 0) ≡ false → Follows e (to false)
+      comes is placed =
+          same_parts e (to false) (λ m part. at_none p m e out) refl (let z = is in rw z refl) refl (λ f. f)
+          (λ calm. present_set p fit ids past s standing h k (take_smi (at s k)) refl) (λ mine calm parked. set_aside k (take_smi (at s k)) (aside_of k out parked) parked)
+          (λ mine calm seated one. inl (sym (left_entering p s slot fit standing (small (waiting_rows s.monarch.label (early_rows s.monarch.label mine)).1) k there.0) ∙ one))
+
+      by_first : (b : Bool) → (k == 0) ≡ b → Follows e (ends (with_session k (enter_smm k s)) g s.disturbed)
+      by_first true is = subst (λ b. Follows e (to b)) (sym is) begins
+      by_first false is = subst (λ b. Follows e (to b)) (sym is) (comes is)
+
+  -- a processor of the tile of the eject's slot
+  above : (n : ℕ) → tile p n ≡ 0x30000 → ⊥
+  above n e = let high = fit.above in omega (arith, e, high)
+
+  same_tile : (a b : ℕ) → tile p a ≡ tile p b → a ≡ b
+  same_tile a b e = omega (arith, e)
+
+  tiled : (k : ℕ) (l : Label) → AtOther p s k l → (at s k).smbase ≡ tile p slot → part_of l ≡ Relocated
+  tiled k l here is = by_part (part_of l) refl here.runs
+    where
+      by_part : (q : Part) → part_of l ≡ q → runs_at (layout_of p) q k (at s k).smbase ≡ true → part_of l ≡ Relocated
+      by_part First mine runs = absurd (above slot (sym is ∙ eqb-true (at s k).smbase 0x30000 (and_parts (not (k == 0)) ((at s k).smbase == 0x30000) runs).1))
+      by_part Relocated mine runs = mine
+      by_part Monarchs mine runs = absurd (here.part mine)
+
+  -- it stands where the parked processor stands
+  same_label_of : (k : ℕ) (l : Label) → AtOther p s k l → (f : Parked p slot (at s k)) → l ≡ f.label
+  same_label_of k l here f =
+      same_index l f.label (tiled k l here f.smbase ∙ sym (loops_relocated f.label f.loops))
+      (let e = same_Some (address_of_label (at s k).smbase l) (address_of_label (tile p slot) f.label) (sym here.place ∙ f.place) in let b = f.smbase in omega (arith, e, b))
+
+  loops_of : (k : ℕ) (l : Label) → AtOther p s k l → Parked p slot (at s k) → is_among l looping ≡ true
+  loops_of k l here f = subst (λ m. is_among m looping ≡ true) (sym (same_label_of k l here f)) f.loops
+
+  returns : (k : ℕ) (l : Label) (g : Stage) → AtOther p s k l → (l ≡ F6) ⊎ (l ≡ R5) → Follows (entry_by s (Resume k)) (ends (leave_smm k s) g s.disturbed)
+  returns k l g here where_is placed =
+      same_parts (entry_by s (Resume k)) (ends (leave_smm k s) g s.disturbed) (λ m part. at_other p l m (entry_by s (Resume k)) k (at s k).smbase fit here.runs here.part here.place part) refl (is_0 k here.other) refl (λ e. e)
+      (λ calm. present_set p fit ids past s standing h k d refl)
+      (λ there calm parked. set_aside k d (λ z. leaves where_is (loops_of k l here (subst (λ i. Parked p slot (at s i)) z parked))) parked) (λ there calm seated one. inl one)
+    where
+      d : Cpu
+      d = resumed (saved_smbase s.locks s.writes (at s k)) (saved_rip s.locks s.writes (at s k)) (at s k)
+
+      leaves : (l ≡ F6) ⊎ (l ≡ R5) → is_among l looping ≡ true → ⊥
+      leaves (inl e) f = let g : is_among F6 looping ≡ true = subst (λ m. is_among m looping ≡ true) e f in cc
+      leaves (inr e) f = let g : is_among R5 looping ≡ true = subst (λ m. is_among m looping ≡ true) e f in cc
+
+  others : (k : ℕ) (l : Label) (a : Access) (g : Stage) → AtOther p s k l → want_at (layout_of p) (seat p s k) s.monarch l ≡ Some (want.Do a)
+      → Follows (record { event = Do k a; answer = answer_to true a s; at = smm_address (at s k) }) (ends (led_on p s k l (value_in (answer_to true a s)) (access_effect p k true a s)) g s.disturbed)
+  unfolding access_of
+  others k l a g here wants placed =
+      same_parts e t (λ m part. at_other p l m e k (at s k).smbase fit here.runs here.part here.place part) refl refl (next_other (layout_of p) (seat p s k) s.monarch l v here.part) (λ f. f)
+      (λ calm j f. at_set (λ c d. d.present ≡ c.present) u.cpus k d (λ _. refl) (present_go (at s k).smbase n (at u k)) j ∙ (present_kept p k true a s j unwritten ∙ f))
+      (λ there calm parked. by_same (c == k) refl there parked)
+      (λ there calm seated one. by_marks there seated one (marks_other p s slot fit standing (small (waiting_rows s.monarch.label (early_rows s.monarch.label there)).1) k l a here wants))
+    where
+      v : ℕ
+      v = value_in (answer_to true a s)
+
+      e : Entry
+      e = record { event = Do k a; answer = answer_to true a s; at = smm_address (at s k) }
+
+      u : State
+      u = access_effect p k true a s
+
+      n : Next
+      n = next_at (layout_of p) (seat p s k) s.monarch l v
+
+      d : Cpu
+      d = go_on (at s k).smbase n (at u k)
+
+      t : State
+      t = ends (led_on p s k l v u) g s.disturbed
+
+      unwritten : writes_block a ≡ false
+      unwritten = subst Unwritten wants (other_unwritten p s k l here.part)
+
+      alike : (j : ℕ) → Alike (at s j) (at u j)
+      alike = subst (AllAlike p k s) wants (row_alike p k s (seat p s k) s.monarch l (aside l here.part))
+
+      stood : ((at s k).present ≡ true) × (is_in_smm (at s k).mode ≡ true)
+      stood = smm_there (at s k) (address_of_label (at s k).smbase l) here.place
+
+      there_u : (at u k).present ≡ true
+      there_u = (alike k).present ∙ stood.0
+
+      -- it goes on in its tile
+      goes_to : (at s k).smbase ≡ tile p slot → is_among n.label looping ≡ true → Parked p slot (cpu_at t.cpus k)
+      goes_to base loops =
+          let in_smm : is_in_smm (at u k).mode ≡ true = ap is_in_smm (alike k).mode ∙ stood.1 in
+          let stands : stands_in_smm (at u k) ≡ true = and_from (at u k).present (is_in_smm (at u k).mode) there_u in_smm in
+          let moves : d ≡ moved (address_of_label (at s k).smbase n.label) n.base (at u k) = rw stands refl in
+          let is : cpu_at t.cpus k ≡ moved (address_of_label (at s k).smbase n.label) n.base (at u k) = set_there u.cpus k d there_u ∙ moves in
+          subst (Parked p slot) (sym is)
+          (record {
+            present = there_u;
+            smbase = (alike k).smbase ∙ base;
+            label = n.label;
+            loops = loops;
+            place = let there = there_u in rw (there, base) refl;
+          })
+
+      tile_slot : part_of l ≡ Relocated → (1 ≤ (seat p s k).slot) × ((seat p s k).slot < 0x1000) × ((at s k).smbase ≡ tile p (seat p s k).slot)
+      tile_slot f =
+          let runs : runs_at (layout_of p) Relocated k (at s k).smbase ≡ true = subst (λ q. runs_at (layout_of p) q k (at s k).smbase ≡ true) f here.runs in
+          let other = (and_parts (not (k == 0)) (is_other_tile (layout_of p) (at s k).smbase) runs).1 in
+          let both = and_parts (not (slot_of_tile (layout_of p) (at s k).smbase == 0)) (is_tile (layout_of p) (at s k).smbase) other in
+          let base = (and_parts (nat_lt (slot_of_tile (layout_of p) (at s k).smbase) (count_of p)) ((at s k).smbase == tile_in (layout_of p) (slot_of_tile (layout_of p) (at s k).smbase)) both.1).1 in
+          (positive (slot_of_tile (layout_of p) (at s k).smbase) both.0, slot_small p k (at s k).smbase fit runs, eqb-true (at s k).smbase (tile_in (layout_of p) (slot_of_tile (layout_of p) (at s k).smbase)) base)
+        where
+          positive : (i : ℕ) → not (i == 0) ≡ true → 1 ≤ i
+          positive i f = grind (arith, nat_tests)
+
+      stays_held : is_after_broadcast s.monarch.label ≡ true → l ≡ R3 → (v == 1) ≡ false
+      stays_held after is =
+          let q = tile_slot (ap part_of is) in
+          let none = h.released (seat p s k).slot q.0 q.1 (kept_called s.monarch (seat p s k).slot (rw after (any (is_among s.monarch.label (S2 ∷ []))))) in
+          want_of p k s (λ b. (value_in (answer_to true b s) == 1) ≡ false) l R3 a is wants (reads_none p s (seat p s k).slot none)
+        where
+          any : (b : Bool) → (b || true) ≡ true
+          any true = refl
+          any false = refl
+
+      itself : is_after_broadcast s.monarch.label ≡ true → Parked p slot (at s k) → Parked p slot (cpu_at t.cpus k)
+      itself after parked = goes_to parked.smbase (loops_next p (seat p s k) s.monarch v l (loops_of k l here parked) (stays_held after))
+
+      same_number : (i j : ℕ) → (i == j) ≡ true → i ≡ j
+      same_number i j f = grind (arith, nat_tests)
+
+      unlike : (i j : ℕ) → (i == j) ≡ false → i ≢ j
+      unlike i j f g = grind (arith, nat_tests)
+
+      by_same : (b : Bool) → (c == k) ≡ b → is_among s.monarch.label (E1 ∷ E2 ∷ E4a ∷ E4b ∷ []) ≡ true → Parked p slot (at s c) → Parked p slot (cpu_at t.cpus c)
+      by_same true is there parked =
+          let z = same_number c k is in
+          subst (λ i. Parked p slot (cpu_at t.cpus i)) (sym z) (itself (waiting_rows s.monarch.label there).0 (subst (λ i. Parked p slot (at s i)) z parked))
+      by_same false is there parked = subst (Parked p slot) (sym (get_or-set_other u.cpus k c d absent (unlike c k is))) (parked_alike p slot (at s c) (at u c) (alike c) parked)
+
+      -- who stores at R6 for this slot is the eject's processor
+      parks : Seated p s.monarch → l ≡ R6 → (seat p s k).slot ≡ slot → Parked p slot (cpu_at t.cpus c)
+      parks seated is same =
+          let q = tile_slot (ap part_of is) in
+          let base : (at s k).smbase ≡ tile p slot = subst (λ i. (at s k).smbase ≡ tile p i) same q.2 in
+          let next : is_among n.label looping ≡ true = subst (λ m. is_among (next_at (layout_of p) (seat p s k) s.monarch m v).label looping ≡ true) (sym is) refl in
+          subst (λ i. Parked p slot (cpu_at t.cpus i)) (by_place base (slotted k stood.0)) (goes_to base next)
+        where
+          by_place : (at s k).smbase ≡ tile p slot → IsAtSlot p s.monarch.slots.bound (apic_of p k) (at s k).smbase → k ≡ c
+          by_place base (inl low) = absurd (above slot (sym base ∙ low))
+          by_place base (inr both) =
+              let place : place_of s.monarch.slots.bound (apic_of p k) ≡ place_of s.monarch.slots.bound s.monarch.eject.apic = same_tile (place_of s.monarch.slots.bound (apic_of p k)) slot (sym both.1 ∙ base) ∙ sym seated.place in
+              let one = place_same s.monarch.slots.bound (apic_of p k) s.monarch.eject.apic both.0 seated.bound place in
+              one_cpu p k c fit (standing.possible k stood.0) seated.less (one ∙ sym seated.own)
+
+      by_marks : is_among s.monarch.label (E1 ∷ E2 ∷ []) ≡ true → Seated p s.monarch → byte_at u.writes x ≡ 1 → ((byte_at u.writes x ≡ byte_at s.writes x) ⊎ (byte_at u.writes x ≡ 0)) ⊎ ((l ≡ R6) × ((seat p s k).slot ≡ slot) × (byte_at u.writes x ≤ 1))
+          → (byte_at s.writes x ≡ 1) ⊎ Parked p slot (cpu_at t.cpus c)
+      by_marks there seated one (inl (inl same)) = inl (sym same ∙ one)
+      by_marks there seated one (inl (inr none)) = absurd (let both : 0 ≡ 1 = sym none ∙ one in cc)
+      by_marks there seated one (inr m) = inr (parks seated m.0 m.1)
+
+  -- a row of the monarch's
+  monarchs : (l : Label) (a : Access) (g : Stage) → AtMonarch p s l → want_at (layout_of p) (seat p s 0) s.monarch l ≡ Some (want.Do a)
+      → Follows (record { event = Do 0 a; answer = answer_to true a s; at = smm_address (at s 0) }) (ends (led_on p s 0 l (value_in (answer_to true a s)) (access_effect p 0 true a s)) g (not (same_label l S2) && s.disturbed))
+  unfolding access_of
+  monarchs l a g here wants = parts_row p (own_of p past) (own_of p (made s e t ∷ past)) s.disturbed t.disturbed s.cpus t.cpus s.writes t.writes (seat p s 0) s.monarch v parts l here.part here.label does
+    where
+      v : ℕ
+      v = value_in (answer_to true a s)
+
+      e : Entry
+      e = record { event = Do 0 a; answer = answer_to true a s; at = smm_address (at s 0) }
+
+      u : State
+      u = access_effect p 0 true a s
+
+      n : Next
+      n = next_at (layout_of p) (seat p s 0) s.monarch l v
+
+      d : Cpu
+      d = go_on (at s 0).smbase n (at u 0)
+
+      t : State
+      t = ends (led_on p s 0 l v u) g (not (same_label l S2) && s.disturbed)
+
+      seen : (m : Label) → part_of m ≡ Monarchs → is_at p m e ≡ (index_of l == index_of m)
+      seen m part = at_monarch p l m e (tile p 0) refl here.place part
+
+      goes : ends_outcome p e ≡ (is_collects l || false)
+      goes = by_label p e l seen refl refl
+
+      more : is_among l ejecting ≡ true → own_of p (made s e t ∷ past) ≡ made s e t ∷ own_of p past
+      more mine = own_more p (made s e t) past (goes ∙ ejecting_goes l mine)
+
+      of_label : (F : Label → Type 0) → F l → F s.monarch.label
+      of_label F f = subst F (sym here.label) f
+
+      tight : is_among l ejecting ≡ true → slot < 0x1000
+      tight mine = small (of_label (λ m. is_among m ejecting ≡ true) mine)
+
+      calm_before : l ≢ S2 → t.disturbed ≡ false → s.disturbed ≡ false
+      calm_before other = was_quiet p fit ids past s standing h l other
+
+      stays : is_among l (E4b ∷ []) ≡ false → (k : ℕ) → (at s k).present ≡ true → (cpu_at t.cpus k).present ≡ true
+      stays other k f = at_set (λ c d. d.present ≡ c.present) u.cpus 0 d (λ _. refl) (present_go (at s 0).smbase n (at u 0)) k ∙ stays_row p s l a wants k (λ is. absurd (let g : is_among l (E4b ∷ []) ≡ true = rw is refl in let both : true ≡ false = sym g ∙ other in cc)) f
+
+      not_s2 : (F : Label → Bool) → F l ≡ true → F S2 ≡ false → l ≢ S2
+      not_s2 F f none is = let g : F S2 ≡ true = subst (λ m. F m ≡ true) is f in let both : true ≡ false = sym g ∙ none in cc
+
+      losses : is_among l (E1 ∷ E2 ∷ E4a ∷ E4b ∷ []) ≡ true → t.disturbed ≡ false → Losses p (own_of p past) s.block s.cpus s.monarch
+      losses f calm = lost (of_label (λ m. is_after_broadcast m ≡ true) (waiting_rows l f).0) (calm_before (not_s2 (λ m. is_among m (E1 ∷ E2 ∷ E4a ∷ E4b ∷ [])) f refl) calm)
+
+      other_cpu : is_among l (E1 ∷ E2 ∷ E4a ∷ E4b ∷ []) ≡ true → t.disturbed ≡ false → c ≢ 0
+      other_cpu f calm = (losses f calm).other (of_label (λ m. is_among m pending ≡ true) (waiting_rows l f).2)
+
+      does : Does p (own_of p past) (own_of p (made s e t ∷ past)) s.disturbed t.disturbed s.cpus t.cpus s.writes t.writes s.monarch l v
+      does = record {
+        still = λ f calm parked.
+            let r = still_rows l f in
+            let alike : Alike (at s c) (at u c) = subst (AllAlike p 0 s) wants (row_alike p 0 s (seat p s 0) s.monarch l r.0) c in
+            subst (Parked p slot) (sym (get_or-set_other u.cpus 0 c d absent (other_cpu r.1 calm))) (parked_alike p slot (at s c) (at u c) alike parked);
+        zeroed = λ is. at_want p s (λ a. byte_at (access_effect p 0 true a s).writes x ≡ 0) l E0 a is wants (cleared p s slot fit standing (tight (rw is refl)));
+        same = λ f. by_two l refl f;
+        sees = λ is one. sym (at_want p s (λ a. value_in (answer_to true a s) ≡ byte_at s.writes x) l E2 a is wants (loads_parked p s slot fit standing (tight (rw is refl)))) ∙ one;
+        on = λ f calm. let r = late_rows l f in ap (departures p) (more r.0) ∙ departures_same p (made s e t) (own_of p past) (stays r.1);
+        leaves = λ is calm seated parked. gone is calm seated parked;
+        quiet = λ f calm. calm_before (not_s2 (λ m. is_among m (E1 ∷ E2 ∷ E4a ∷ E4b ∷ E4c ∷ E4d ∷ E4e ∷ E4f ∷ E4g ∷ [])) f refl) calm;
+      }
+        where
+          by_two : (m : Label) → l ≡ m → is_among m (E1 ∷ E2 ∷ []) ≡ true → byte_at (access_effect p 0 true a s).writes x ≡ byte_at s.writes x
+          by_two F1 is f = absurd cc
+          by_two F2 is f = absurd cc
+          by_two F3 is f = absurd cc
+          by_two F4 is f = absurd cc
+          by_two F5 is f = absurd cc
+          by_two F6 is f = absurd cc
+          by_two R1 is f = absurd cc
+          by_two R2 is f = absurd cc
+          by_two R3 is f = absurd cc
+          by_two R4 is f = absurd cc
+          by_two R5 is f = absurd cc
+          by_two R6 is f = absurd cc
+          by_two S0 is f = absurd cc
+          by_two S1 is f = absurd cc
+          by_two S2 is f = absurd cc
+          by_two S3 is f = absurd cc
+          by_two S4 is f = absurd cc
+          by_two C1 is f = absurd cc
+          by_two C2 is f = absurd cc
+          by_two C3 is f = absurd cc
+          by_two C4 is f = absurd cc
+          by_two C5 is f = absurd cc
+          by_two C6 is f = absurd cc
+          by_two NB is f = absurd cc
+          by_two N0 is f = absurd cc
+          by_two N1 is f = absurd cc
+          by_two N2 is f = absurd cc
+          by_two N3 is f = absurd cc
+          by_two N4 is f = absurd cc
+          by_two N5 is f = absurd cc
+          by_two N6 is f = absurd cc
+          by_two N7 is f = absurd cc
+          by_two N8a is f = absurd cc
+          by_two N8b is f = absurd cc
+          by_two N9 is f = absurd cc
+          by_two N10 is f = absurd cc
+          by_two N11 is f = absurd cc
+          by_two E0 is f = absurd cc
+          by_two E1 is f = at_want p s (λ a. byte_at (access_effect p 0 true a s).writes x ≡ byte_at s.writes x) l E1 a is wants (map_leaves p s slot fit standing (tight (rw is refl)))
+          by_two E2 is f = at_want p s (λ a. byte_at (access_effect p 0 true a s).writes x ≡ byte_at s.writes x) l E2 a is wants refl
+          by_two E3 is f = absurd cc
+          by_two E4a is f = absurd cc
+          by_two E4b is f = absurd cc
+          by_two E4c is f = absurd cc
+          by_two E4d is f = absurd cc
+          by_two E4e is f = absurd cc
+          by_two E4f is f = absurd cc
+          by_two E4g is f = absurd cc
+          by_two E4h is f = absurd cc
+          by_two T is f = absurd cc
+          by_two E5 is f = absurd cc
+          by_two E6 is f = absurd cc
+          by_two E7 is f = absurd cc
+
+          gone : l ≡ E4b → t.disturbed ≡ false → Seated p s.monarch → Parked p slot (at s c) → is_only (is_eject_of p c slot) (departures p (own_of p (made s e t ∷ past))) ≡ true
+          gone is calm seated parked = subst (λ ds. is_only (is_eject_of p c slot) ds ≡ true) (sym deps) shown
+            where
+              mine : is_among l (E1 ∷ E2 ∷ E4a ∷ E4b ∷ []) ≡ true
+              mine = rw is refl
+
+              lose : Losses p (own_of p past) s.block s.cpus s.monarch
+              lose = losses mine calm
+
+              quiet : s.disturbed ≡ false
+              quiet = calm_before (not_s2 (λ m. is_among m (E1 ∷ E2 ∷ E4a ∷ E4b ∷ [])) mine refl) calm
+
+              chosen : s.block.selector ≡ c
+              chosen = (h.undisturbed (of_label (λ m. is_after_broadcast m ≡ true) (waiting_rows l mine).0) quiet).chosen.handed (rw (here.label ∙ is) refl)
+
+              removed : (cpu_at t.cpus c).present ≡ false
+              removed =
+                  let other = other_cpu mine calm in
+                  let slots = h.agrees.slots in
+                  let less = seated.less in
+                  let pick_less : s.block.selector < length s.block.slots = omega (arith, slots, less, chosen) in
+                  let enabled : (slot_at s.block s.block.selector).enabled ≡ true = ap (λ k. (slot_at s.block k).enabled) chosen ∙ (h.agrees.enabled c ∙ parked.present) in
+                  let ejected = eject_gone s.block h.modern pick_less (λ z. other (sym chosen ∙ z)) enabled in
+                  let away : (at u c).present ≡ false = at_want p s (λ a. (at (access_effect p 0 true a s) c).present ≡ false) l E4b a is wants (rw ejected (subst (λ k. (cpu_at (slice_set s.cpus s.block.selector absent) k).present ≡ false) chosen (gone_at s.cpus s.block.selector))) in
+                  ap (λ (w : Cpu). w.present) (get_or-set_other u.cpus 0 c d absent other) ∙ away
+
+              kept : (j : ℕ) → j ≢ c → has_left (made s e t) j ≡ false
+              kept j other = stays_there (at s j).present (cpu_at t.cpus j).present (λ f. at_set (λ c d. d.present ≡ c.present) u.cpus 0 d (λ _. refl) (present_go (at s 0).smbase n (at u 0)) j ∙ stays_row p s l a wants j (λ _ z. other (z ∙ chosen)) f)
+
+              leaves : has_left (made s e t) c ≡ true
+              leaves = let there = parked.present in let off = removed in rw (there, off) refl
+
+              left : left_in p (made s e t) ≡ c ∷ []
+              left = filter_one (has_left (made s e t)) c kept leaves (count_of p) seated.less
+
+              none : departures p (own_of p past) ≡ []
+              none = none_is (departures p (own_of p past)) (lose.kept (rw (here.label ∙ is) refl))
+
+              deps : departures p (own_of p (made s e t ∷ past)) ≡ record { cpu = c; by = made s e t } ∷ []
+              deps = ap (departures p) (more (rw is refl)) ∙ rw (left, none) refl
+
+              itself : (i : ℕ) → (i == i) ≡ true
+              itself i = grind (arith, nat_tests)
+
+              shown : is_only (is_eject_of p c slot) (record { cpu = c; by = made s e t } ∷ []) ≡ true
+              shown =
+                  let now : is_at p E4b e ≡ true = seen E4b refl ∙ rw is refl in
+                  let there = parked.present in
+                  let inside = (smm_there (at s c) (address_of_label (tile p slot) parked.label) parked.place).1 in
+                  let base = parked.smbase in
+                  rw (itself c, now, there, inside, base) (itself (tile p slot))
+
+  -- an outcome is told
+  tells_it : (o : Outcome) (g : Stage) → AtMonarch p s T → same_outcome o s.monarch.outcome ≡ true → Follows (entry_by s (Tell o)) (ends (led_on p s 0 T 0 s) g s.disturbed)
+  tells_it o g here same =
+      parts_row p (own_of p past) (own_of p (made s (entry_by s (Tell o)) t ∷ past)) s.disturbed s.disturbed s.cpus t.cpus s.writes s.writes (seat p s 0) s.monarch 0 parts T here.part here.label
+      (record {
+        still = λ f. absurd cc;
+        zeroed = λ is. absurd cc;
+        same = λ f. absurd cc;
+        sees = λ is. absurd cc;
+        on = λ f. absurd cc;
+        leaves = λ is. absurd cc;
+        quiet = λ f. absurd cc;
+      })
+    where
+      t : State
+      t = ends (led_on p s 0 T 0 s) g s.disturbed
+
+  kinds : Kinds p s Follows
+  kinds = record {
+    inserts = inserts;
+    removes = removes;
+    outside = outside;
+    monarchs = monarchs;
+    others = others;
+    enters = enters;
+    inits = inits;
+    rests = rests;
+    returns = returns;
+    tells = tells_it;
+  }
+
+  pub parts_go : (e : Entry) (t : State) → run_on p s e ≡ Some t → Follows e t
+  parts_go e t is = by_kind p s Follows standing kinds e t is
