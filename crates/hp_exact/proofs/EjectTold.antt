@@ -1,4 +1,4 @@
--- The law: a refusal other than those of adds shows in the entries of its outcome.
+-- Every state of a run: what its entries tell of an eject so far; and so refusals of ejects show.
 use Rattle.std.proofs.Common.{ℕ, ◌≡◌, ◌<◌, ◌≤◌, ◌==◌, ◌⊎◌, inl, inr, Bool, true, false, cond, not, ◌&&◌, ◌||◌, nat_le, List, [], ◌∷◌, Option, Some, None, refl, sym, ap, subst, ◌∙◌, arith}
 use Rattle.std.specs.List.{list_all}
 use Rattle.std.proofs.lemmas.Bool.{and_parts, eqb-true, ltb-true}
@@ -8,6 +8,7 @@ use Rattle.hp_model.specs.declared.labels.Label.{Label}
 use Rattle.hp_model.specs.declared.labels.Label.TheVariants.{F1, F2, F3, F4, F5, F6, R1, R2, R3, R4, R5, R6, S0, S1, S2, S3, S4, C1, C2, C3, C4, C5, C6, NB, N0, N1, N2, N3, N4, N5, N6, N7, N8a, N8b, N9, N10, N11, E0, E1, E2, E3, E4a, E4b, E4c, E4d, E4e, E4f, E4g, E4h, T, E5, E6, E7}
 use Rattle.hp_model.specs.declared.outcomes.Outcome.{Outcome}
 use Rattle.hp_model.specs.declared.outcomes.Outcome.TheVariants.{Added, Ejected, Refused}
+use Rattle.hp_model.specs.declared.outcomes.Refusal.{Refusal}
 use Rattle.hp_model.specs.declared.outcomes.Refusal.TheVariants.{Disabled, Both, AlreadyKnown, GateHeld, NotAtGate, NotCheckedIn, NoUnplug, NotKnown, NotArrived, NotParked, Foreign, StillPending}
 use Rattle.hp_model.specs.declared.accesses.Access.{Access}
 use Rattle.hp_model.specs.declared.accesses.Want.TheVariants as want
@@ -45,7 +46,7 @@ use Rattle.hp_exact.proofs.Beginning.{Whole, whole_begins, whole_goes, access_be
 use Rattle.hp_exact.proofs.Quiet.{handed_of}
 use Rattle.hp_exact.proofs.Ejecting.{shows_reads, may_tell, SaidAt, Owns}
 use Rattle.hp_exact.proofs.EjectReads.{said_fresh, said_goes}
-use Rattle.hp_exact.specs.Ejects.{refused_shows_in, refused_shows}
+use Rattle.hp_exact.specs.Ejects.{refusal_shows}
 
 ejecting_needs : (l : Label) → is_among l ejecting ≡ true → (part_of l ≡ Monarchs) × (need_of l ≡ Ejecting)
 ejecting_needs F1 e = absurd cc
@@ -206,11 +207,11 @@ pub record Refusing (p : Platform) (past : List Transition) (s : State) : Type 0
   pub losses : is_handed s.stage ≡ true → is_after_broadcast s.monarch.label ≡ true → s.disturbed ≡ false → Losses p (own_of p past) s.block s.cpus s.monarch
   pub said : is_handed s.stage ≡ true → SaidAt p (entries_of (own_of p past)) s.disturbed s.writes s.monarch s.monarch.label
 
-begins : (p : Platform) → IsFit p → Refusing p [] (start p)
-begins p fits = record { whole = whole_begins p fits; losses = λ e after quiet. absurd cc; said = λ e. absurd cc }
+pub refusing_begins : (p : Platform) → IsFit p → Refusing p [] (start p)
+refusing_begins p fits = record { whole = whole_begins p fits; losses = λ e after quiet. absurd cc; said = λ e. absurd cc }
 
-goes_on : (p : Platform) → Sound p → Ids p → 1 ≤ p.polls → (past : List Transition) (s t : State) (e : Entry) → Refusing p past s → run_on p s e ≡ Some t → Refusing p (made s e t ∷ past) t
-goes_on p fit ids polled past s t e h is = record { whole = whole; losses = by_losses (is_handed s.stage) refl; said = by_said (is_handed s.stage) refl }
+pub refusing_goes : (p : Platform) → Sound p → Ids p → 1 ≤ p.polls → (past : List Transition) (s t : State) (e : Entry) → Refusing p past s → run_on p s e ≡ Some t → Refusing p (made s e t ∷ past) t
+refusing_goes p fit ids polled past s t e h is = record { whole = whole; losses = by_losses (is_handed s.stage) refl; said = by_said (is_handed s.stage) refl }
   where
     whole : Whole p (made s e t ∷ past) t
     whole = whole_goes p fit ids past s t e h.whole is
@@ -232,59 +233,18 @@ goes_on p fit ids polled past s t e h is = record { whole = whole; losses = by_l
     by_said false on over = said_fresh p (entries_of (own_of p (made s e t ∷ past))) t.disturbed t.writes t.monarch t.monarch.label (fresh on over)
 
 -- what is told
-refused_by : (p : Platform) (past : List Transition) (s : State) (d : Bool) → is_disturbed p (entries_of past) ≡ d → (o : Outcome) → shows_reads p (entries_of (own_of p past)) o ≡ true → (d ≡ false → may_tell o ≡ true) → (u : Outcome) → refused_shows_in p (telling p past s u) o ≡ true
-refused_by p past s d is (Added cpu apic slot) shows may u = refl
-refused_by p past s d is (Ejected cpu apic slot) shows may u = refl
-refused_by p past s d is (Refused (Disabled cpu status)) shows may u = refl
-refused_by p past s d is (Refused (Both cpu status)) shows may u = refl
-refused_by p past s d is (Refused (AlreadyKnown cpu apic slot)) shows may u = refl
-refused_by p past s d is (Refused (GateHeld cpu apic other)) shows may u = refl
-refused_by p past s d is (Refused (NotAtGate cpu apic)) shows may u = refl
-refused_by p past s d is (Refused (NotCheckedIn cpu apic)) shows may u = refl
-refused_by p past s d is (Refused (NoUnplug cpu features)) shows may u = refl
-refused_by p past s d is (Refused (NotKnown cpu apic)) shows may u = refl
-refused_by p past s d is (Refused (NotArrived cpu apic)) shows may u = refl
-refused_by p past s d is (Refused (NotParked cpu apic)) shows may u = shows
-refused_by p past s true is (Refused (Foreign cpu apic)) shows may u = is
-refused_by p past s false is (Refused (Foreign cpu apic)) shows may u = absurd (let f = may refl in cc)
-refused_by p past s true is (Refused (StillPending cpu status)) shows may u = rw is shows
-refused_by p past s false is (Refused (StillPending cpu status)) shows may u = absurd (let f = may refl in cc)
-
-module _ (p : Platform) (past : List Transition) (s : State) (standing : IsStood p s) (h : Invariant p past s) (said : SaidAt p (entries_of (own_of p past)) s.disturbed s.writes s.monarch s.monarch.label) where
-  abbrev Test : Entry → State → Type 0
-  Test e t = when_told p (refused_shows p) past s (outcome_in e.event) ≡ true
-
-  told_test : (o : Outcome) → AtMonarch p s T → same_outcome o s.monarch.outcome ≡ true → refused_shows p (telling p past s o) ≡ true
-  told_test o here same =
-      let now : SaidAt p (entries_of (own_of p past)) s.disturbed s.writes s.monarch T = subst (SaidAt p (entries_of (own_of p past)) s.disturbed s.writes s.monarch) here.label said in
-      let flag = (h.tied.called (let label = here.label in rw label refl)).2 in
-      subst (λ w. refused_shows_in p (telling p past s o) w ≡ true) (sym (same_outcome-is o s.monarch.outcome same)) (refused_by p past s s.disturbed flag s.monarch.outcome now.0 now.1 o)
-
-  tests : Kinds p s Test
-  tests = record {
-    inserts = λ k g less gone. refl;
-    removes = λ k g. refl;
-    outside = λ k a g free out. refl;
-    monarchs = λ l a g here wants. refl;
-    others = λ k l a g here wants. refl;
-    enters = λ k g may. refl;
-    inits = λ k g may. refl;
-    rests = λ g here. refl;
-    returns = λ k l g here where_is. refl;
-    tells = λ o g here same. told_test o here same;
-  }
-
-  pub told_after : (e : Entry) (t : State) → run_on p s e ≡ Some t → Test e t
-  told_after e t is = by_kind p s Test standing tests e t is
-
-test_passes : (p : Platform) → Sound p → Ids p → (past : List Transition) (s t : State) (e : Entry) → Refusing p past s → run_on p s e ≡ Some t → when_told p (refused_shows p) past s (outcome_in e.event) ≡ true
-test_passes p fit ids past s t e h is = by_stage (is_handed s.stage) refl
-  where
-    by_stage : (b : Bool) → is_handed s.stage ≡ b → when_told p (refused_shows p) past s (outcome_in e.event) ≡ true
-    by_stage true on = told_after p past s (stood p s fit (handed_of p s h.whole.good on)) (h.whole.handed on) (h.said on) e t is
-    by_stage false on = let boots = access_before p s t e h.whole.good on is in subst (λ v. when_told p (refused_shows p) past s (outcome_in v) ≡ true) (sym boots.1) refl
-
-pub law : (p : Platform) (es : List Entry) → IsFit p → each_told p (refused_shows p) (transitions p es) ≡ true
-law p es fits =
-    each_passes p (Refusing p) (λ past s t e h is. goes_on p (sound p fits) (ids_of p fits) (polls_some p fits) past s t e h is) (λ older x. when_told p (refused_shows p) older x.before (outcome_in x.entry.event))
-    (λ past s t e h is. test_passes p (sound p fits) (ids_of p fits) past s t e h is) (begins p fits) es
+pub refused_by : (p : Platform) (past : List Transition) (s : State) (d : Bool) → is_disturbed p (entries_of past) ≡ d → (why : Refusal) → shows_reads p (entries_of (own_of p past)) (Refused why) ≡ true → (d ≡ false → may_tell (Refused why) ≡ true) → (u : Outcome) → refusal_shows p (telling p past s u) why ≡ true
+refused_by p past s d is (Disabled cpu status) shows may u = refl
+refused_by p past s d is (Both cpu status) shows may u = refl
+refused_by p past s d is (AlreadyKnown cpu apic slot) shows may u = refl
+refused_by p past s d is (GateHeld cpu apic other) shows may u = refl
+refused_by p past s d is (NotAtGate cpu apic) shows may u = refl
+refused_by p past s d is (NotCheckedIn cpu apic) shows may u = refl
+refused_by p past s d is (NoUnplug cpu features) shows may u = refl
+refused_by p past s d is (NotKnown cpu apic) shows may u = refl
+refused_by p past s d is (NotArrived cpu apic) shows may u = refl
+refused_by p past s d is (NotParked cpu apic) shows may u = shows
+refused_by p past s true is (Foreign cpu apic) shows may u = is
+refused_by p past s false is (Foreign cpu apic) shows may u = absurd (let f = may refl in cc)
+refused_by p past s true is (StillPending cpu status) shows may u = rw is shows
+refused_by p past s false is (StillPending cpu status) shows may u = absurd (let f = may refl in cc)

@@ -35,3 +35,4 @@ pub mod EjectReads
 pub mod EjectTold
 pub mod Parting
 pub mod PartSteps
+pub mod EjectsLaw

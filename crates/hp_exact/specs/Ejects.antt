@@ -5,7 +5,7 @@ use Rattle.hp_model.specs.declared.outcomes.Outcome.{Outcome}
 use Rattle.hp_model.specs.declared.outcomes.Outcome.TheVariants.{Added, Ejected, Refused}
 use Rattle.hp_model.specs.declared.outcomes.Refusal.{Refusal}
 use Rattle.hp_model.specs.declared.outcomes.Refusal.TheVariants.{Disabled, Both, AlreadyKnown, GateHeld, NotAtGate, NotCheckedIn, NoUnplug, NotKnown, NotArrived, NotParked, Foreign, StillPending}
-use Rattle.hp_model.specs.Outcomes.{Telling, is_refused}
+use Rattle.hp_model.specs.Outcomes.{Telling, is_ejected, is_refused}
 
 -- refusals but those of adds
 abbrev pub refusal_shows : Platform → Telling → Refusal → Bool
@@ -22,10 +22,11 @@ refusal_shows p t (NotParked cpu apic) = is_refused p t (NotParked cpu apic)
 refusal_shows p t (Foreign cpu apic) = is_refused p t (Foreign cpu apic)
 refusal_shows p t (StillPending cpu status) = is_refused p t (StillPending cpu status)
 
-abbrev pub refused_shows_in : Platform → Telling → Outcome → Bool
-refused_shows_in p t (Added cpu apic slot) = true
-refused_shows_in p t (Ejected cpu apic slot) = true
-refused_shows_in p t (Refused why) = refusal_shows p t why
+-- all but adds and their refusals
+abbrev pub eject_shows_in : Platform → Telling → Outcome → Bool
+eject_shows_in p t (Added cpu apic slot) = true
+eject_shows_in p t (Ejected cpu apic slot) = is_ejected p t cpu apic slot
+eject_shows_in p t (Refused why) = refusal_shows p t why
 
-abbrev pub refused_shows : Platform → Telling → Bool
-refused_shows p t = refused_shows_in p t t.outcome
+abbrev pub eject_shows : Platform → Telling → Bool
+eject_shows p t = eject_shows_in p t t.outcome

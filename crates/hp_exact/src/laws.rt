@@ -9,6 +9,7 @@ ghost use Rattle.hp_model.specs.Outcomes.{each_told, loses_none};
 ghost use Rattle.hp_model.specs.Exact.{is_quiet, reports_truly};
 ghost use Rattle.hp_exact.specs.Refusals.{blames_rightly, pends_rightly};
 ghost use Rattle.hp_exact.specs.Ejects.{refused_shows};
+ghost use Rattle.hp_exact.specs.Ejects.{eject_shows};
 
 /// Under prompt delivery no processor outside SMM makes an access or takes INIT while a session has all others called in, which is
 /// from its entry at S2 to its entry at E5, or to its end. So no session is disturbed.
@@ -39,4 +40,9 @@ pub fn pending_ejects_were_seen()
 /// and `StillPending` are told in disturbed sessions alone, and the status of `StillPending` was read, with bit 4.
 pub fn refused_ejects_show()
     ensures { (p : Platform) (es : List Entry) → IsFit p → each_told p (refused_shows p) (transitions p es) ≡ true }
+/// What is told of an eject shows in the entries of its outcome. `Ejected`: the APIC ID is bound, the slot its place, and in an
+/// undisturbed session exactly this processor becomes absent, at E4b, from SMM in the slot's tile. `NotParked`: P looks at the parked
+/// byte read 0. `Foreign` and `StillPending`: the session is disturbed, and the latter's status was read, with bit 4.
+pub fn ejects_show()
+    ensures { (p : Platform) (es : List Entry) → IsFit p → each_told p (eject_shows p) (transitions p es) ≡ true }
 {}

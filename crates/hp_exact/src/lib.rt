@@ -16,3 +16,4 @@ pub use adds::{
 };
 pub use laws::{outcomes_lose_none, refusals_blame_rightly, reports_are_true, sessions_are_quiet};
 pub use laws::{outcomes_lose_none, refused_ejects_show, reports_are_true, sessions_are_quiet};
+pub use laws::{ejects_show, outcomes_lose_none, reports_are_true, sessions_are_quiet};
