@@ -1,12 +1,11 @@
 -- What is told of ejects shows in what the entries read, and an undisturbed session tells neither Foreign nor StillPending: over each kind of step.
-use Rattle.std.proofs.Common.{ℕ, zero, suc, ◌≡◌, ◌≢◌, ◌+◌, ◌-◌, ◌*◌, ◌<◌, ◌≤◌, ◌==◌, ◌⊎◌, inl, inr, Bool, true, false, cond, not, ◌&&◌, ◌||◌, nat_lt, nat_le, List, [], ◌∷◌, length, drop, replicate, map, Option, Some, None, bit_and, refl, sym, ap, subst, ◌∙◌, arith}
-use Rattle.std.specs.Prelude.{slice_index_or, filter}
-use Rattle.std.specs.List.{list_any, list_all}
+use Rattle.std.proofs.Common.{ℕ, zero, suc, ◌≡◌, ◌≢◌, ◌+◌, ◌-◌, ◌*◌, ◌<◌, ◌≤◌, ◌==◌, ◌⊎◌, inl, inr, Bool, true, false, cond, not, ◌&&◌, ◌||◌, nat_lt, nat_le, List, [], ◌∷◌, length, replicate, Option, Some, None, bit_and, refl, sym, ap, subst, ◌∙◌, arith}
+use Rattle.std.specs.Prelude.{slice_index_or}
+use Rattle.std.specs.List.{list_any}
 use Rattle.std.specs.Str.{bytes_eq}
-use Rattle.std.proofs.lemmas.Bool.{and_parts, ltb-true}
+use Rattle.std.proofs.lemmas.Bool.{and_parts}
 use Rattle.std.proofs.lemmas.Bool.Decides.{nat_tests}
 use Rattle.hp_model.specs.declared.platforms.Platform.{Platform}
-use Rattle.hp_model.specs.declared.processors.Cpu.{Cpu}
 use Rattle.hp_model.specs.declared.accesses.Access.{Access}
 use Rattle.hp_model.specs.declared.accesses.Access.TheVariants.{Load}
 use Rattle.hp_model.specs.declared.accesses.Want.{Want}
@@ -15,7 +14,6 @@ use Rattle.hp_model.specs.declared.labels.Label.{Label}
 use Rattle.hp_model.specs.declared.labels.Label.TheVariants.{F1, F2, F3, F4, F5, F6, R1, R2, R3, R4, R5, R6, S0, S1, S2, S3, S4, C1, C2, C3, C4, C5, C6, NB, N0, N1, N2, N3, N4, N5, N6, N7, N8a, N8b, N9, N10, N11, E0, E1, E2, E3, E4a, E4b, E4c, E4d, E4e, E4f, E4g, E4h, T, E5, E6, E7}
 use Rattle.hp_model.specs.declared.outcomes.Outcome.{Outcome}
 use Rattle.hp_model.specs.declared.outcomes.Outcome.TheVariants.{Added, Ejected, Refused}
-use Rattle.hp_model.specs.declared.outcomes.Refusal.{Refusal}
 use Rattle.hp_model.specs.declared.outcomes.Refusal.TheVariants.{Disabled, Both, AlreadyKnown, GateHeld, NotAtGate, NotCheckedIn, NoUnplug, NotKnown, NotArrived, NotParked, Foreign, StillPending}
 use Rattle.hp_model.specs.declared.entries.Event.TheVariants.{Insert, Remove, Do, TakeSmi, TakeInit, Resume, Tell}
 use Rattle.hp_model.specs.declared.entries.Entry.{Entry}
@@ -25,18 +23,18 @@ use Rattle.hp_model.specs.View.{Locks, is_hole, loaded, stored}
 use Rattle.hp_model.specs.Cpu.{is_outside, is_in_smm, is_free, smm_address, may_take_smi, may_take_init, take_init}
 use Rattle.hp_model.specs.Block.{is_in}
 use Rattle.hp_model.specs.Boot.{Stage, value_in}
-use Rattle.hp_model.specs.Labels.{Part, Relocated, Monarch as Monarchs, part_of, index_of, same_label}
-use Rattle.hp_model.specs.SharedBytes.{layout_of, arrived_byte, map_byte, parked_byte, gate, closed, new_smbase, flag, default_smbase_field}
+use Rattle.hp_model.specs.Labels.{Relocated, Monarch as Monarchs, part_of, index_of, same_label}
+use Rattle.hp_model.specs.SharedBytes.{layout_of, arrived_byte, map_byte, parked_byte, gate, closed, flag, default_smbase_field}
 use Rattle.hp_model.specs.Monarch.{Monarch, restarted}
-use Rattle.hp_model.specs.Handlers.{Seat, want_at, next_at, runs_at}
+use Rattle.hp_model.specs.Handlers.{Seat, want_at, runs_at}
 use Rattle.hp_model.specs.Step.{State, at, set_cpu, seat, access_effect, answer_to, insert, request_removal, enter_smm, leave_smm, with_session, is_after_broadcast, writes_block, same_outcome}
 use Rattle.hp_model.specs.Runs.{run_on}
 use Rattle.hp_model.specs.Transitions.{Transition, entries_of, since}
 use Rattle.hp_model.specs.Account.{is_at}
 use Rattle.hp_model.specs.Sessions.{bounds_session, tells, ends_outcome}
-use Rattle.hp_model.specs.Outcomes.{own_of, values_at, reads_zeros, is_still_pending}
+use Rattle.hp_model.specs.Outcomes.{own_of, values_at}
 use Rattle.hp_model.proofs.AtEach.{made}
-use Rattle.hp_sealed.specs.Left.{Sound, Locked}
+use Rattle.hp_sealed.specs.Left.{Sound}
 use Rattle.hp_sealed.proofs.Left.{pick, left_store}
 use Rattle.hp_sealed.proofs.Outside.{acts, left_acted}
 use Rattle.hp_sealed.proofs.Places.{Base, base_based, tseg_locked}
@@ -48,7 +46,7 @@ use Rattle.hp_exact.proofs.Monarchs.{is_among, ejecting, next_other}
 use Rattle.hp_exact.proofs.Releasing.{slot_small}
 use Rattle.hp_exact.proofs.Rows.{access_of, at_want}
 use Rattle.hp_exact.proofs.Keeping.{none_outside, outside_in}
-use Rattle.hp_exact.proofs.Ejecting.{shows_reads, may_tell, Looked, IsBit, SaidAt, Owns, Says, said_row}
+use Rattle.hp_exact.proofs.Ejecting.{shows_reads, IsBit, SaidAt, Owns, Says, said_row}
 
 -- the entries of an outcome, with one more
 pub own_more : (p : Platform) (x : Transition) (past : List Transition) → ends_outcome p x.entry ≡ false → own_of p (x ∷ past) ≡ x ∷ own_of p past

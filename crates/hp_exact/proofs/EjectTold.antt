@@ -1,48 +1,40 @@
 -- Every state of a run: what its entries tell of an eject so far; and so refusals of ejects show.
-use Rattle.std.proofs.Common.{ℕ, ◌≡◌, ◌<◌, ◌≤◌, ◌==◌, ◌⊎◌, inl, inr, Bool, true, false, cond, not, ◌&&◌, ◌||◌, nat_le, List, [], ◌∷◌, Option, Some, None, refl, sym, ap, subst, ◌∙◌, arith}
-use Rattle.std.specs.List.{list_all}
+use Rattle.std.proofs.Common.{ℕ, ◌≡◌, ◌<◌, ◌≤◌, Bool, true, false, cond, not, nat_le, List, [], ◌∷◌, Option, Some, None, refl, sym, ap, subst, ◌∙◌, arith}
 use Rattle.std.proofs.lemmas.Bool.{and_parts, eqb-true, ltb-true}
 use Rattle.std.proofs.lemmas.Bool.Decides.{nat_tests}
 use Rattle.hp_model.specs.declared.platforms.Platform.{Platform}
 use Rattle.hp_model.specs.declared.labels.Label.{Label}
 use Rattle.hp_model.specs.declared.labels.Label.TheVariants.{F1, F2, F3, F4, F5, F6, R1, R2, R3, R4, R5, R6, S0, S1, S2, S3, S4, C1, C2, C3, C4, C5, C6, NB, N0, N1, N2, N3, N4, N5, N6, N7, N8a, N8b, N9, N10, N11, E0, E1, E2, E3, E4a, E4b, E4c, E4d, E4e, E4f, E4g, E4h, T, E5, E6, E7}
 use Rattle.hp_model.specs.declared.outcomes.Outcome.{Outcome}
-use Rattle.hp_model.specs.declared.outcomes.Outcome.TheVariants.{Added, Ejected, Refused}
+use Rattle.hp_model.specs.declared.outcomes.Outcome.TheVariants.{Refused}
 use Rattle.hp_model.specs.declared.outcomes.Refusal.{Refusal}
 use Rattle.hp_model.specs.declared.outcomes.Refusal.TheVariants.{Disabled, Both, AlreadyKnown, GateHeld, NotAtGate, NotCheckedIn, NoUnplug, NotKnown, NotArrived, NotParked, Foreign, StillPending}
-use Rattle.hp_model.specs.declared.accesses.Access.{Access}
-use Rattle.hp_model.specs.declared.accesses.Want.TheVariants as want
 use Rattle.hp_model.specs.declared.entries.Entry.{Entry}
-use Rattle.hp_model.specs.Platform.{IsFit, count_of, apic_of, tile, polls_fit, counts_fit, ids_fit, boot_fits, memory_fits, tseg_fits, tiles_fit, features_fit, is_late}
-use Rattle.hp_model.specs.Cpu.{is_in_smm, smm_address}
+use Rattle.hp_model.specs.Platform.{IsFit, count_of, apic_of, polls_fit, counts_fit, ids_fit, boot_fits, memory_fits, tseg_fits, tiles_fit, features_fit}
+use Rattle.hp_model.specs.Cpu.{smm_address}
 use Rattle.hp_model.specs.Boot.{is_handed}
-use Rattle.hp_model.specs.Labels.{Part, First, Relocated, Monarch as Monarchs, part_of, mark_of, same_label}
+use Rattle.hp_model.specs.Labels.{Part, First, Relocated, Monarch as Monarchs, part_of, mark_of}
 use Rattle.hp_model.specs.SharedBytes.{layout_of}
-use Rattle.hp_model.specs.Monarch.{Monarch, is_own}
 use Rattle.hp_model.specs.Handlers.{runs_at, is_due}
-use Rattle.hp_model.specs.Step.{State, at, start, is_after_broadcast, same_outcome}
-use Rattle.hp_model.specs.Events.{outcome_in}
+use Rattle.hp_model.specs.Step.{State, at, start, is_after_broadcast}
 use Rattle.hp_model.specs.Runs.{run_on}
-use Rattle.hp_model.specs.Transitions.{Transition, transitions, entries_of}
+use Rattle.hp_model.specs.Transitions.{Transition, entries_of}
 use Rattle.hp_model.specs.Sessions.{is_disturbed}
-use Rattle.hp_model.specs.Outcomes.{Telling, own_of, telling, when_told, each_told, is_refused}
-use Rattle.hp_model.proofs.AtEach.{made, each_passes}
+use Rattle.hp_model.specs.Outcomes.{own_of, telling}
+use Rattle.hp_model.proofs.AtEach.{made}
 use Rattle.hp_sealed.specs.Left.{Sound}
 use Rattle.hp_sealed.proofs.Labels.{same_label as one_label}
-use Rattle.hp_sealed.proofs.Same.{same_outcome-is}
-use Rattle.hp_sealed.proofs.Starts.{sound}
-use Rattle.hp_safety.proofs.Needs.{Need, Nothing, Ejecting, need_of, MonarchNeeds, Needs}
+use Rattle.hp_safety.proofs.Needs.{Nothing, Ejecting, need_of, MonarchNeeds, Needs}
 use Rattle.hp_safety.proofs.Invariant.{Stands, AtCell, facts_of}
 use Rattle.hp_safety.proofs.Runs.{IsHanded}
-use Rattle.hp_exact.proofs.Stood.{IsStood, stood}
-use Rattle.hp_exact.proofs.Stepping.{AtMonarch, Kinds, by_kind}
+use Rattle.hp_exact.proofs.Stood.{stood}
 use Rattle.hp_exact.proofs.Monarchs.{is_among, ejecting}
-use Rattle.hp_exact.proofs.Naming.{Ids, ids_of}
-use Rattle.hp_exact.proofs.Invariant.{is_reporting, Invariant}
+use Rattle.hp_exact.proofs.Naming.{Ids}
+use Rattle.hp_exact.proofs.Invariant.{is_reporting}
 use Rattle.hp_exact.proofs.Losing.{Losses}
 use Rattle.hp_exact.proofs.Lost.{losses_go}
 use Rattle.hp_exact.proofs.Reporting.{no_more}
-use Rattle.hp_exact.proofs.Beginning.{Whole, whole_begins, whole_goes, access_before, fresh_at_hand_over}
+use Rattle.hp_exact.proofs.Beginning.{Whole, whole_begins, whole_goes, fresh_at_hand_over}
 use Rattle.hp_exact.proofs.Quiet.{handed_of}
 use Rattle.hp_exact.proofs.Ejecting.{shows_reads, may_tell, SaidAt, Owns}
 use Rattle.hp_exact.proofs.EjectReads.{said_fresh, said_goes}

@@ -1,5 +1,5 @@
 -- What the entries of an outcome tell of an eject so far: how often its parked byte was looked at, and what its status byte was.
-use Rattle.std.proofs.Common.{ℕ, zero, suc, ◌≡◌, ◌+◌, ◌-◌, ◌≤◌, ◌==◌, Bool, true, false, not, ◌&&◌, ◌||◌, nat_lt, nat_le, List, [], ◌∷◌, ◌++◌, length, drop, replicate, Option, Some, None, bit_and, refl, sym, ap, subst, ◌∙◌, arith, if◌then◌else◌}
+use Rattle.std.proofs.Common.{ℕ, suc, ◌≡◌, ◌+◌, ◌-◌, ◌≤◌, ◌==◌, Bool, true, false, not, ◌&&◌, ◌||◌, nat_lt, nat_le, List, [], ◌∷◌, ◌++◌, length, drop, replicate, Option, Some, None, bit_and, refl, sym, ap, subst, ◌∙◌, arith, if◌then◌else◌}
 use Rattle.std.specs.List.{list_all}
 use Rattle.std.specs.Str.{bytes_eq}
 use Rattle.std.proofs.lemmas.Bool.{and_parts}
@@ -20,15 +20,14 @@ use Rattle.hp_model.specs.Labels.{Monarch as Monarchs, part_of}
 use Rattle.hp_model.specs.SharedBytes.{layout_of, parked_byte}
 use Rattle.hp_model.specs.Slots.{known_from}
 use Rattle.hp_model.specs.Collection.{Report, Collection, Collected, CollectsAt, CollectedAll, collection_start, next_processor}
-use Rattle.hp_model.specs.Add.{Led, AddsAt, Ends, failed, is_last_look}
-use Rattle.hp_model.specs.Eject.{EjectLed, EjectsAt, EjectEnds}
-use Rattle.hp_model.specs.Monarch.{Monarch, Facts, Class, Tells, Adds, Ejects, is_own, class, held_class, facts_of, at_label, look_at, noted, tells, adds, ejects, took, answered, taken_up, next_report, collected, told, led, eject_led}
+use Rattle.hp_model.specs.Add.{Led, Ends, failed, is_last_look}
+use Rattle.hp_model.specs.Eject.{EjectsAt}
+use Rattle.hp_model.specs.Monarch.{Monarch, Facts, Class, Tells, Adds, Ejects, is_own, class, held_class, facts_of, at_label, look_at, noted, took, answered, taken_up, next_report, collected, told, led, eject_led}
 use Rattle.hp_model.specs.Handlers.{Seat, next_at}
 use Rattle.hp_model.specs.Outcomes.{values_at, reads_zeros, is_still_pending}
 use Rattle.hp_sealed.proofs.Left.{pick, pick_by}
 use Rattle.hp_exact.proofs.Monarchs.{is_among}
 use Rattle.hp_exact.proofs.Reports.{all_drop}
-use Rattle.hp_exact.proofs.Reporting.{no_more}
 
 -- what is told of an eject shows in its own entries, as far as these say what was read
 abbrev pub shows_reads_of : Platform → List Entry → Refusal → Bool

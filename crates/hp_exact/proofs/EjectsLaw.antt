@@ -1,5 +1,5 @@
 -- The law: what is told of an eject shows in the entries of its outcome.
-use Rattle.std.proofs.Common.{ℕ, ◌≡◌, ◌<◌, ◌==◌, inl, inr, Bool, true, false, ◌&&◌, ◌||◌, List, [], ◌∷◌, Option, Some, refl, sym, ap, subst, ◌∙◌, arith}
+use Rattle.std.proofs.Common.{◌≡◌, ◌==◌, inl, inr, Bool, true, false, ◌&&◌, ◌||◌, List, [], ◌∷◌, Some, refl, sym, subst, ◌∙◌, arith}
 use Rattle.std.proofs.lemmas.Bool.{and_from}
 use Rattle.hp_model.specs.declared.platforms.Platform.{Platform}
 use Rattle.hp_model.specs.declared.labels.Label.TheVariants.{T}
@@ -10,8 +10,7 @@ use Rattle.hp_model.specs.Platform.{IsFit}
 use Rattle.hp_model.specs.Block.{is_in}
 use Rattle.hp_model.specs.Boot.{is_handed}
 use Rattle.hp_model.specs.Slots.{place_of}
-use Rattle.hp_model.specs.Monarch.{Monarch}
-use Rattle.hp_model.specs.Step.{State, start, is_after_broadcast, same_outcome}
+use Rattle.hp_model.specs.Step.{State, start, same_outcome}
 use Rattle.hp_model.specs.Events.{outcome_in}
 use Rattle.hp_model.specs.Runs.{run_on}
 use Rattle.hp_model.specs.Transitions.{Transition, transitions, entries_of}
@@ -20,18 +19,16 @@ use Rattle.hp_model.specs.Sessions.{is_disturbed}
 use Rattle.hp_model.specs.Outcomes.{own_of, telling, when_told, each_told, departures, is_eject_of, is_only}
 use Rattle.hp_model.proofs.AtEach.{made, each_passes}
 use Rattle.hp_sealed.specs.Left.{Sound}
-use Rattle.hp_sealed.specs.Sealed.{Placed}
 use Rattle.hp_sealed.proofs.Same.{same_outcome-is}
 use Rattle.hp_sealed.proofs.Starts.{sound}
 use Rattle.hp_safety.proofs.Ties.{session_of, TiedAt, tie_of}
 use Rattle.hp_safety.proofs.Named.{Accounted}
 use Rattle.hp_safety.proofs.Held.{Knows, knows_first, knows_on}
-use Rattle.hp_safety.proofs.Runs.{IsHanded}
 use Rattle.hp_exact.proofs.Stood.{IsStood, stood}
 use Rattle.hp_exact.proofs.Stepping.{AtMonarch, Kinds, by_kind}
-use Rattle.hp_exact.proofs.Naming.{Ids, ids_of}
+use Rattle.hp_exact.proofs.Naming.{ids_of}
 use Rattle.hp_exact.proofs.Invariant.{Invariant}
-use Rattle.hp_exact.proofs.Beginning.{Whole, access_before, fresh_at_hand_over}
+use Rattle.hp_exact.proofs.Beginning.{access_before, fresh_at_hand_over}
 use Rattle.hp_exact.proofs.Quiet.{handed_of}
 use Rattle.hp_exact.proofs.Ejecting.{shows_reads, may_tell, SaidAt}
 use Rattle.hp_exact.proofs.EjectTold.{polls_some, eject_slot, Refusing, refusing_begins, refusing_goes, refused_by}

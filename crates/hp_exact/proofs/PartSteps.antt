@@ -1,7 +1,7 @@
 -- An eject's processor has parked in its tile before it is ejected, and it alone leaves: over each kind of step.
-use Rattle.std.proofs.Common.{ℕ, zero, suc, ◌≡◌, ◌≢◌, ◌+◌, ◌-◌, ◌*◌, ◌<◌, ◌≤◌, ◌==◌, ◌⊎◌, inl, inr, Bool, true, false, cond, not, ◌&&◌, ◌||◌, nat_lt, nat_le, List, [], ◌∷◌, ◌++◌, length, map, slice_set, Option, Some, None, refl, sym, ap, subst, ◌∙◌, arith, get_or-set_other}
+use Rattle.std.proofs.Common.{ℕ, zero, suc, ◌≡◌, ◌≢◌, ◌<◌, ◌≤◌, ◌==◌, ◌⊎◌, inl, inr, Bool, true, false, cond, not, ◌&&◌, ◌||◌, nat_lt, List, [], ◌∷◌, length, slice_set, Some, None, refl, sym, ap, subst, ◌∙◌, arith, get_or-set_other}
 use Rattle.std.specs.Prelude.{slice_index_or, filter}
-use Rattle.std.proofs.lemmas.Bool.{and_parts, and_from, ltb-true, eqb-true}
+use Rattle.std.proofs.lemmas.Bool.{and_parts, and_from, eqb-true}
 use Rattle.std.proofs.lemmas.Bool.Decides.{nat_tests}
 use Rattle.std.proofs.lemmas.Option.{same_Some}
 use Rattle.hp_model.specs.declared.platforms.Platform.{Platform}
@@ -10,7 +10,6 @@ use Rattle.hp_model.specs.declared.processors.Mode.TheVariants.{Wait, Running, H
 use Rattle.hp_model.specs.declared.processors.Cpu.{Cpu}
 use Rattle.hp_model.specs.declared.accesses.Access.{Access}
 use Rattle.hp_model.specs.declared.accesses.Access.TheVariants.{Load}
-use Rattle.hp_model.specs.declared.accesses.Want.{Want}
 use Rattle.hp_model.specs.declared.accesses.Want.TheVariants as want
 use Rattle.hp_model.specs.declared.labels.Label.{Label}
 use Rattle.hp_model.specs.declared.labels.Label.TheVariants.{F1, F2, F3, F4, F5, F6, R1, R2, R3, R4, R5, R6, S0, S1, S2, S3, S4, C1, C2, C3, C4, C5, C6, NB, N0, N1, N2, N3, N4, N5, N6, N7, N8a, N8b, N9, N10, N11, E0, E1, E2, E3, E4a, E4b, E4c, E4d, E4e, E4f, E4g, E4h, T, E5, E6, E7}
@@ -18,11 +17,11 @@ use Rattle.hp_model.specs.declared.outcomes.Outcome.{Outcome}
 use Rattle.hp_model.specs.declared.outcomes.Outcome.TheVariants.{Added, Ejected, Refused}
 use Rattle.hp_model.specs.declared.entries.Event.TheVariants.{Insert, Remove, Do, TakeSmi, TakeInit, Resume, Tell}
 use Rattle.hp_model.specs.declared.entries.Entry.{Entry}
-use Rattle.hp_model.specs.Platform.{count_of, apic_of, tile, tseg, is_late}
+use Rattle.hp_model.specs.Platform.{count_of, apic_of, tile, is_late}
 use Rattle.hp_model.specs.Memory.{Write, byte_at, value_from}
 use Rattle.hp_model.specs.View.{is_hole, ones}
 use Rattle.hp_model.specs.Cpu.{absent, inserted, cpu_at, is_outside, is_in_smm, address_in, is_free, smm_address, may_take_smi, take_smi, may_take_init, take_init, resumed, moved}
-use Rattle.hp_model.specs.Block.{Block, Slot, slot_at, no_slot, is_in, is_selected, controlled, write_control, block_write, ejected_by}
+use Rattle.hp_model.specs.Block.{Block, Slot, slot_at, no_slot, controlled, write_control, block_write, ejected_by}
 use Rattle.hp_model.specs.Boot.{Stage, value_in}
 use Rattle.hp_model.specs.Labels.{Part, First, Relocated, Monarch as Monarchs, part_of, index_of, same_label}
 use Rattle.hp_model.specs.SharedBytes.{layout_of, tile_in, parked_byte, release_byte}
@@ -32,10 +31,10 @@ use Rattle.hp_model.specs.Monarch.{Monarch, restarted}
 use Rattle.hp_model.specs.Handlers.{Seat, Next, want_at, next_at, runs_at, is_tile, address_of_label, slot_at as slot_of_tile}
 use Rattle.hp_model.specs.Step.{State, at, set_cpu, seat, access_effect, answer_to, insert, request_removal, enter_smm, leave_smm, go_on, stands_in_smm, with_session, is_after_broadcast, writes_block, same_outcome}
 use Rattle.hp_model.specs.Runs.{run_on}
-use Rattle.hp_model.specs.Transitions.{Transition, entries_of, places, has_left, left_in}
+use Rattle.hp_model.specs.Transitions.{Transition, places, has_left, left_in}
 use Rattle.hp_model.specs.Account.{is_at}
 use Rattle.hp_model.specs.Sessions.{bounds_session, tells, ends_outcome}
-use Rattle.hp_model.specs.Outcomes.{Departure, own_of, departures, is_at_tile, is_eject_of, is_only, is_none}
+use Rattle.hp_model.specs.Outcomes.{Departure, own_of, departures, is_eject_of, is_only, is_none}
 use Rattle.hp_model.proofs.AtEach.{made}
 use Rattle.hp_sealed.specs.Left.{Sound}
 use Rattle.hp_sealed.specs.Sealed.{Placed, IsAtSlot, is_other_tile}
@@ -56,7 +55,7 @@ use Rattle.hp_exact.proofs.Rows.{access_of, at_want, stays_row}
 use Rattle.hp_exact.proofs.Keeping.{none_outside, outside_in, was_quiet, present_set, present_go, Unwritten, other_unwritten}
 use Rattle.hp_exact.proofs.Losing.{pending, Losses}
 use Rattle.hp_exact.proofs.Invariant.{Invariant}
-use Rattle.hp_exact.proofs.EjectReads.{own_more, own_none, elsewhere, is_collects, by_label, ejecting_goes, marks_other, left_outside, left_entering, loads_parked, cleared, map_leaves}
+use Rattle.hp_exact.proofs.EjectReads.{own_more, elsewhere, is_collects, by_label, ejecting_goes, marks_other, left_outside, left_entering, loads_parked, cleared, map_leaves}
 use Rattle.hp_exact.proofs.Parting.{looping, Parked, Seated, Waits, Alone, Gone, PartsAt, Does, parts_row}
 
 -- who leaves in a transition

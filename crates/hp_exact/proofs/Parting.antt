@@ -16,11 +16,11 @@ use Rattle.hp_model.specs.Cpu.{cpu_at, smm_address}
 use Rattle.hp_model.specs.Block.{is_in}
 use Rattle.hp_model.specs.Labels.{Monarch as Monarchs, part_of}
 use Rattle.hp_model.specs.SharedBytes.{layout_of, parked_byte}
-use Rattle.hp_model.specs.Slots.{place_of, known_from, is_known}
+use Rattle.hp_model.specs.Slots.{place_of, known_from}
 use Rattle.hp_model.specs.Collection.{Report, Collection, Collected, CollectsAt, CollectedAll, collection_start, next_processor}
-use Rattle.hp_model.specs.Add.{Led, AddsAt, Ends, failed, is_last_look}
-use Rattle.hp_model.specs.Eject.{EjectLed, EjectsAt, EjectEnds}
-use Rattle.hp_model.specs.Monarch.{Monarch, Facts, Class, Tells, Adds, Ejects, class, held_class, facts_of, at_label, look_at, noted, tells, adds, ejects, took, answered, taken_up, next_report, collected, told, led, eject_led}
+use Rattle.hp_model.specs.Add.{Led, Ends, failed, is_last_look}
+use Rattle.hp_model.specs.Eject.{EjectsAt}
+use Rattle.hp_model.specs.Monarch.{Monarch, Facts, Class, Tells, Adds, Ejects, class, held_class, facts_of, at_label, look_at, noted, ejects, took, answered, taken_up, next_report, collected, told, led, eject_led}
 use Rattle.hp_model.specs.Handlers.{Seat, next_at, address_of_label}
 use Rattle.hp_model.specs.Transitions.{Transition}
 use Rattle.hp_model.specs.Outcomes.{departures, is_eject_of, is_only}

@@ -1,5 +1,5 @@
 -- What outcomes of ejects show, of all that an outcome says.
-use Rattle.std.specs.Prelude.{ℕ, Bool, true}
+use Rattle.std.specs.Prelude.{Bool, true}
 use Rattle.hp_model.specs.declared.platforms.Platform.{Platform}
 use Rattle.hp_model.specs.declared.outcomes.Outcome.{Outcome}
 use Rattle.hp_model.specs.declared.outcomes.Outcome.TheVariants.{Added, Ejected, Refused}
