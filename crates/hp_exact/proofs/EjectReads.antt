@@ -456,7 +456,6 @@ row_marks p k s q r slot R6 fit tight other = by_slot (q.slot == slot) refl
     by_slot : (b : Bool) → (q.slot == slot) ≡ b → Marks (parked_byte (layout_of p) slot) slot R6 q.slot s.writes (stored s.locks true (parked_byte (layout_of p) q.slot) 1 1 s.writes)
     by_slot true is = elim (one_stored s.locks (parked_byte (layout_of p) q.slot) (parked_byte (layout_of p) slot) s.writes) [ inl e ↦ inl (inl e) | inr e ↦ inr (refl, same_place q.slot slot is, e) ]
     by_slot false is = inl (inl (missed s.locks (parked_byte (layout_of p) q.slot) 1 1 (parked_byte (layout_of p) slot) s.writes (other_misses (tseg p) q.slot slot is)))
-
 row_marks p k s q r slot S0 fit tight other = absurd (other refl)
 row_marks p k s q r slot S1 fit tight other = absurd (other refl)
 row_marks p k s q r slot S2 fit tight other = absurd (other refl)

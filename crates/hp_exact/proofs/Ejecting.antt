@@ -318,7 +318,6 @@ module _ (p : Platform) (own own2 : List Entry) (d d2 : Bool) (ws ws2 : List Wri
       by_told (Added cpu apic slot) = said_next p own2 d2 ws2 (told (Added cpu apic slot) r) (says.anew refl)
       by_told (Ejected cpu apic slot) = said_next p own2 d2 ws2 (told (Ejected cpu apic slot) r) (says.anew refl)
       by_told (Refused why) = said_next p own2 d2 ws2 r (says.anew refl)
-
   said_row E5 mine is says = pick Now (nat_lt 1 (length r.slots.bound)) (record r { label = E6; slot = 1 }) (at_label E7 r) (λ owns. tt) (λ owns. tt)
   said_row E6 mine is says = pick Now (nat_lt (r.slot + 1) (length r.slots.bound)) (record r { label = E6; slot = r.slot + 1 }) (at_label E7 r) (λ owns. tt) (λ owns. tt)
   said_row E7 mine is says = λ owns. subst (SaidAt p own2 d2 ws2 r) (sym is) tt
