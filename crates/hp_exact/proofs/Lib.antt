@@ -36,3 +36,4 @@ pub mod EjectTold
 pub mod Parting
 pub mod PartSteps
 pub mod EjectsLaw
+pub mod Exactness

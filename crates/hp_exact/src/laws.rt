@@ -1,14 +1,15 @@
 //! Laws over definitions: public functions with empty bodies, whose clauses are what is proved.
 
-ghost use Rattle.std.specs.Prelude.{◌≡◌, true, List};
+ghost use Rattle.std.specs.Prelude.{◌≡◌, true, List, Some};
 ghost use Rattle.hp_model.specs.declared.platforms.Platform.{Platform};
 ghost use Rattle.hp_model.specs.declared.entries.Entry.{Entry};
 ghost use Rattle.hp_model.specs.Platform.{IsFit};
+ghost use Rattle.hp_model.specs.Step.{State};
+ghost use Rattle.hp_model.specs.Runs.{run};
 ghost use Rattle.hp_model.specs.Transitions.{transitions, at_each};
-ghost use Rattle.hp_model.specs.Outcomes.{each_told, loses_none};
-ghost use Rattle.hp_model.specs.Exact.{is_quiet, reports_truly};
-ghost use Rattle.hp_exact.specs.Refusals.{blames_rightly, pends_rightly};
-ghost use Rattle.hp_exact.specs.Ejects.{refused_shows};
+ghost use Rattle.hp_model.specs.Outcomes.{each_told, loses_none, shows};
+ghost use Rattle.hp_model.specs.Exact.{is_quiet, reports_truly, IsExact};
+ghost use Rattle.hp_model.specs.Safety.{IsSafe};
 ghost use Rattle.hp_exact.specs.Ejects.{eject_shows};
 
 /// Under prompt delivery no processor outside SMM makes an access or takes INIT while a session has all others called in, which is
@@ -28,21 +29,25 @@ pub fn outcomes_lose_none()
     ensures { (p : Platform) (es : List Entry) → IsFit p → each_told p (loses_none p) (transitions p es) ≡ true }
 {}
 
-/// That a report's APIC ID isn't its processor's, or that an eject hit another processor, is told in disturbed sessions alone.
-pub fn refusals_blame_rightly()
-    ensures { (p : Platform) (es : List Entry) → IsFit p → each_told p (blames_rightly p) (transitions p es) ≡ true }
-{}
-
-/// An eject that is told as still pending was looked at in its entries: an E4g read the status byte that is told, with bit 4 set.
-pub fn pending_ejects_were_seen()
-    ensures { (p : Platform) (es : List Entry) → IsFit p → each_told p (pends_rightly p) (transitions p es) ≡ true }
-/// A refusal of an eject shows in the entries of its outcome: `NotParked` in P looks at the parked byte, each of which read 0. `Foreign`
-/// and `StillPending` are told in disturbed sessions alone, and the status of `StillPending` was read, with bit 4.
-pub fn refused_ejects_show()
-    ensures { (p : Platform) (es : List Entry) → IsFit p → each_told p (refused_shows p) (transitions p es) ≡ true }
 /// What is told of an eject shows in the entries of its outcome. `Ejected`: the APIC ID is bound, the slot its place, and in an
 /// undisturbed session exactly this processor becomes absent, at E4b, from SMM in the slot's tile. `NotParked`: P looks at the parked
 /// byte read 0. `Foreign` and `StillPending`: the session is disturbed, and the latter's status was read, with bit 4.
 pub fn ejects_show()
     ensures { (p : Platform) (es : List Entry) → IsFit p → each_told p (eject_shows p) (transitions p es) ≡ true }
+{}
+
+/// Each outcome shows in its entries: what is told of an add, of an eject, and of what was refused.
+pub fn outcomes_show()
+    ensures { (p : Platform) (es : List Entry) → IsFit p → each_told p (shows p) (transitions p es) ≡ true }
+{}
+
+/// Sessions do what they tell, and nothing else.
+pub fn sessions_are_exact()
+    ensures { (p : Platform) (es : List Entry) → IsFit p → IsExact p es }
+{}
+
+/// Every run is safe: what is executed in SMM was locked before it, no two processors hold one relocated SMBASE, an SMBASE changes only past the
+/// gate, and each completed add or eject of an undisturbed session changes exactly the processor that was reported, each refusal naming its fact.
+pub fn runs_are_safe()
+    ensures { (p : Platform) (es : List Entry) (s : State) → IsFit p → run p es ≡ Some s → IsSafe p es }
 {}

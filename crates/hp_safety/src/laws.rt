@@ -10,7 +10,6 @@ ghost use Rattle.hp_model.specs.Transitions.{transitions, at_each, at_each_state
 ghost use Rattle.hp_model.specs.Smbases.{IsDistinct, IsNamed};
 ghost use Rattle.hp_model.specs.Outcomes.{answers, each_told};
 ghost use Rattle.hp_model.specs.Exact.{moves_held, answers_all};
-ghost use Rattle.hp_model.specs.Safety.{IsLockedBefore};
 ghost use Rattle.hp_safety.specs.Flags.{flag_tells};
 ghost use Rattle.hp_safety.specs.Departures.{leaves_by_block};
 ghost use Rattle.hp_safety.specs.Reports.{reports_rise};
