@@ -3,6 +3,7 @@ pub mod Cpus
 pub mod Effects
 pub mod Runs
 pub mod Saves
+pub mod Shields
 pub mod Steps
 pub mod Swaps
 pub mod Transfers

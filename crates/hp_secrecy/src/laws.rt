@@ -30,10 +30,11 @@ pub fn what_is_done_inside_is_not_seen()
 {}
 
 /// Two such states that go on by the same events, each through shielded states, agree in the end in all that is visible, and so do their entries: outside
-/// SMM in the answers too. So do two runs of a platform whose runs are shielded from the hand-over on.
+/// SMM in the answers too. So do two runs of a platform, from any states of theirs after the hand-over: each such state is shielded.
 pub fn runs_keep_secrets()
     ensures states { (p : Platform) (es fs : List Entry) (s t u v : State) → IsFit p → StaysShielded p s es → StaysShielded p t fs → IsAlike s t → run_from p s es ≡ Some u → run_from p t fs ≡ Some v → events_of es ≡ events_of fs → GoAlike u v es fs }
-    ensures runs { (p : Platform) (xs ys es fs : List Entry) (s t u v : State) → IsFit p → IsAlwaysShielded p → GoOnAlike p xs ys es fs s t u v → GoAlike u v es fs }
+    ensures shielded { (p : Platform) → IsFit p → IsAlwaysShielded p }
+    ensures runs { (p : Platform) (xs ys es fs : List Entry) (s t u v : State) → IsFit p → GoOnAlike p xs ys es fs s t u v → GoAlike u v es fs }
 {}
 
 /// Two processors after the boot, the second in SMM: in the first run it has told so in its byte of locked memory, in the second it is about to. The two states
