@@ -3,7 +3,7 @@ use Rattle.std.proofs.Common.{◌≡◌, ℕ, Bool, true, false, ◌&&◌, ◌||
 use Rattle.std.specs.Prelude.{nat_lt, nat_le}
 use Rattle.std.proofs.lemmas.Bool.Decides.{nat_tests}
 use Rattle.hp_model.specs.declared.spans.Span.{Span}
-use Rattle.hp_model.specs.Spans.{is_in_span, is_in_spans}
+use Rattle.hp_model.specs.Spans.{in_span, in_some_span}
 use Rattle.hp_model.specs.View.{Locks, tseg_size, is_in_default, is_in_tseg, is_locked}
 use Rattle.hp_smram.specs.Memory.{IsMemorySize}
 use Rattle.hp_smram.specs.Spans.{default_span, tseg_span, locked_spans, spans_in}
@@ -11,17 +11,17 @@ use Rattle.hp_smram.proofs.Bits.{locking, tseg_room}
 
 abbrev is_in_some : Option Span → ℕ → Bool
 is_in_some None x = false
-is_in_some (Some s) x = is_in_span s x
+is_in_some (Some s) x = in_span x s
 
-two_spans : (a b : Option Span) (x : ℕ) → is_in_spans (spans_in (a ∷ b ∷ [])) x ≡ (is_in_some a x || is_in_some b x)
+two_spans : (a b : Option Span) (x : ℕ) → in_some_span (spans_in (a ∷ b ∷ [])) x ≡ (is_in_some a x || is_in_some b x)
 two_spans None None x = refl
-two_spans None (Some s) x = last (is_in_span s x)
+two_spans None (Some s) x = last (in_span x s)
   where
     last : (b : Bool) → (b || false) ≡ b
     last true = refl
     last false = refl
 two_spans (Some r) None x = refl
-two_spans (Some r) (Some s) x = last (is_in_span r x) (is_in_span s x)
+two_spans (Some r) (Some s) x = last (in_span x r) (in_span x s)
   where
     last : (a b : Bool) → (a || (b || false)) ≡ (a || b)
     last true b = refl
@@ -53,7 +53,7 @@ tseg_bytes size low x b fits = by_size (nat_lt 0 size) b refl
     by_size false true is = sym (empty size low x is)
     by_size false false is = refl
 
-pub spans_locked : (l : Locks) (x : ℕ) → IsMemorySize l.low_memory → is_in_spans (spans_in (locked_spans l)) x ≡ is_locked l x
+pub spans_locked : (l : Locks) (x : ℕ) → IsMemorySize l.low_memory → in_some_span (spans_in (locked_spans l)) x ≡ is_locked l x
 spans_locked l x fits =
     two_spans (default_span l) (tseg_span l) x
     ∙ ap (λ (b : Bool). b || is_in_some (tseg_span l) x) (default_bytes (l.f_smbase == 2) x)

@@ -2,7 +2,7 @@
 
 ghost use Rattle.std.specs.Prelude.{◌≡◌, ◌↔◌, ℕ, IsTrue, ◌<◌, ◌+◌, true, false, nat_le, bit_and, ◌≤◌, ◌^◌};
 ghost use Rattle.hp_model.specs.View.{f_smbase_written, ext_tseg_written, is_fixed as has_lock, lock_write, lock_read, is_hole, is_in_default as default_byte, is_in_tseg as tseg_byte, is_locked};
-ghost use Rattle.hp_model.specs.Spans.{is_in_spans};
+ghost use Rattle.hp_model.specs.Spans.{in_some_span};
 ghost use Rattle.hp_smram.specs.Memory.{IsMemorySize, locks_of};
 ghost use Rattle.hp_smram.specs.Spans.{default_span, tseg_span, locked_spans, spans_in};
 ghost use Rattle.hp_smram.specs.Reach.{IsWidth, HidesSome, has_byte, is_between};
@@ -184,7 +184,7 @@ impl Locks {
     /// The default area and TSEG, each where it is locked.
     pub fn locked(&self) -> [Option<Span>; 2]
         ensures spans { result ≡ locked_spans self.now }
-        ensures bytes { (x : ℕ) → is_in_spans (spans_in result) x ≡ is_locked self.now x }
+        ensures bytes { (x : ℕ) → in_some_span (spans_in result) x ≡ is_locked self.now x }
     {
         // brings in what is known of the registers
         let _ = &self.low_memory;
