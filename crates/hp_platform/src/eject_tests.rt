@@ -229,7 +229,7 @@ fn try_most<A: Agent>(rt: &impl Abort, world: &mut World<A>) -> Result<(), Fail>
     boot_steps(rt, world, 29)?;
     assert!(rt; world.handed());
     rounds(world, 512, 3)?;
-    for _turn in 0..540u32 {
+    for _turn in 0..1600u32 {
         let _made = turn(world, Actor::Cpu(0))?;
     }
     let entries = world.entries();
