@@ -1,0 +1,124 @@
+"""Names for what a trace has as numbers: labels, shared bytes, registers, interrupt commands, the numbers of outcomes.
+
+All addresses are computed from the trace's header, as docs/MACHINE.md has them: the default area's are fixed, those in
+TSEG follow from the end of RAM, the size of TSEG and a slot.
+"""
+
+from dataclasses import dataclass
+
+from traces import OUTCOMES
+
+FIRST = "F1 F2 F3 F4 F5 F6".split()
+RELOCATED = "R1 R2 R3 R4 R5 R6".split()
+# In the order of their cells: the labels that look whether an eject went through came last.
+MONARCH = (
+    "S0 S1 S2 S3 S4 C1 C2 C3 C4 C5 C6 NB N0 N1 N2 N3 N4 N5 N6 N7 N8a N8b N9 N10 N11 "
+    "E0 E1 E2 E3 E4a E4b E4c E4d E4e T E5 E6 E7 E4f E4g E4h"
+).split()
+
+DEFAULT_SMBASE = 0x30000
+ENTRY = 0x8000  # where SMI entry leads, from SMBASE on; the cells of the labels begin there
+TILE = 0x10000
+
+# address and width in bytes
+FIXED = {
+    (0x30000, 8): "gate",
+    (0x30008, 4): "new_smbase",
+    (0x3000C, 1): "flag",
+    (0x3FF00, 4): "saved_smbase",
+    (0x9F000, 4): "pen_mark",
+    (0x9F010, 1): "pen_byte",
+}
+# one byte a slot, each array 0x1000 after the one before it
+ARRAYS = ["arrived", "release", "map", "parked"]
+ARRAY = 0x1000
+SESSION = 0x4000
+
+# port, read or write: the register block takes an access of any width at a register's first port
+BLOCK = {
+    (0xCD8, "out"): "selector",
+    (0xCD8, "in"): "command_data_2",
+    (0xCDC, "out"): "control",
+    (0xCDC, "in"): "status",
+    (0xCDD, "out"): "command",
+    (0xCE0, "out"): "command_data",
+    (0xCE0, "in"): "command_data",
+}
+# port and width in bytes; each answers at these alone
+PORTS = {
+    (0xB2, 1): "APM_CNT",
+    (0xB3, 1): "APM_STS",
+    (0x620, 1): "gpe_status",
+    (0x630, 4): "SMI_EN",
+    (0x510, 2): "fw_cfg_selector",
+    (0x511, 1): "fw_cfg_data",
+    (0x514, 4): "fw_cfg_dma_high",
+    (0x518, 4): "fw_cfg_dma_low",
+}
+CONFIGURATION = {0x50: "ext_tseg", 0x9C: "F_SMBASE", 0x9D: "SMRAM", 0x9E: "ESMRAMC"}
+
+@dataclass
+class Interrupt:
+    """What an interrupt command sends, and to whom: one APIC ID, or None for all others."""
+
+    kind: str
+    page: int | None
+    apic: int | None
+
+
+def label_at(platform, address):
+    """The label whose cell has this address, None where none has."""
+    if DEFAULT_SMBASE <= address < DEFAULT_SMBASE + TILE:
+        return label_in(FIRST, address - DEFAULT_SMBASE)
+    slot, offset = divmod(address - platform.tile(0), TILE)
+    if not 0 <= slot < len(platform.apic):
+        return None
+    return label_in(RELOCATED if slot else MONARCH, offset)
+
+
+def label_in(labels, offset):
+    """The label of a handler at this offset from its SMBASE."""
+    index, rest = divmod(offset - ENTRY, 4)
+    return labels[index] if rest == 0 and 0 <= index < len(labels) else None
+
+
+def place_at(platform, address, width):
+    """The name of a shared word, or of a label's cell, that this access has as a whole; None for other memory."""
+    if (address, width) in FIXED:
+        return FIXED[address, width]
+    array, slot = divmod(address - platform.tseg, ARRAY)
+    if width == 1 and 0 <= array < len(ARRAYS) and slot < len(platform.apic):
+        return f"{ARRAYS[array]}[{slot}]"
+    if width == 1 and address == platform.tseg + SESSION:
+        return "session"
+    label = label_at(platform, address) if width == 4 else None
+    return label and f"cell[{label}]"
+
+
+def name_of(platform, entry):
+    """The name of what an entry's access is at, None where that has none."""
+    place = entry.value("place")
+    width = int(entry.text.get("width") or 8)
+    if entry.kind in ("load", "store", "cas"):
+        return place_at(platform, place, width)
+    if entry.kind in ("in", "out"):
+        return BLOCK.get((place, entry.kind)) or PORTS.get((place, width))
+    return CONFIGURATION.get(place) if entry.kind in ("cfgr", "cfgw") else None
+
+
+def interrupt_of(platform, entry):
+    """What an interrupt command delivers, None where its delivery mode or shorthand does nothing."""
+    high, low = entry.value("high"), entry.value("low")
+    kind = {2: "SMI", 5: "INIT", 6: "SIPI"}.get(low >> 8 & 7)
+    shorthand = low >> 18 & 3
+    if kind is None or shorthand not in (0, 3):
+        return None
+    page = low & 0xFF if kind == "SIPI" else None
+    apic = None if shorthand == 3 else high if platform.x2apic else high >> 24
+    return Interrupt(kind, page, apic)
+
+
+def outcome_of(entry):
+    """What is told: its word, and its numbers by name."""
+    outcome = entry.text["outcome"]
+    return outcome, dict(zip(OUTCOMES[outcome], entry.text["numbers"].split(), strict=True))

@@ -1,0 +1,86 @@
+"""What pictures say of a platform and of an entry."""
+
+from names import interrupt_of, name_of, outcome_of
+from replay import ABSENT, DEFAULT, HALTED, RUNNING, TSEG, WAITING
+
+CLOSED = "f" * 16
+DONE = {"added", "ejected"}
+MODES = {
+    RUNNING: "outside SMM",
+    DEFAULT: "SMM, default SMBASE",
+    TSEG: "SMM, SMBASE in TSEG",
+    WAITING: "waits for SIPI",
+    HALTED: "halted",
+    ABSENT: "absent",
+}
+PLAIN = {"smi": "takes the SMI", "init": "takes INIT", "halt": "halts", "rsm": "RSM", "nop": "nop"}
+# the value with which the boot goes on
+CHECKED = {"command_data_2": 0, "F_SMBASE": 1, "ext_tseg": 0x30, "fw_cfg_data": 1}
+
+
+def platform_words(platform):
+    """A platform in one line."""
+    count = len(platform.apic)
+    delivery = f"SMIs late, lag {platform.lag}" if platform.lag else "SMIs prompt"
+    return (
+        f"{count} possible processor{'s' * (count > 1)}, {platform.low >> 20} MiB of RAM, "
+        f"TSEG of {platform.tseg_mib} MiB at {platform.tseg:08x}, {delivery}"
+    )
+
+
+def in_words(name):
+    """A name as it stands in a picture."""
+    return name.replace("_", " ").replace("smbase", "SMBASE") if name.islower() else name
+
+
+def number(digits):
+    """A value without the zeros in front."""
+    return "closed" if digits == CLOSED else digits.lstrip("0") or "0"
+
+
+def interrupt_words(platform, entry):
+    """An interrupt command."""
+    interrupt = interrupt_of(platform, entry)
+    if interrupt is None:
+        return f"command {entry.text['high']} {entry.text['low']}"
+    page = "" if interrupt.page is None else f" {interrupt.page:02x}"
+    if interrupt.apic is None:
+        return f"{interrupt.kind}{page} to all others"
+    known = interrupt.apic in platform.apic
+    to = f"p{platform.apic.index(interrupt.apic)}" if known else f"nobody (APIC ID {interrupt.apic})"
+    return f"{interrupt.kind}{page} to {to}"
+
+
+def entry_words(platform, entry):
+    """One step, without who makes it."""
+    if entry.kind in PLAIN:
+        return PLAIN[entry.kind]
+    if entry.kind == "icr":
+        return interrupt_words(platform, entry)
+    text = entry.text
+    place = in_words(name_of(platform, entry) or text["place"])
+    if entry.kind == "cas":
+        passed = text["answer"] == text["expected"]
+        found = f"yes, now {number(text['value'])}" if passed else f"no, {number(text['answer'])}"
+        return f"{place} = {number(text['expected'])}? {found}"
+    return f"{place} → {number(text['answer'])}" if text.get("answer") else f"{place} ← {number(text['value'])}"
+
+
+def outcome_words(entry):
+    """What is told: the outcome, its processor, and what else it names."""
+    outcome, numbers = outcome_of(entry)
+    rest = [f"{name}={value}" for name, value in numbers.items() if name != "processor"]
+    return " ".join([outcome, f"p{numbers['processor']}", *rest])
+
+
+def is_done(entry):
+    """The outcome is no refusal."""
+    return entry.text["outcome"] in DONE
+
+
+def refuses_boot(platform, entries):
+    """The boot ended with the entry that read another value than the one it goes on with."""
+    if not entries or len(entries) >= platform.boot_count:
+        return False
+    last = entries[-1]
+    return last.value("answer") is not None and CHECKED.get(name_of(platform, last), last.value("answer")) != last.value("answer")
