@@ -82,11 +82,11 @@ class Overview:
                 yield f'<path d="M{x:.1f},{y + 6:.1f} l-4,-7 h8 z" fill="{svg.HOST}"/>'
 
     def told(self):
-        """A line for each outcome, with its flag where there is room."""
+        """A line and a flag for each outcome; where a flag has no room, a short line alone."""
         for entry, x, words, level in self.flags:
             colour = svg.GOOD if is_done(entry) else svg.BAD
-            line = self.x(entry.number)
-            yield f'<path d="M{line:.1f},{self.top - 4:.1f} V{self.bottom:.1f}" stroke="{colour}" stroke-width="0.8"/>'
+            line, end = self.x(entry.number), self.top if level is None else self.bottom
+            yield f'<path d="M{line:.1f},{self.top - 4:.1f} V{end:.1f}" stroke="{colour}" stroke-width="0.8"/>'
             if level is not None:
                 yield svg.flag(x, self.top - 8 - FLAG * level, words, colour, 8.5)
 

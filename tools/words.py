@@ -30,7 +30,7 @@ def platform_words(platform):
 
 def in_words(name):
     """A name as it stands in a picture."""
-    return name.replace("_", " ").replace("smbase", "SMBASE") if name.islower() else name
+    return name.replace("_", " ").replace("smbase", "SMBASE").replace("fw cfg", "fw_cfg") if name.islower() else name
 
 
 def number(digits):
