@@ -16,7 +16,10 @@ FILL = {
     HALTED: "#eceef0",
     ABSENT: svg.HATCHED,
 }
-ARROWS = [("sent", "interrupt command, or SMI of APM_CNT"), ("found", "a shared byte's store, and the load that finds it")]
+ARROWS = [
+    ("sent", "interrupt command, or SMI of APM_CNT"),
+    ("found", "a shared byte's store, and the load that finds it"),
+]
 
 ROW, TOP, LEFT, GAP, MARGIN, INSET, LABEL = 16, 106, 58, 46, 16, 8, 36
 NARROWEST, LEAST_LANE = 680, 190
@@ -59,7 +62,7 @@ def rows_of(platform, entries):
 
 
 def repeats(entry, key, seen):
-    """It may be a round of a loop: a step in SMM, or outside the step that was just made. Interrupt commands are no loop."""
+    """It may be a round of a loop: a step in SMM, or outside the one just made again. Interrupt commands are no loop."""
     if entry.actor is None or entry.kind in ("icr", "tell"):
         return False
     return entry.address is not None or bool(seen) and seen[-1][0] == key
@@ -79,6 +82,7 @@ class Chart:
 
     @property
     def refused(self):
+        """The boot ended with a refusal."""
         return refuses_boot(self.platform, self.entries)
 
     def width_in_lane(self, row):
@@ -92,6 +96,7 @@ class Chart:
         return LABEL + svg.width_of(self.row_words(row))
 
     def row_words(self, row):
+        """A step, and how often it was made."""
         return entry_words(self.platform, row.entry) + (f"  ×{row.count}" if row.count > 1 else "")
 
     def left(self, processor):
@@ -133,6 +138,7 @@ class Chart:
             yield self.shade(processor, begin, len(self.rows), mode)
 
     def shade(self, processor, begin, end, mode):
+        """A box over these rows of a lane."""
         return svg.box(self.left(processor), TOP + ROW * begin, self.lane, ROW * (end - begin), FILL[mode], svg.LINE)
 
     def row(self, index, row):

@@ -33,4 +33,5 @@ def modes(fill):
 
 
 def arrow_sample(head):
+    """A short arrow."""
     return Sample(26, lambda x, y: svg.arrow(x, y - 4, x + 26, y - 4, head))

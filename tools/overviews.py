@@ -32,17 +32,20 @@ class Overview:
         self.top = 92 + FLAG * max(self.levels, 1)
 
     def x(self, number):
+        """Where an entry stands."""
         return LEFT + (number - self.first) * self.scale
 
     def y(self, processor):
+        """The upper edge of a lane."""
         return self.top + self.lanes.index(processor) * self.lane
 
     @property
     def bottom(self):
+        """The lower edge of the last lane."""
         return self.top + self.lane * len(self.lanes)
 
     def placed(self):
-        """The told outcomes, each with the lowest level where its words have room, None where none has; and how many levels there are."""
+        """The told outcomes, each with the lowest level where its words have room, else None; and how many levels."""
         flags, free = [], [0.0] * LEVELS
         for entry in self.entries:
             if entry.kind == "tell":
@@ -66,7 +69,8 @@ class Overview:
         """A processor's name and its modes."""
         y = self.y(processor)
         if self.lane > 4 or self.lanes.index(processor) % 32 == 0:
-            yield svg.text(LEFT - 8, y + min(self.lane * 0.75, 10), f"p{processor}", 10 if self.lane > 4 else 8, svg.INK, "end")
+            size = 10 if self.lane > 4 else 8
+            yield svg.text(LEFT - 8, y + min(self.lane * 0.75, 10), f"p{processor}", size, svg.INK, "end")
         shown = LEFT
         for _, end, mode in self.replay.spans(processor, self.first, self.last):
             x = round(self.x(end) / STEP) * STEP

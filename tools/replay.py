@@ -26,6 +26,7 @@ class Slot:
 
     @property
     def has_event(self):
+        """The search finds it."""
         return self.inserting or self.removing or self.ejecting
 
 
@@ -86,7 +87,7 @@ class Machine:
         if entry.kind == "icr":
             interrupt = interrupt_of(self.platform, entry)
             return interrupt and (interrupt.kind, self.targets(entry.actor, interrupt.apic))
-        if entry.kind == "out" and entry.value("place") == APM_CNT and entry.text["width"] == "1" and self.smi_enabled:
+        if entry.kind == "out" and is_at(entry, APM_CNT, 1) and self.smi_enabled:
             everybody = range(len(self.modes)) if self.platform.features & BROADCAST else [entry.actor]
             return "SMI", self.present(everybody)
         return None
@@ -94,9 +95,10 @@ class Machine:
     def targets(self, sender, apic):
         """The present processors with this APIC ID, or all but the sender."""
         apics = self.platform.apic
-        return self.present([place for place, other in enumerate(apics) if (place != sender if apic is None else other == apic)])
+        return self.present([k for k, other in enumerate(apics) if (k != sender if apic is None else other == apic)])
 
     def present(self, places):
+        """Those of them that are present."""
         return [place for place in places if self.modes[place] != ABSENT]
 
     def step(self, entry, landing):
@@ -107,6 +109,7 @@ class Machine:
         return changed
 
     def changed(self, entry, landing):
+        """The same, before it is noted."""
         if entry.kind == "insert":
             self.block.slots[entry.processor].enabled = self.block.slots[entry.processor].inserting = True
             return {entry.processor: WAITING}
@@ -124,7 +127,7 @@ class Machine:
     def written(self, entry):
         """A port write."""
         port, value = entry.value("place"), entry.value("value")
-        if port == SMI_EN and entry.text["width"] == "4":
+        if is_at(entry, SMI_EN, 4):
             self.smi_enabled = bool(value & APMC_EN)
         if BLOCK <= port < BLOCK + 12:
             ejected = self.block.write(port - BLOCK, value)
@@ -132,8 +135,13 @@ class Machine:
         return {}
 
 
+def is_at(entry, port, width):
+    """A port access with this width."""
+    return entry.value("place") == port and int(entry.text["width"]) == width
+
+
 def landings(entries):
-    """Of each SMI entry, by its number, where it leads: an instruction address is in its processor's next lines alone."""
+    """Where each SMI entry leads, by its number: its processor's next lines alone have an instruction address."""
     ahead, found = {}, {}
     for entry in reversed(entries):
         if entry.kind == "smi":
@@ -145,7 +153,7 @@ def landings(entries):
 
 @dataclass
 class Replay:
-    """What became of a trace: of each processor its changes of mode, by entry number; of each entry whom it hits with what."""
+    """A trace, played: each processor's changes of mode by entry number, and of each entry whom it hits with what."""
 
     changes: list
     hits: dict

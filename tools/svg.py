@@ -17,7 +17,8 @@ def text(x, y, words, size=11, colour=INK, anchor="start", bold=False, font=MONO
     """Words from x on, or that end or are centred there."""
     weight = ' font-weight="bold"' if bold else ""
     place = "" if anchor == "start" else f' text-anchor="{anchor}"'
-    return f'<text x="{x:.1f}" y="{y:.1f}" font-size="{size}" fill="{colour}"{place}{weight} font-family="{font}">{html.escape(words)}</text>'
+    style = f'font-size="{size}" fill="{colour}"{place}{weight} font-family="{font}"'
+    return f'<text x="{x:.1f}" y="{y:.1f}" {style}>{html.escape(words)}</text>'
 
 
 def width_of(words, size=11):
@@ -54,7 +55,8 @@ def arrow(x1, y1, x2, y2, head):
 def marker(name, colour):
     """The head of an arrow."""
     return (
-        f'<marker id="{name}" markerWidth="8" markerHeight="8" refX="6" refY="3" orient="auto" markerUnits="userSpaceOnUse">'
+        f'<marker id="{name}" markerWidth="8" markerHeight="8" refX="6" refY="3" orient="auto"'
+        ' markerUnits="userSpaceOnUse">'
         f'<path d="M0,0 L6,3 L0,6 z" fill="{colour}"/></marker>'
     )
 
@@ -65,9 +67,10 @@ def page(width, height, about, shapes):
         '<pattern id="hatched" width="6" height="6" patternUnits="userSpaceOnUse" patternTransform="rotate(45)">'
         '<rect width="6" height="6" fill="white"/><path d="M0,0 V6" stroke="#dfe2e6" stroke-width="2"/></pattern>'
     )
+    size = f'width="{width:.0f}" height="{height:.0f}" viewBox="0 0 {width:.0f} {height:.0f}"'
     return "\n".join(
         [
-            f'<svg xmlns="http://www.w3.org/2000/svg" width="{width:.0f}" height="{height:.0f}" viewBox="0 0 {width:.0f} {height:.0f}">',
+            f'<svg xmlns="http://www.w3.org/2000/svg" {size}>',
             f"<title>{html.escape(about)}</title>",
             "<defs>" + marker("sent", SENT) + marker("found", FOUND) + hatched + "</defs>",
             '<rect width="100%" height="100%" fill="white"/>',

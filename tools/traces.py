@@ -9,7 +9,8 @@ from dataclasses import dataclass
 MIB = 0x100000
 
 HEADER = re.compile(
-    r"platform apic=(?P<apic>\d+(,\d+)*) boot=(?P<boot>\d+(,\d+)*) low=(?P<low>[0-9a-f]{8}) tseg=(?P<tseg>\d+)( ext=false)?"
+    r"platform apic=(?P<apic>\d+(,\d+)*) boot=(?P<boot>\d+(,\d+)*) low=(?P<low>[0-9a-f]{8})"
+    r" tseg=(?P<tseg>\d+)( ext=false)?"
     r" features=(?P<features>\d+) polls=(?P<polls>\d+) turns=(?P<turns>\d+) modern=(?P<modern>true|false)"
     r" smram=(true|false) delivery=(prompt|late lag=(?P<lag>\d+))(?P<x2apic> x2apic=true)?"
 )
@@ -20,7 +21,9 @@ END = re.compile(r"end (\d+)")
 STEPS = {
     "load": re.compile(r" (?P<width>[1248]) (?P<place>[0-9a-f]{8}) = (?P<answer>[0-9a-f]+)"),
     "store": re.compile(r" (?P<width>[1248]) (?P<place>[0-9a-f]{8}) (?P<value>[0-9a-f]+)"),
-    "cas": re.compile(r" (?P<place>[0-9a-f]{8}) (?P<expected>[0-9a-f]{16}) (?P<value>[0-9a-f]{16}) = (?P<answer>[0-9a-f]{16})"),
+    "cas": re.compile(
+        r" (?P<place>[0-9a-f]{8}) (?P<expected>[0-9a-f]{16}) (?P<value>[0-9a-f]{16}) = (?P<answer>[0-9a-f]{16})"
+    ),
     "in": re.compile(r" (?P<width>[124]) (?P<place>[0-9a-f]{4}) = (?P<answer>[0-9a-f]+)"),
     "out": re.compile(r" (?P<width>[124]) (?P<place>[0-9a-f]{4}) (?P<value>[0-9a-f]+)"),
     "cfgr": re.compile(r" (?P<place>[0-9a-f]{2}) = (?P<answer>[0-9a-f]{2})"),
@@ -94,7 +97,10 @@ class Platform:
 
 @dataclass
 class Entry:
-    """One step: its number from 1, who acts (None is the host), its instruction address in SMM, the step's word, what stands behind it."""
+    """One step: its line, its number from 1, who acts, its instruction address, the step's word, what stands behind it.
+
+    `actor` is None for the host, `address` outside SMM.
+    """
 
     line: str
     number: int

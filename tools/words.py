@@ -80,7 +80,7 @@ def is_done(entry):
 
 def refuses_boot(platform, entries):
     """The boot ended with the entry that read another value than the one it goes on with."""
-    if not entries or len(entries) >= platform.boot_count:
+    if not entries or entries[-1].number >= platform.boot_count:
         return False
-    last = entries[-1]
-    return last.value("answer") is not None and CHECKED.get(name_of(platform, last), last.value("answer")) != last.value("answer")
+    value = entries[-1].value("answer")
+    return value is not None and CHECKED.get(name_of(platform, entries[-1]), value) != value
