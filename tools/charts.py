@@ -62,7 +62,7 @@ def rows_of(platform, entries):
 
 
 def repeats(entry, key, seen):
-    """It may be a round of a loop: a step in SMM, or outside the one just made again. Interrupt commands are no loop."""
+    """It may be a round of a loop: a step in SMM, or outside the one just made again. No loop sends interrupts."""
     if entry.actor is None or entry.kind in ("icr", "tell"):
         return False
     return entry.address is not None or bool(seen) and seen[-1][0] == key
