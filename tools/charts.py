@@ -4,7 +4,7 @@ from dataclasses import dataclass
 
 import svg
 from legends import legend
-from names import label_at, name_of
+from names import is_hole, label_at, name_of
 from replay import ABSENT, DEFAULT, HALTED, RUNNING, TSEG, WAITING
 from words import entry_words, is_done, outcome_words, platform_words, refuses_boot
 
@@ -172,7 +172,7 @@ class Chart:
         stores = {}
         for index, row in enumerate(self.rows):
             entry = row.entry
-            place = None if row.note or entry.kind not in ("load", "store", "cas") else name_of(self.platform, entry)
+            place = None if row.note else shared_place(self.platform, entry)
             if place is None:
                 continue
             store = stores.get(place)
@@ -197,6 +197,12 @@ class Chart:
             shapes += [*self.row(index, row), *self.sent(index, row)]
         shapes += [*self.found(), *self.refusal()]
         return svg.page(self.width, self.bottom + 16, platform_words(self.platform), shapes)
+
+
+def shared_place(platform, entry):
+    """The name of the shared bytes that an entry reaches, None where it reaches none."""
+    reaches = entry.kind in ("load", "store", "cas") and not is_hole(platform, entry)
+    return name_of(platform, entry) if reaches else None
 
 
 def finds(store, entry):

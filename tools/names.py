@@ -17,6 +17,7 @@ MONARCH = (
 ).split()
 
 DEFAULT_SMBASE = 0x30000
+DEFAULT_AREA_END = 0x50000
 ENTRY = 0x8000  # where SMI entry leads, from SMBASE on; the cells of the labels begin there
 TILE = 0x10000
 
@@ -104,6 +105,17 @@ def name_of(platform, entry):
     if entry.kind in ("in", "out"):
         return BLOCK.get((place, entry.kind)) or PORTS.get((place, width))
     return CONFIGURATION.get(place) if entry.kind in ("cfgr", "cfgw") else None
+
+
+def is_hole(platform, entry):
+    """An access to memory with a byte past RAM, or outside SMM with a byte that is locked since the boot."""
+    if entry.kind not in ("load", "store", "cas"):
+        return False
+    first = entry.value("place")
+    end = first + int(entry.text.get("width") or 8)
+    is_open = entry.address is not None or entry.number <= platform.boot_count
+    is_in_default = first < DEFAULT_AREA_END and end > DEFAULT_SMBASE
+    return end > platform.low or not is_open and (is_in_default or end > platform.tseg)
 
 
 def interrupt_of(platform, entry):

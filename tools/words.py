@@ -1,6 +1,6 @@
 """What pictures say of a platform and of an entry."""
 
-from names import interrupt_of, name_of, outcome_of
+from names import interrupt_of, is_hole, name_of, outcome_of
 from replay import ABSENT, DEFAULT, HALTED, RUNNING, TSEG, WAITING
 
 CLOSED = "f" * 16
@@ -57,10 +57,15 @@ def entry_words(platform, entry):
         return PLAIN[entry.kind]
     if entry.kind == "icr":
         return interrupt_words(platform, entry)
+    return access_words(platform, entry) + (", a hole" if is_hole(platform, entry) else "")
+
+
+def access_words(platform, entry):
+    """A read of a place as `place → value`, a write as `place ← value`, an exchange as a question."""
     text = entry.text
     place = in_words(name_of(platform, entry) or text["place"])
     if entry.kind == "cas":
-        passed = text["answer"] == text["expected"]
+        passed = text["answer"] == text["expected"] and not is_hole(platform, entry)
         found = f"yes, now {number(text['value'])}" if passed else f"no, {number(text['answer'])}"
         return f"{place} = {number(text['expected'])}? {found}"
     return f"{place} → {number(text['answer'])}" if text.get("answer") else f"{place} ← {number(text['value'])}"
