@@ -1,20 +1,21 @@
 -- The order of a session, read off the graph of the labels.
-use Rattle.std.proofs.Common.{◌≡◌, ◌⊎◌, List, inl, inr, ℕ, Bool, true, false, cond, ◌||◌, ◌==◌, Option, Some, None, refl, subst}
+use Rattle.std.proofs.Common.{◌≡◌, ◌⊎◌, ◌≤◌, List, [], ◌∷◌, arith, inl, inr, ℕ, Bool, true, false, cond, ◌||◌, ◌==◌, Option, Some, None, refl, subst}
 use Rattle.std.specs.Prelude.{nat_lt, nat_le, not, bit_and, ◌+◌, ◌-◌, length}
 use Rattle.std.proofs.lemmas.Bool.{eqb-true}
+use Rattle.std.proofs.lemmas.Bool.Decides.{nat_tests}
 use Rattle.hp_model.specs.declared.labels.Label.{Label}
 use Rattle.hp_model.specs.declared.labels.Label.TheVariants.{F1, F2, R1, R2, R3, R4, R6, S0, S1, S2, S3, S4, C1, C3, C4, C6, NB, N0, N8a, N8b, N9, N10, N11, E0, E2, E3, E4a, E4b, E4c, E4f, E4g, E4h, T, E5, E6, E7}
 use Rattle.hp_model.specs.declared.outcomes.Outcome.{Outcome}
 use Rattle.hp_model.specs.Add.{Add, AddsAt, Ends, failed}
-use Rattle.hp_model.specs.Collection.{Collection, CollectedAll, next_processor}
+use Rattle.hp_model.specs.Collection.{Collection, CollectedAll, Report, next_processor}
 use Rattle.hp_model.specs.Eject.{EjectsAt, awaits, handed_to_block, saw_parked}
 use Rattle.hp_model.specs.Handlers.{Seat, next_at}
 use Rattle.hp_model.specs.Labels.{Monarch as Monarchs, part_of}
-use Rattle.hp_model.specs.Monarch.{Monarch, at_label, look_at, noted, collected, eject_led, led, told}
+use Rattle.hp_model.specs.Monarch.{Monarch, Class, Tells, Adds, Ejects, answered, at_label, class, collected, eject_led, facts_of, led, look_at, next_report, noted, taken_up, told, took}
 use Rattle.hp_model.specs.SharedBytes.{Layout}
 use Rattle.hp_model.specs.Slots.{known_from}
 use Rattle.hp_monarch.specs.Order.{may_follow}
-use Rattle.hp_monarch.specs.Session.{TakesReports}
+use Rattle.hp_monarch.specs.Session.{TakesReports, reports_left}
 use Rattle.hp_monarch.proofs.Reports.{pick, report_leads}
 
 look_leads : (P : Label → Type 0) (polls : ℕ) (o : Option ℕ) (r : Monarch) → P S3 → P S4 → P (look_at polls o r).label
@@ -81,26 +82,68 @@ only_release _ e = absurd cc
 pub before_release : (y : Layout) (x : Seat) (r : Monarch) (l : Label) (v : ℕ) → part_of l ≡ Monarchs → r.label ≡ l → (next_at y x r l v).label ≡ E6 → (l ≡ E5) ⊎ (l ≡ E6)
 before_release y x r l v m at is = only_release l (leads y x r l E6 v at is)
 
--- the SMI to all others
-only_broadcast : (l : Label) → may_follow l S2 ≡ true → (l ≡ S0) ⊎ (l ≡ S1)
-only_broadcast S0 e = inl refl
-only_broadcast S1 e = inr refl
-only_broadcast _ e = absurd cc
+-- the SMI to all others: there is no slot, or none behind this one
+skips : (more : Bool) (r : Monarch) (slot : ℕ) → (cond more (record r { label = S1; slot = slot }) (at_label S2 r)).label ≡ S2 → more ≡ false
+skips true r slot e = absurd cc
+skips false r slot e = refl
 
-pub before_broadcast : (y : Layout) (x : Seat) (r : Monarch) (l : Label) (v : ℕ) → part_of l ≡ Monarchs → r.label ≡ l → (next_at y x r l v).label ≡ S2 → (l ≡ S0) ⊎ (l ≡ S1)
-before_broadcast y x r l v m at is = only_broadcast l (leads y x r l S2 v at is)
+at_most : (n m : ℕ) → nat_lt n m ≡ false → m ≤ n
+at_most n m e = grind (arith, nat_tests)
 
--- the end of the session
-only_end : (l : Label) → may_follow l E5 ≡ true → (l ≡ S4) ⊎ TakesReports l
-only_end S4 e = inl refl
-only_end C3 e = inr (inl refl)
-only_end C4 e = inr (inr (inl refl))
-only_end C6 e = inr (inr (inr (inl refl)))
-only_end T e = inr (inr (inr (inr refl)))
-only_end _ e = absurd cc
+only_broadcast : (y : Layout) (x : Seat) (r : Monarch) (l : Label) (v : ℕ) → may_follow l S2 ≡ true → (next_at y x r l v).label ≡ S2 →
+    ((l ≡ S0) × (length r.slots.bound ≤ 1)) ⊎ ((l ≡ S1) × (length r.slots.bound ≤ r.slot + 1))
+only_broadcast y x r S0 v e is = inl (refl, at_most 1 (length r.slots.bound) (skips (nat_lt 1 (length r.slots.bound)) r 1 is))
+only_broadcast y x r S1 v e is = inr (refl, at_most (r.slot + 1) (length r.slots.bound) (skips (nat_lt (r.slot + 1) (length r.slots.bound)) r (r.slot + 1) is))
+only_broadcast y x r _ v e is = absurd cc
 
-pub before_session_end : (y : Layout) (x : Seat) (r : Monarch) (l : Label) (v : ℕ) → part_of l ≡ Monarchs → r.label ≡ l → (next_at y x r l v).label ≡ E5 → (l ≡ S4) ⊎ TakesReports l
-before_session_end y x r l v m at is = only_end l (leads y x r l E5 v at is)
+pub before_broadcast : (y : Layout) (x : Seat) (r : Monarch) (l : Label) (v : ℕ) → part_of l ≡ Monarchs → r.label ≡ l → (next_at y x r l v).label ≡ S2 →
+    ((l ≡ S0) × (length r.slots.bound ≤ 1)) ⊎ ((l ≡ S1) × (length r.slots.bound ≤ r.slot + 1))
+before_broadcast y x r l v m at is = only_broadcast y x r l v (leads y x r l S2 v at is) is
+
+-- the end of the session: where the next report would be taken up, and none is left
+answers_on : (c : Class) (t : Report) (r : Monarch) → (answered c t r).label ≡ E5 → ⊥
+answers_on (Tells o) t r e = absurd cc
+answers_on Adds t r e = absurd cc
+answers_on Ejects t r e = absurd cc
+
+up_ends : (ids : List ℕ) (ts : List Report) (r : Monarch) → reports_left r ≡ ts → (taken_up ids ts r).label ≡ E5 → reports_left (taken_up ids ts r) ≡ []
+up_ends ids [] r left e = left
+up_ends ids (t ∷ ts) r left e = absurd (answers_on (class (facts_of ids r t) t) t (took r) e)
+
+-- so it is wherever a row leads to
+abbrev EndsWithNone : Monarch → Type 0
+EndsWithNone r = r.label ≡ E5 → reports_left r ≡ []
+
+report_ends : (ids : List ℕ) (r : Monarch) → EndsWithNone (next_report ids r)
+report_ends ids r = up_ends ids (reports_left r) r refl
+
+processor_ends : (ids : List ℕ) (count : ℕ) (c : Collection) (r : Monarch) → EndsWithNone (collected ids (next_processor count c) r)
+processor_ends ids count c r =
+    pick (λ d. EndsWithNone (collected ids d r)) (nat_lt (c.cpu + 1) count) _ (CollectedAll (record c { cpu = c.cpu + 1 })) (λ e. absurd cc)
+    (report_ends ids (record r { collection = record c { cpu = c.cpu + 1 } }))
+
+only_end : (y : Layout) (x : Seat) (r : Monarch) (l : Label) (v : ℕ) → may_follow l E5 ≡ true → (next_at y x r l v).label ≡ E5 →
+    (l ≡ S4) ⊎ (TakesReports l × (reports_left (next_at y x r l v).monarch ≡ []))
+only_end y x r S4 v e is = inl refl
+only_end y x r C3 v e is =
+    inr (
+      inl refl,
+      pick (λ d. EndsWithNone (collected y.apics d r)) (nat_lt v r.collection.cpu || not (nat_lt v y.count)) (CollectedAll r.collection) _
+          (report_ends y.apics (record r { collection = r.collection })) (λ g. absurd cc) is,
+    )
+only_end y x r C4 v e is =
+    inr (
+      inr (inl refl),
+      pick (λ d. EndsWithNone (collected y.apics d r)) (bit_and v 0x12 == 0) (next_processor y.count r.collection) _
+          (processor_ends y.apics y.count r.collection r) (λ g. absurd cc) is,
+    )
+only_end y x r C6 v e is = inr (inr (inr (inl refl)), processor_ends y.apics y.count _ r is)
+only_end y x r T v e is = inr (inr (inr (inr refl)), report_ends y.apics (told r.outcome r) is)
+only_end y x r _ v e is = absurd cc
+
+pub before_session_end : (y : Layout) (x : Seat) (r : Monarch) (l : Label) (v : ℕ) → part_of l ≡ Monarchs → r.label ≡ l → (next_at y x r l v).label ≡ E5 →
+    (l ≡ S4) ⊎ (TakesReports l × (reports_left (next_at y x r l v).monarch ≡ []))
+before_session_end y x r l v m at is = only_end y x r l v (leads y x r l E5 v at is) is
 
 -- an add
 only_add : (l : Label) → may_follow l NB ≡ true → TakesReports l

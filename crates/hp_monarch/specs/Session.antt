@@ -1,5 +1,5 @@
 -- What contracts see of the monarch: its record, and what it goes by of the platform.
-use Rattle.std.specs.Prelude.{◌≡◌, ◌⊎◌, ◌<◌, ◌≤◌, ℕ, Bool, nat_le, List, length, slice_index_or, true}
+use Rattle.std.specs.Prelude.{◌≡◌, ◌⊎◌, ◌<◌, ◌≤◌, ℕ, Bool, nat_le, List, length, drop, slice_index_or, true}
 use Rattle.std.specs.List.{list_all}
 use Rattle.hp_model.specs.declared.labels.Label.{Label}
 use Rattle.hp_model.specs.declared.labels.Label.TheVariants as label
@@ -88,6 +88,10 @@ facts_by s last features t =
 -- the labels of an add that read an arrived byte
 abbrev pub ReadsByte : Label → Type 0
 ReadsByte l = (l ≡ label.N8b) ⊎ (l ≡ label.N11)
+
+-- the reports that aren't taken up yet
+abbrev pub reports_left : Monarch → List Report
+reports_left r = drop r.taken r.collection.reports
 
 -- the labels whose answer may end the collection or an outcome, and so lead to the next report
 abbrev pub TakesReports : Label → Type 0

@@ -1,13 +1,13 @@
 -- The first event is where the iterator finds it.
-use Rattle.std.proofs.Common.{◌≡◌, ℕ, zero, suc, true, false, ◌+◌, ◌-◌, ◌<◌, ◌≤◌, ◌⊎◌, min, List, [], ◌∷◌, length, take, drop, get_or, Option, Some, None, inl, inr, refl, sym, ap, ◌∙◌, arith}
+use Rattle.std.proofs.Common.{◌≡◌, ℕ, zero, suc, true, false, Bool, ◌+◌, ◌-◌, ◌<◌, ◌≤◌, ◌⊎◌, min, List, [], ◌∷◌, length, take, drop, get_or, Option, Some, None, inl, inr, refl, sym, ap, ◌∙◌, arith}
 use Rattle.std.specs.List.{position}
 use Rattle.std.proofs.lemmas.Bool.{cases_lt, true≢false}
 use Rattle.std.proofs.lemmas.List.{get_or-drop, get_or-take, length-drop, length-take}
 use Rattle.std.proofs.lemmas.List.Quantifiers.{position-Some}
 use Rattle.std.proofs.lemmas.Grind.{common_steps}
 use Rattle.std.proofs.lemmas.Bool.Decides.{nat_tests}
-use Rattle.hp_model.specs.Block.{Slot, Block, slot_at, is_selected, no_slot, has_event, first_event, found}
-use Rattle.hp_regs.specs.Words.{steps_up}
+use Rattle.hp_model.specs.Block.{Slot, Block, slot_at, is_selected, no_slot, has_event, first_event, found, block_write}
+use Rattle.hp_regs.specs.Words.{is_search, steps_up}
 
 pub first_position : (ss : List Slot) → first_event ss ≡ position has_event ss
 first_position [] = refl
@@ -97,13 +97,6 @@ found-next from ss k e = by_ahead (first_event (drop from ss)) refl (first_event
     by_ahead None ea (Some i) er = rw (ea, er) (next_round from ss i ea (first_Some (take from ss) i er))
     by_ahead None ea None er = absurd (no_event_round from ss ea er k e)
 
-pub found-event : (b : Block) (k : ℕ) → has_event (slot_at b k) ≡ true → has_event (slot_at b (found b.selector b.slots)) ≡ true
-found-event b k e = (found-next b.selector b.slots k e).event
-
-pub found-nearest : (b : Block) (k : ℕ) → is_selected b ≡ true → has_event (slot_at b k) ≡ true →
-    steps_up (length b.slots) b.selector (found b.selector b.slots) ≤ steps_up (length b.slots) b.selector k
-found-nearest b k h e = (found-next b.selector b.slots k e).nearest k (grind (arith, nat_tests)) e
-
 found-stays : (from : ℕ) (ss : List Slot) → ((k : ℕ) → has_event (get_or ss k no_slot) ≡ false) → found from ss ≡ from
 found-stays from ss none = by_ahead (first_event (drop from ss)) refl (first_event (take from ss)) refl
   where
@@ -114,7 +107,29 @@ found-stays from ss none = by_ahead (first_event (drop from ss)) refl (first_eve
         absurd (true≢false (sym (next_round from ss i ea (first_Some (take from ss) i er)).event ∙ none i))
     by_ahead None ea None er = rw (ea, er) refl
 
-pub found-none : (b : Block) → ((k : ℕ) → has_event (slot_at b k) ≡ false) → found b.selector b.slots ≡ b.selector
-found-none b none = found-stays b.selector b.slots none
+-- a write of command 0 is the search
+searched : (b : Block) (width value : ℕ) → b.modern ≡ true → is_selected b ≡ true → is_search width value ≡ true →
+    (block_write b 5 width value).selector ≡ found b.selector b.slots
+searched b width value modern selected search = rw (modern, selected, search) refl
 
-pub ruleset nearest_facts = (found-event, found-nearest)
+pub search-event : (b : Block) (width value k : ℕ) → b.modern ≡ true → is_selected b ≡ true → is_search width value ≡ true → has_event (slot_at b k) ≡ true →
+    has_event (slot_at b (block_write b 5 width value).selector) ≡ true
+search-event b width value k modern selected search e = rw (searched b width value modern selected search) (found-next b.selector b.slots k e).event
+
+pub search-nearest : (b : Block) (width value k : ℕ) → b.modern ≡ true → is_selected b ≡ true → is_search width value ≡ true → has_event (slot_at b k) ≡ true →
+    steps_up (length b.slots) b.selector (block_write b 5 width value).selector ≤ steps_up (length b.slots) b.selector k
+search-nearest b width value k modern selected search e =
+    rw (searched b width value modern selected search) ((found-next b.selector b.slots k e).nearest k (grind (arith, nat_tests)) e)
+
+pub search-none : (b : Block) (width value : ℕ) → b.modern ≡ true → is_selected b ≡ true → is_search width value ≡ true → ((k : ℕ) → has_event (slot_at b k) ≡ false) →
+    (block_write b 5 width value).selector ≡ b.selector
+search-none b width value modern selected search none = searched b width value modern selected search ∙ found-stays b.selector b.slots none
+
+pub search-slots : (b : Block) (width value : ℕ) → b.modern ≡ true → (block_write b 5 width value).slots ≡ b.slots
+search-slots b width value modern = by_selected (is_selected b) refl
+  where
+    by_selected : (s : Bool) → is_selected b ≡ s → (block_write b 5 width value).slots ≡ b.slots
+    by_selected true e = rw (modern, e) refl
+    by_selected false e = rw (modern, e) refl
+
+pub ruleset search_facts = (search-event, search-nearest, search-none, search-slots)

@@ -1,9 +1,9 @@
 //! Laws of the register block: public functions with empty bodies, whose clauses are what is proved.
 
 ghost use Rattle.std.specs.Prelude.{◌≡◌, ◌≢◌, ◌≤◌, ℕ, Bool, true, false, Option, Some, length};
-ghost use Rattle.hp_model.specs.Block.{Slot, Block, slot_at, set_slot, is_selected, cut, has_event, found, controlled, block_read, block_write, ejected_by};
+ghost use Rattle.hp_model.specs.Block.{Slot, Block, slot_at, set_slot, is_selected, cut, has_event, controlled, block_read, block_write, ejected_by};
 ghost use Rattle.hp_regs.specs.Ports.{IsWidth};
-ghost use Rattle.hp_regs.specs.Words.{starts_register, lowest_bit, steps_up};
+ghost use Rattle.hp_regs.specs.Words.{is_search, starts_register, lowest_bit, steps_up};
 
 /// A register answers at its first offset alone: a read anywhere else is 0, and a write there changes nothing.
 #[tactic(auto, using(crate::proofs::Offsets::first_offset_facts))]
@@ -64,12 +64,15 @@ pub fn the_lowest_control_bit_acts_alone()
     ensures { (s : Slot) (is_first : Bool) (value : ℕ) → controlled s is_first value ≡ controlled s is_first (lowest_bit value) }
 {}
 
-/// Command 0 names the processor with an event that comes first on the way upward from the selector and round; the
-/// selector stays where none has an event.
-#[tactic(auto, using(crate::proofs::Search::nearest_facts))]
+/// A write of command 0 moves the selector to the processor with an event that comes first on the way upward from the selector and
+/// round; the selector stays where none has an event. No processor is touched.
+#[tactic(auto, using(crate::proofs::Search::search_facts))]
 pub fn the_search_finds_the_next_event()
-    ensures event { (b : Block) (k : ℕ) → has_event (slot_at b k) ≡ true → has_event (slot_at b (found b.selector b.slots)) ≡ true }
-    ensures nearest { (b : Block) (k : ℕ) → is_selected b ≡ true → has_event (slot_at b k) ≡ true
-        → steps_up (length b.slots) b.selector (found b.selector b.slots) ≤ steps_up (length b.slots) b.selector k }
-    ensures none { (b : Block) → ((k : ℕ) → has_event (slot_at b k) ≡ false) → found b.selector b.slots ≡ b.selector }
+    ensures event { (b : Block) (width value k : ℕ) → b.modern ≡ true → is_selected b ≡ true → is_search width value ≡ true → has_event (slot_at b k) ≡ true
+        → has_event (slot_at b (block_write b 5 width value).selector) ≡ true }
+    ensures nearest { (b : Block) (width value k : ℕ) → b.modern ≡ true → is_selected b ≡ true → is_search width value ≡ true → has_event (slot_at b k) ≡ true
+        → steps_up (length b.slots) b.selector (block_write b 5 width value).selector ≤ steps_up (length b.slots) b.selector k }
+    ensures none { (b : Block) (width value : ℕ) → b.modern ≡ true → is_selected b ≡ true → is_search width value ≡ true → ((k : ℕ) → has_event (slot_at b k) ≡ false)
+        → (block_write b 5 width value).selector ≡ b.selector }
+    ensures slots { (b : Block) (width value : ℕ) → b.modern ≡ true → (block_write b 5 width value).slots ≡ b.slots }
 {}

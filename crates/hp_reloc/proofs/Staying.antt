@@ -1,6 +1,7 @@
 -- Slots stay with their APIC IDs.
 use Rattle.std.proofs.Common.{◌≡◌, ℕ, Bool, true, false, ◌==◌, ◌+◌, ◌<◌, cond, List, [], ◌∷◌, ◌++◌, length, get_or, Some, None, refl, sym, ◌∙◌, add-one, arith}
-use Rattle.std.specs.Prelude.{if◌then◌else◌}
+use Rattle.std.specs.Prelude.{◌≢◌, if◌then◌else◌, slice_set}
+use Rattle.std.proofs.lemmas.Bool.{eqb-true}
 use Rattle.std.proofs.lemmas.Bool.Decides.{nat_tests}
 use Rattle.std.proofs.lemmas.Grind.{common_steps}
 use Rattle.std.proofs.lemmas.List.{get_or-set_same}
@@ -97,4 +98,26 @@ forgotten_knows s a k same e =
     let h = has_slot s.bound a k e in
     get_or-set_same s.known (place_of s.bound a) false false (omega (arith, same, place_in s.bound a h.among))
 
-pub ruleset knows = (bind_knows, completed_knows, forgotten_knows)
+-- a bit that is set at the place of another stays
+known_elsewhere : (xs : List ℕ) (bs : List Bool) (a b : ℕ) (t : Bool) → length bs ≡ length xs → a ≢ b →
+    get_or (slice_set bs (place_of xs b) t) (place_of xs a) false ≡ get_or bs (place_of xs a) false
+known_elsewhere [] [] a b t same apart = refl
+known_elsewhere [] (c ∷ cs) a b t same apart = absurd (omega (arith, same))
+known_elsewhere (x ∷ xs) [] a b t same apart = absurd (omega (arith, same))
+known_elsewhere (x ∷ xs) (c ∷ cs) a b t same apart = by_heads (x == a) refl (x == b) refl (known_elsewhere xs cs a b t (omega (arith, same)) apart)
+  where
+    by_heads : (f : Bool) → (x == a) ≡ f → (g : Bool) → (x == b) ≡ g →
+        get_or (slice_set cs (place_of xs b) t) (place_of xs a) false ≡ get_or cs (place_of xs a) false →
+        get_or (slice_set (c ∷ cs) (cond g 0 (place_of xs b + 1)) t) (cond f 0 (place_of xs a + 1)) false ≡ get_or (c ∷ cs) (cond f 0 (place_of xs a + 1)) false
+    by_heads true e true d h = absurd (apart (sym (eqb-true x a e) ∙ eqb-true x b d))
+    by_heads true e false d h = rw (add-one (place_of xs b)) refl
+    by_heads false e true d h = rw (add-one (place_of xs a)) refl
+    by_heads false e false d h = rw (add-one (place_of xs b), add-one (place_of xs a)) h
+
+pub completed_leaves : (s : Slots) (a b : ℕ) → length s.known ≡ length s.bound → a ≢ b → is_known (completed b s) a ≡ is_known s a
+completed_leaves s a b same apart = known_elsewhere s.bound s.known a b true same apart
+
+pub forgotten_leaves : (s : Slots) (a b : ℕ) → length s.known ≡ length s.bound → a ≢ b → is_known (forgotten b s) a ≡ is_known s a
+forgotten_leaves s a b same apart = known_elsewhere s.bound s.known a b false same apart
+
+pub ruleset knows = (bind_knows, completed_knows, completed_leaves, forgotten_knows, forgotten_leaves)

@@ -18,10 +18,13 @@ pub fn an_apic_id_has_a_slot_of_its_own()
     ensures below { (s : Slots) (a k : ℕ) → slot_in s a ≡ Some k → k < length s.bound }
 {}
 
-/// Binding makes no APIC ID known. That of an add is known once it is complete, and no longer once it was ejected.
+/// Binding makes no APIC ID known. That of an add is known once it is complete, and no longer once it was ejected. A completion and an
+/// eject leave every other APIC ID as known as it was.
 #[tactic(auto, using(crate::proofs::Staying::knows))]
 pub fn an_apic_id_is_known_from_its_add_to_its_eject()
     ensures bound { (s : Slots) (a b : ℕ) → length s.known ≡ length s.bound → is_known (bind b s) a ≡ is_known s a }
     ensures completed { (s : Slots) (a k : ℕ) → length s.known ≡ length s.bound → slot_in s a ≡ Some k → is_known (completed a s) a ≡ true }
+    ensures completed_others { (s : Slots) (a b : ℕ) → length s.known ≡ length s.bound → a ≢ b → is_known (completed b s) a ≡ is_known s a }
     ensures forgotten { (s : Slots) (a k : ℕ) → length s.known ≡ length s.bound → slot_in s a ≡ Some k → is_known (forgotten a s) a ≡ false }
+    ensures forgotten_others { (s : Slots) (a b : ℕ) → length s.known ≡ length s.bound → a ≢ b → is_known (forgotten b s) a ≡ is_known s a }
 {}
