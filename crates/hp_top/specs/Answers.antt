@@ -12,7 +12,7 @@ use Rattle.hp_model.specs.declared.outcomes.BootFact.{BootFact}
 use Rattle.hp_boot.specs.Ending.{StopsAt, hands_over}
 use Rattle.hp_top.specs.declared.statuses.Status.{Status}
 use Rattle.hp_top.specs.declared.statuses.Status.TheVariants.{Done, BadWords, ReadFault, TooLong, NotToml, Rule, BootRefused, WriteFault, TraceRefused, NoMemory}
-use Rattle.hp_top.specs.Input.{limit, HasRead, HasReadPast}
+use Rattle.hp_top.specs.Input.{limit, HasRead, HasReadPast, HasReadWithin}
 use Rattle.hp_top.specs.Sent.{HoldsFront}
 use Rattle.hp_top.specs.Turns.{run_text, boot_text, text_by, output, spelled}
 
@@ -98,7 +98,7 @@ pub record EndsAfterReading (left still old new : Option (List ℕ)) (status : S
 abbrev pub Ends : Option (List ℕ) → Option (List ℕ) → Option (List ℕ) → Option (List ℕ) → Status → Type 0
 Ends left still old new Done = EndsAfterReading left still old new Done
 Ends left still old new BadWords = Keeps left still × Keeps old new
-Ends left still old new ReadFault = Keeps old new
+Ends left still old new ReadFault = HasReadWithin left still × Keeps old new
 Ends left still old new TooLong = HasReadPast left still × Keeps old new
 Ends left still old new NotToml = EndsAfterReading left still old new NotToml
 Ends left still old new (Rule rule) = EndsAfterReading left still old new (Rule rule)

@@ -3,9 +3,13 @@ use Rattle.std.specs.Prelude.{◌≡◌, ℕ, Bool, true, false, ◌+◌, ◌-�
 use Rattle.hp_top.specs.declared.outside.WriteStop.{WriteStop}
 use Rattle.hp_top.specs.declared.outside.WriteStop.TheVariants.{Failed, NoMemory}
 
+-- a count after one fault more; it stands still at its type's end
+abbrev pub count_up : ℕ → ℕ
+count_up before = min (before + 1) (2 ^ 64 - 1)
+
 -- a count rose in a call: it is greater after it, or stands at its last value
 abbrev pub Rose : ℕ → ℕ → Type 0
-Rose before now = min (before + 1) (2 ^ 64 - 1) ≤ now
+Rose before now = count_up before ≤ now
 
 -- the count never falls; a failure comes only where it rose, and where there is none it stays
 pub record HasCause {T E : Type 0} (before now : ℕ) (result : Result T E) : Type 0 where

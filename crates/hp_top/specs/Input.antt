@@ -1,5 +1,5 @@
 -- What the top call reads of its input.
-use Rattle.std.specs.Prelude.{◌≡◌, ℕ, ◌<◌, ◌≤◌, List, length, Option}
+use Rattle.std.specs.Prelude.{◌≡◌, ℕ, ◌+◌, ◌≤◌, List, length, Option}
 use Rattle.std.specs.Io.KnownBytes.{Consumes, IsAtEnd}
 use Rattle.hp_top.specs.declared.reading.ReadStop.{ReadStop}
 use Rattle.hp_top.specs.declared.reading.ReadStop.TheVariants.{ReadFault, TooLong, NoMemory}
@@ -15,14 +15,20 @@ pub record HasRead (old new : Option (List ℕ)) (bytes : List ℕ) : Type 0 whe
   pub ended : IsAtEnd new
   pub within : length bytes ≤ limit
 
--- the byte after the limit was read
+-- the byte after the limit was read, and none behind it
 pub record HasReadPast (old new : Option (List ℕ)) : Type 0 where
   pub bytes : List ℕ
   pub consumed : Consumes old new bytes
-  pub past : limit < length bytes
+  pub past : length bytes ≡ limit + 1
+
+-- no byte past the limit was read
+pub record HasReadWithin (old new : Option (List ℕ)) : Type 0 where
+  pub bytes : List ℕ
+  pub consumed : Consumes old new bytes
+  pub within : length bytes ≤ limit
 
 abbrev pub StopsReading : Option (List ℕ) → Option (List ℕ) → ℕ → ℕ → ReadStop → Type 0
-StopsReading old new before now ReadFault = Rose before now
+StopsReading old new before now ReadFault = Rose before now × HasReadWithin old new
 StopsReading old new before now TooLong = HasReadPast old new
 StopsReading old new before now NoMemory = Unit {0}
 

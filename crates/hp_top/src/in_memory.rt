@@ -1,6 +1,9 @@
 //! Sources and sinks in memory: sure ones, and ones that fail at calls that were told.
 
-ghost use Rattle.std.specs.Prelude.{◌≡◌, ◌<◌, ◌≤◌, ◌++◌, [], Some, drop, take, length};
+ghost use Rattle.std.specs.Prelude.{◌≡◌, ◌<◌, ◌≤◌, ◌++◌, [], Some, IfOk, drop, take, length};
+ghost use Rattle.std.specs.Io.{WritesAtMost};
+ghost use Rattle.std.specs.Io.KnownBytes.{WriteAppends};
+ghost use Rattle.hp_top.specs.Faults.{StopsFor};
 
 use crate::outside::{Failed, Sink, Source, WriteStop};
 use std::marker::Model;
@@ -88,7 +91,14 @@ impl Sink for SureSink {
 
     ghost faults = { λ _. 0 };
 
-    fn write(&mut self, buf: &[u8]) -> Result<usize, WriteStop> {
+    /// Takes the piece whole, but for want of memory.
+    fn write(&mut self, buf: &[u8]) -> Result<usize, WriteStop>
+        ensures bound { WritesAtMost result buf.now }
+        ensures took { IfOk result (λ n. 0 < length buf.now → 0 < n) }
+        ensures bytes { WriteAppends (Some self.old) (Some self.new) result buf.now }
+        ensures cause { StopsFor 0 0 result }
+        ensures whole { IfOk result (λ n. n ≡ length buf.now) }
+    {
         match self.held.extend_from_slice(buf) {
             Ok(()) => Ok(buf.len()),
             Err(_) => Err(WriteStop::NoMemory),

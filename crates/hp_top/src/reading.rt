@@ -20,6 +20,7 @@ pub(crate) enum ReadStop {
     NoMemory,
 }
 
+/// Reads to the end, or up to one byte past the limit. A read that fails takes nothing.
 pub(crate) fn read_all<S: Source>(alloc: Global, src: &mut S) -> Result<Vec<u8>, ReadStop>
     ensures later { S.faults src.old ≤ S.faults src.new }
     ensures ends { MatchResult result (λ all. HasRead (S.left src.old) (S.left src.new) all.items)
@@ -30,7 +31,9 @@ pub(crate) fn read_all<S: Source>(alloc: Global, src: &mut S) -> Result<Vec<u8>,
     let mut all = Vec::new(alloc);
     let mut piece = [0u8; PIECE];
     'source: while all.len() <= LIMIT {
-        let count = match src.read(&mut piece) {
+        // not past the byte that tells that the input is too long
+        let most = PIECE.min(LIMIT + 1 - all.len());
+        let count = match src.read(&mut piece[..most]) {
             Ok(count) => count,
             Err(_) => return Err(ReadStop::ReadFault),
         };

@@ -1,10 +1,10 @@
 //! A source and a sink in memory that fail at the calls that they were told.
 
-ghost use Rattle.std.specs.Prelude.{◌≡◌, ◌<◌, ◌≤◌, ◌↔◌, ◌==◌, true, List, ℕ, Some, IfOk, IsErr, length};
+ghost use Rattle.std.specs.Prelude.{◌≡◌, ◌<◌, ◌≤◌, ◌↔◌, ◌==◌, true, List, ℕ, Some, IfOk, IsErr, OnErr, length};
 ghost use Rattle.std.specs.List.{list_any};
 ghost use Rattle.std.specs.Io.{ReadsAtMost, WritesAtMost};
 ghost use Rattle.std.specs.Io.KnownBytes.{ReadConsumes, WriteAppends};
-ghost use Rattle.hp_top.specs.Faults.{HasCause, StopsFor, is_failed};
+ghost use Rattle.hp_top.specs.Faults.{HasCause, StopsFor, count_up, is_failed};
 ghost use Rattle.hp_top.specs.Scripted.{is_due, next_call};
 
 use crate::in_memory::give;
@@ -57,11 +57,12 @@ impl Source for MemSource {
 
     ghost faults = { λ s. s.faults };
 
-    /// Fails exactly at the calls that were told. A count stands still at 2^64 - 1.
+    /// Fails exactly at the calls that were told, and counts one fault then. A count stands still at 2^64 - 1.
     fn read(&mut self, buf: &mut [u8]) -> Result<usize, Failed>
         ensures bound { ReadsAtMost result buf.new }
         ensures bytes { ReadConsumes (Some self.old.bytes) (Some self.new.bytes) result buf.new }
         ensures cause { HasCause self.old.faults self.new.faults result }
+        ensures counted { OnErr result (self.new.faults ≡ count_up self.old.faults) }
         ensures due { IsErr result ↔ (is_due self.old ≡ true) }
         ensures calls { self.new.calls ≡ next_call self.old }
         ensures fails { self.new.fails ≡ self.old.fails }
@@ -120,12 +121,13 @@ impl Sink for MemSink {
 
     ghost faults = { λ s. s.faults };
 
-    /// Fails exactly at the calls that were told, and else takes the piece whole, but for want of memory.
+    /// Fails exactly at the calls that were told, and counts one fault then; else takes the piece whole, but for want of memory.
     fn write(&mut self, buf: &[u8]) -> Result<usize, WriteStop>
         ensures bound { WritesAtMost result buf.now }
         ensures took { IfOk result (λ n. 0 < length buf.now → 0 < n) }
         ensures bytes { WriteAppends (Some self.old.bytes) (Some self.new.bytes) result buf.now }
         ensures cause { StopsFor self.old.faults self.new.faults result }
+        ensures counted { is_failed result ≡ true → self.new.faults ≡ count_up self.old.faults }
         ensures due { is_failed result ≡ is_due self.old }
         ensures whole { IfOk result (λ n. n ≡ length buf.now) }
         ensures calls { self.new.calls ≡ next_call self.old }

@@ -1,6 +1,9 @@
 //! The edge to the outside: a source over any reader and a sink over any writer.
 
-ghost use Rattle.std.specs.Prelude.{◌≡◌};
+ghost use Rattle.std.specs.Prelude.{◌≡◌, ◌<◌, true, IfOk, OnErr, length};
+ghost use Rattle.std.specs.Io.{ReadsAtMost, WritesAtMost};
+ghost use Rattle.std.specs.Io.KnownBytes.{ReadConsumes, WriteAppends};
+ghost use Rattle.hp_top.specs.Faults.{HasCause, StopsFor, count_up, is_failed};
 
 use crate::outside::{Failed, Sink, Source, WriteStop};
 use std::io::{Read, Write};
@@ -26,7 +29,13 @@ impl<R: Read> Source for StdSource<R> {
 
     ghost faults = { λ s. s.faults };
 
-    fn read(&mut self, buf: &mut [u8]) -> Result<usize, Failed> {
+    /// `Failed` where the reader failed, which counts as one fault.
+    fn read(&mut self, buf: &mut [u8]) -> Result<usize, Failed>
+        ensures bound { ReadsAtMost result buf.new }
+        ensures bytes { ReadConsumes (R.remaining self.old.from) (R.remaining self.new.from) result buf.new }
+        ensures cause { HasCause self.old.faults self.new.faults result }
+        ensures counted { OnErr result (self.new.faults ≡ count_up self.old.faults) }
+    {
         match self.from.read(buf) {
             Ok(count) => Ok(count),
             Err(_) => {
@@ -59,7 +68,14 @@ impl<W: Write> Sink for StdSink<W> {
 
     ghost faults = { λ s. s.faults };
 
-    fn write(&mut self, buf: &[u8]) -> Result<usize, WriteStop> {
+    /// `Failed` where the writer failed, or took nothing of a piece that isn't empty, which counts as one fault.
+    fn write(&mut self, buf: &[u8]) -> Result<usize, WriteStop>
+        ensures bound { WritesAtMost result buf.now }
+        ensures took { IfOk result (λ n. 0 < length buf.now → 0 < n) }
+        ensures bytes { WriteAppends (W.contents self.old.to) (W.contents self.new.to) result buf.now }
+        ensures cause { StopsFor self.old.faults self.new.faults result }
+        ensures counted { is_failed result ≡ true → self.new.faults ≡ count_up self.old.faults }
+    {
         match self.to.write(buf) {
             Ok(count) if 0 < count || buf.is_empty() => Ok(count),
             _ => {
