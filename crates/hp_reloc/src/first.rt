@@ -2,17 +2,16 @@
 //! itself an SMI, which leads it to its own handler once it leaves.
 
 ghost use Rattle.std.specs.Prelude.{◌≡◌, ℕ, ◌≤◌, true, Some};
-ghost use Rattle.hp_model.specs.Block.{is_in};
 ghost use Rattle.hp_model.specs.Boot.{value_in};
 ghost use Rattle.hp_model.specs.Handlers.{next_at, want_at};
 ghost use Rattle.hp_model.specs.Labels.{First, part_of};
 ghost use Rattle.hp_model.specs.Monarch.{Monarch};
-ghost use Rattle.hp_model.specs.Platform.{IsFit, high_half};
+ghost use Rattle.hp_model.specs.Platform.{high_half};
 ghost use Rattle.hp_model.specs.SharedBytes.{Layout};
 ghost use Rattle.hp_reloc.specs.Fits.{FitsFirst};
 ghost use Rattle.hp_reloc.specs.Relocating.{greatest};
 
-use hp_model::{Access, Answer, Label, Platform, Want};
+use hp_model::{Access, Answer, Label, Want};
 
 /// The APIC ID that may pass, or `CLOSED`: 8 bytes.
 pub const GATE: u32 = 0x30000;
@@ -35,20 +34,9 @@ pub fn destination(x2apic: bool, apic: u32) -> u32
     if x2apic { apic } else { apic * 0x1000000 }
 }
 
-/// What the processor of this APIC ID wants at a label of the first handler. `base` is the SMBASE that it has loaded.
-#[tactic(auto, using(crate::proofs::Bound::possible_small))]
-pub fn first_want(p: &Platform, label: Label, apic: u32, base: u32) -> Want
-    requires fit { IsFit p.now }
-    requires first { part_of label ≡ First }
-    requires possible { is_in apic p.now.apic ≡ true }
-    ensures { (y : Layout) (slot : ℕ) (r : Monarch) → y.x2apic ≡ p.now.x2apic →
-        want_at y (record { apic = apic; slot = slot; base = base }) r label ≡ Some result }
-{
-    first_want_by(p.x2apic, label, apic, base)
-}
-
-/// The same, by whether APIC IDs have 32 bits.
-pub fn first_want_by(x2apic: bool, label: Label, apic: u32, base: u32) -> Want
+/// What the processor of this APIC ID wants at a label of the first handler. `base` is the SMBASE that it has loaded; under
+/// `x2apic` APIC IDs have 32 bits.
+pub fn first_want(x2apic: bool, label: Label, apic: u32, base: u32) -> Want
     requires first { part_of label ≡ First }
     requires apic { apic ≤ greatest x2apic }
     ensures { (y : Layout) (slot : ℕ) (r : Monarch) → y.x2apic ≡ x2apic →

@@ -18,7 +18,7 @@ use crate::relocated::{relocated_next, relocated_want};
 use hp_image::{Handler, label_of, mark, place_of};
 use hp_model::{Answer, Label, NoMemory, Platform, Want};
 use hp_monarch::Monarch;
-use hp_reloc::{first_next, first_want_by};
+use hp_reloc::{first_next, first_want};
 use std::alloc::Global;
 use std::marker::Model;
 
@@ -156,7 +156,7 @@ impl Handlers {
         ensures { want_at self.now.layout (seat_for self.now s.now) self.now.monarch label ≡ Some result }
     {
         match place_of(label).handler {
-            Handler::First => first_want_by(self.monarch.x2apic(), label, s.apic, s.base),
+            Handler::First => first_want(self.monarch.x2apic(), label, s.apic, s.base),
             Handler::Relocated => {
                 relocated_want(label, self.monarch.tseg(), self.slot_at(s.smbase))
             }
