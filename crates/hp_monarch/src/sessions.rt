@@ -36,7 +36,7 @@ const SMI_TO_OTHERS: u32 = 0xc0200;
 const MOST_SLOTS: usize = 512;
 
 /// Whether a session goes on.
-#[derive(Clone, Copy, Debug, PartialEq)]
+#[derive(Clone, Copy)]
 pub enum Phase {
     More,
     /// The monarch has left SMM by RSM.
@@ -197,13 +197,6 @@ impl Monarch {
         ensures { result ≡ self.now.layout.x2apic }
     {
         self.x2apic
-    }
-
-    /// Which APIC ID has which slot.
-    pub fn slots(&self) -> &Slots
-        ensures { result.now.slots ≡ self.now.monarch.slots }
-    {
-        &self.slots
     }
 
     /// Where the monarch stands.
