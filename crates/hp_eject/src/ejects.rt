@@ -171,14 +171,6 @@ impl Eject {
         self.row().label()
     }
 
-    /// The slot of its APIC ID.
-    pub fn slot(&self) -> u32
-        ensures value { result ≡ self.now.eject.slot }
-        ensures below { result < 512 }
-    {
-        self.slot
-    }
-
     /// The arrived byte of its slot.
     fn arrived(&self) -> u32
         ensures { result ≡ self.now.tseg + self.now.eject.slot }
