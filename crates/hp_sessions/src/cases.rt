@@ -1,6 +1,6 @@
 //! A case: its lines in turn, played over the firmware of its platform.
 
-use crate::firmware::Firmware;
+use crate::firmware::{Firmware, Move};
 use crate::words::{Word, word_of};
 use hp_boot::BootStage;
 use hp_model::{Answer, BootFact, Entry, Event, NoMemory, fits};
@@ -103,8 +103,17 @@ fn feed(firmware: &mut Firmware, entry: &Entry) -> bool {
         (Event::Do(_, _), None) => firmware.feed_boot(entry.answer),
         (Event::Do(cpu, _), Some(_)) => firmware.feed(cpu, entry.answer),
         (Event::Tell(_), Some(_)) => firmware.feed(0, entry.answer),
-        (Event::Resume(cpu), Some(_)) => firmware.leave(cpu),
+        (Event::Resume(cpu), Some(_)) => firmware.go(cpu, Move::Leave),
         _ => false,
+    }
+}
+
+/// A processor is told to be elsewhere.
+fn go(alloc: Global, firmware: &mut Firmware, cpu: u32, to: Move) -> Result<Played, AllocError> {
+    if firmware.go(cpu, to) {
+        Ok(Played::Told)
+    } else {
+        other(alloc, "no such processor")
     }
 }
 
@@ -116,11 +125,7 @@ fn play_entry(
     line: &str,
 ) -> Result<Played, NoMemory> {
     if let Event::TakeSmi(cpu) = entry.event {
-        return if firmware.enter(cpu) {
-            Ok(Played::Told)
-        } else {
-            Ok(other(alloc, "no such processor")?)
-        };
+        return Ok(go(alloc, firmware, cpu, Move::Enter)?);
     }
     let played = compare(text_of(alloc, due(firmware, entry))?, line);
     if let Played::Came = played {
@@ -132,7 +137,7 @@ fn play_entry(
 }
 
 /// Where a processor stands, as a line.
-fn text_of_seat(alloc: Global, firmware: &mut Firmware, cpu: u32) -> Result<String, AllocError> {
+fn text_of_seat(alloc: Global, firmware: &Firmware, cpu: u32) -> Result<String, AllocError> {
     match firmware.seat(cpu) {
         Some(seat) => {
             let at = seat.at;
@@ -146,8 +151,8 @@ fn text_of_seat(alloc: Global, firmware: &mut Firmware, cpu: u32) -> Result<Stri
 /// What a processor in SMM wants, as a line: `astray CPU` where it has no row.
 fn text_of_row(alloc: Global, firmware: &Firmware, cpu: u32) -> Result<String, NoMemory> {
     match firmware.in_smm(cpu, Answer::Quiet) {
-        Some(entry) => text_of(alloc, Some(entry)),
-        None => Ok(format!(in alloc; "astray {cpu}")?),
+        None if firmware.seat(cpu).is_some() => Ok(format!(in alloc; "astray {cpu}")?),
+        step => text_of(alloc, step),
     }
 }
 
@@ -162,18 +167,7 @@ fn play_word(
             firmware.features(negotiated);
             Ok(Played::Told)
         }
-        Word::Stand {
-            cpu,
-            smbase,
-            mark,
-            base,
-        } => match firmware.seat(cpu) {
-            Some(seat) => {
-                seat.put(smbase, mark, base);
-                Ok(Played::Told)
-            }
-            None => Ok(other(alloc, "no such processor")?),
-        },
+        Word::Stand(cpu, to) => Ok(go(alloc, firmware, cpu, to)?),
         Word::Seat(cpu) => Ok(compare(text_of_seat(alloc, firmware, cpu)?, line)),
         Word::Astray(cpu) => Ok(compare(text_of_row(alloc, firmware, cpu)?, line)),
         Word::Boot => Ok(compare(text_of_boot(alloc, firmware.stage())?, line)),

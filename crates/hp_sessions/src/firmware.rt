@@ -12,6 +12,17 @@ use hp_smm::{Handlers, Stand};
 use std::alloc::{AllocError, Global};
 use std::marker::Model;
 
+/// What changes where a processor is but its handler.
+#[derive(Clone, Copy)]
+pub enum Move {
+    /// SMI entry.
+    Enter,
+    /// RSM.
+    Leave,
+    /// In SMM at this SMBASE, where this mark stands at its instruction address, with this base.
+    To { smbase: u32, mark: u32, base: u32 },
+}
+
 /// The boot sequence and the handlers, and where each processor stands in SMM.
 #[derive(Drop)]
 pub struct Firmware {
@@ -69,18 +80,6 @@ fn feed_handlers(handlers: &mut Handlers, x2apic: bool, seat: &mut Seat, answer:
     true
 }
 
-/// Feeds an answer to the boot. Answers whether its access has such an answer.
-fn feed_boot(boot: &mut Boot, answer: Answer) -> bool {
-    if let BootStage::More = boot.stage() {
-        let fits = answers(boot.want(), answer);
-        if fits {
-            boot.feed(answer);
-        }
-        return fits;
-    }
-    false
-}
-
 /// Where each processor stands before its first SMI.
 fn seats_of(alloc: Global, p: &Platform) -> Result<Vec<Seat>, AllocError>
     requires { IsFit p.now }
@@ -113,8 +112,8 @@ impl Firmware {
     }
 
     /// Where a processor stands.
-    pub fn seat(&mut self, cpu: u32) -> Option<&mut Seat> {
-        self.seats.get_mut(cpu as usize)
+    pub fn seat(&self, cpu: u32) -> Option<&Seat> {
+        self.seats.get(cpu as usize)
     }
 
     /// The next step of a processor in SMM, answered so; none where it has no row.
@@ -131,6 +130,7 @@ impl Firmware {
             answer,
         })
     }
+
     /// The boot's next access, answered so; none once the boot is over.
     pub fn in_boot(&self, answer: Answer) -> Option<Entry> {
         if let BootStage::More = self.boot.stage() {
@@ -150,7 +150,14 @@ impl Firmware {
 
     /// Feeds an answer to the boot. Answers whether its next access has such an answer.
     pub fn feed_boot(&mut self, answer: Answer) -> bool {
-        feed_boot(&mut self.boot, answer)
+        if let BootStage::More = self.boot.stage() {
+            let fits = answers(self.boot.want(), answer);
+            if fits {
+                self.boot.feed(answer);
+            }
+            return fits;
+        }
+        false
     }
 
     /// Feeds an answer to a processor in SMM. Answers whether what it wants has such an answer.
@@ -161,26 +168,19 @@ impl Firmware {
         }
     }
 
-    /// RSM of a processor. Answers whether there is such a processor.
-    pub fn leave(&mut self, cpu: u32) -> bool {
-        match self.seats.get_mut(cpu as usize) {
-            Some(seat) => {
-                seat.leave();
-                true
-            }
-            None => false,
-        }
-    }
-
-    /// SMI entry of a processor. Answers whether there is such a processor.
-    pub fn enter(&mut self, cpu: u32) -> bool {
-        self.handlers.entered(cpu);
-        match self.seats.get_mut(cpu as usize) {
-            Some(seat) => {
+    /// SMI entry, RSM or another place of a processor. Answers whether there is such a processor.
+    pub fn go(&mut self, cpu: u32, to: Move) -> bool {
+        let Some(seat) = self.seats.get_mut(cpu as usize) else {
+            return false;
+        };
+        match to {
+            Move::Enter => {
+                self.handlers.entered(cpu);
                 seat.enter();
-                true
             }
-            None => false,
+            Move::Leave => seat.leave(),
+            Move::To { smbase, mark, base } => seat.put(smbase, mark, base),
         }
+        true
     }
 }

@@ -86,8 +86,9 @@ impl Seat {
         self.at = smbase.wrapping_add(0x8000).wrapping_add(offset_of(mark));
     }
 
-    /// RSM. What the first handler stored becomes SMBASE.
+    /// RSM. What the first handler stored becomes SMBASE, and outside SMM no handler's mark counts.
     pub fn leave(&mut self) {
+        self.stand.mark = 0;
         if self.stand.smbase == DEFAULT_SMBASE {
             self.stand.smbase = self.stand.base;
         }

@@ -1,5 +1,7 @@
 //! The lines of a case that are no lines of a trace.
 
+use crate::firmware::Move;
+
 /// A line that says something of the firmware, in words of its own.
 #[derive(Clone, Copy)]
 pub enum Word {
@@ -7,12 +9,7 @@ pub enum Word {
     Features(u64),
     /// `stand CPU SMBASE MARK BASE`: the processor is in SMM at this SMBASE, with this base, and this mark stands at its
     /// instruction address.
-    Stand {
-        cpu: u32,
-        smbase: u32,
-        mark: u32,
-        base: u32,
-    },
+    Stand(u32, Move),
     /// `seat CPU ADDRESS BASE`: the instruction address and the base of a processor.
     Seat(u32),
     /// `astray CPU`: a processor in SMM without a row.
@@ -33,12 +30,12 @@ fn stand(words: &str) -> Option<Word> {
     let (cpu, rest) = words.split_once(' ')?;
     let (smbase, rest) = rest.split_once(' ')?;
     let (mark, base) = rest.split_once(' ')?;
-    Some(Word::Stand {
-        cpu: decimal(cpu)?,
+    let to = Move::To {
         smbase: hex(smbase)?,
         mark: hex(mark)?,
         base: hex(base)?,
-    })
+    };
+    Some(Word::Stand(decimal(cpu)?, to))
 }
 
 fn seat(words: &str) -> Option<Word> {
