@@ -24,9 +24,8 @@ pub fn answers(access: Access, answer: Answer) -> bool
     ensures { IsTrue result → FitsAccess access answer }
 {
     match (access, answer) {
-        (Access::Load { width, .. } | Access::In { width, .. }, Answer::Value(value)) => {
-            holds(width, value)
-        }
+        (Access::Load { width, .. }, Answer::Value(value)) => holds(width, value),
+        (Access::In { width, .. }, Answer::Value(value)) => holds(width, value),
         (Access::Swap { .. }, Answer::Value(_)) => true,
         (Access::CfgRead { .. }, Answer::Value(value)) => value < 0x100,
         (

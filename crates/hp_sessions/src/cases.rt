@@ -43,16 +43,20 @@ fn other(alloc: Global, text: &str) -> Result<Played, AllocError> {
     Ok(Played::Other(text.to_string(alloc)?))
 }
 
-/// The line of an entry, without its line feed; where there is none, the text `nothing`.
-fn text_of(alloc: Global, entry: Option<Entry>) -> Result<String, NoMemory> {
+/// The line of an entry, without its line feed.
+fn line_of(alloc: Global, entry: &Entry) -> Result<String, NoMemory> {
     let mut bytes = Vec::new(alloc);
-    if let Some(entry) = entry {
-        hp_trace::line(&entry, &mut bytes)?;
-    }
+    hp_trace::line(entry, &mut bytes)?;
     bytes.pop();
-    match String::from_utf8(bytes) {
-        Ok(text) if !text.is_empty() => Ok(text),
-        _ => Ok("nothing".to_string(alloc)?),
+    let text = str::from_utf8(bytes.as_slice()).unwrap_or_default();
+    Ok(text.to_string(alloc)?)
+}
+
+/// The line of an entry; where there is none, the text `nothing`.
+fn text_of(alloc: Global, entry: Option<Entry>) -> Result<String, NoMemory> {
+    match entry {
+        Some(entry) => line_of(alloc, &entry),
+        None => Ok("nothing".to_string(alloc)?),
     }
 }
 
