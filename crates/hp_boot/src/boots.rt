@@ -11,7 +11,7 @@ use hp_model::{Access, Answer, BootFact, Platform};
 use std::marker::Model;
 
 /// How a boot stands, for its caller.
-#[derive(Clone, Copy, Debug, PartialEq)]
+#[derive(Clone, Copy)]
 pub enum BootStage {
     /// There is a next access.
     More,

@@ -4,8 +4,6 @@
 mod boots;
 mod laws;
 mod table;
-#[cfg(test)]
-mod tests;
 
 pub use boots::{Boot, BootStage};
 pub use laws::{

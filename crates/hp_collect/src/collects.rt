@@ -36,7 +36,7 @@ const GET_APIC_ID: u32 = 3;
 const EVENTS: u8 = 0x12;
 
 /// What the register block said of a processor with an event.
-#[derive(Clone, Copy, Debug, PartialEq)]
+#[derive(Clone, Copy)]
 pub struct Reported {
     /// Its place, which is its selector.
     pub cpu: u32,
@@ -47,7 +47,7 @@ pub struct Reported {
 }
 
 /// Whether a collection goes on.
-#[derive(Clone, Copy, Debug, PartialEq)]
+#[derive(Clone, Copy)]
 pub enum Stage {
     More,
     Ended,

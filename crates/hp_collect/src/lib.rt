@@ -3,7 +3,5 @@
 
 mod collects;
 mod rows;
-#[cfg(test)]
-mod tests;
 
 pub use collects::{Collect, Reported, Stage};

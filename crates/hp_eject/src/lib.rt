@@ -4,7 +4,5 @@
 mod ejects;
 mod rows;
 mod standing;
-#[cfg(test)]
-mod tests;
 
 pub use ejects::Eject;

@@ -1,14 +1,10 @@
 //! The monarch, the handler of processor 0 in SMM (own rule): a session from SMI entry to RSM.
 #![tactic(auto)]
 
-#[cfg(test)]
-mod add_tests;
 mod classes;
 mod laws;
 mod rows;
 mod sessions;
-#[cfg(test)]
-mod tests;
 
 pub use laws::{
     a_session_keeps_its_order, an_eject_keeps_its_order, each_row_leads_to_a_successor,

@@ -36,7 +36,7 @@ const SMI_TO_OTHERS: u32 = 0xc0200;
 const MOST_SLOTS: usize = 512;
 
 /// Whether a session goes on.
-#[derive(Clone, Copy, Debug, PartialEq)]
+#[derive(Clone, Copy)]
 pub enum Phase {
     More,
     /// The monarch has left SMM by RSM.

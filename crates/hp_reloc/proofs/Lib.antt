@@ -1,6 +1,5 @@
 pub mod Adding
 pub mod Bases
 pub mod Bound
-pub mod Fitting
 pub mod Places
 pub mod Staying

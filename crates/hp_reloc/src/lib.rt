@@ -2,16 +2,12 @@
 //! it there.
 #![tactic(auto)]
 
-#[cfg(test)]
-mod add_tests;
 mod first;
 mod laws;
 mod relocs;
 mod rows;
 mod slots;
 mod standing;
-#[cfg(test)]
-mod tests;
 
 pub use first::{first_next, first_want, first_want_by, value_of};
 pub use laws::{

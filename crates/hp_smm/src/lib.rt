@@ -4,8 +4,6 @@
 mod handlers;
 mod laws;
 mod relocated;
-#[cfg(test)]
-mod tests;
 
 pub use handlers::{Handlers, Stand};
 pub use laws::a_processor_leaves_once_it_is_released;

@@ -1,0 +1,54 @@
+//! Which answers fit what the firmware wants.
+
+ghost use Rattle.std.specs.Prelude.{◌<◌, ◌^◌, ◌≢◌, IsTrue, Some};
+ghost use Rattle.hp_model.specs.declared.accesses.Want.TheVariants as wants;
+ghost use Rattle.hp_model.specs.Fitting.{FitsAccess, FitsWant};
+
+use hp_model::{Access, Answer, Want};
+
+/// Whether so many bytes hold the value.
+fn holds(width: u8, value: u64) -> bool
+    ensures { IsTrue result → value < 256 ^ width }
+{
+    match width {
+        1 => value < 0x100,
+        2 => value < 0x1_0000,
+        4 => value < 0x1_0000_0000,
+        8 => true,
+        _ => false,
+    }
+}
+
+/// Whether the access has such an answer.
+pub fn answers(access: Access, answer: Answer) -> bool
+    ensures { IsTrue result → FitsAccess access answer }
+{
+    match (access, answer) {
+        (Access::Load { width, .. }, Answer::Value(value)) => holds(width, value),
+        (Access::In { width, .. }, Answer::Value(value)) => holds(width, value),
+        (Access::Swap { .. }, Answer::Value(_)) => true,
+        (Access::CfgRead { .. }, Answer::Value(value)) => value < 0x100,
+        (
+            Access::Store { .. }
+            | Access::Out { .. }
+            | Access::CfgWrite { .. }
+            | Access::Icr { .. }
+            | Access::Halt
+            | Access::Nop,
+            Answer::Quiet,
+        ) => true,
+        _ => false,
+    }
+}
+
+/// Whether an access or an outcome is wanted that has such an answer.
+pub fn takes(want: Option<Want>, answer: Answer) -> bool
+    ensures fits { IsTrue result → FitsWant want answer }
+    ensures stays { IsTrue result → want ≢ Some wants.Resume }
+{
+    match want {
+        Some(Want::Do(access)) => answers(access, answer),
+        Some(Want::Tell(_)) => matches!(answer, Answer::Quiet),
+        Some(Want::Resume) | None => false,
+    }
+}
