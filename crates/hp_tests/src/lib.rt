@@ -1,0 +1,15 @@
+//! Tests of what no case file can say.
+#![tactic(auto)]
+
+#[cfg(test)]
+mod devices;
+#[cfg(test)]
+mod images;
+#[cfg(test)]
+mod machines;
+#[cfg(test)]
+mod memory;
+#[cfg(test)]
+mod platforms;
+#[cfg(test)]
+mod processors;
