@@ -16,6 +16,7 @@ pub fn three_numbers(text: &str) -> Option<(u32, u32, u32)> {
     ))
 }
 
+/// A number in decimal, or `none`.
 fn number_text(alloc: Global, number: Option<u64>) -> Result<String, NoMemory> {
     match number {
         Some(number) => Ok(format!(in alloc; "{number}")?),
@@ -23,6 +24,7 @@ fn number_text(alloc: Global, number: Option<u64>) -> Result<String, NoMemory> {
     }
 }
 
+/// A mode, with its page in at least two digits or its instruction address in eight.
 fn mode_text(alloc: Global, mode: Mode) -> Result<String, NoMemory> {
     match mode {
         Mode::Wait => Ok(format!(in alloc; "waiting")?),
@@ -44,6 +46,7 @@ fn cpu_text(alloc: Global, k: u32, cpu: Cpu) -> Result<String, NoMemory> {
     )?)
 }
 
+/// The mark where a processor stands, or `none`.
 fn mark_text(alloc: Global, k: u32, mark: Option<u32>) -> Result<String, NoMemory> {
     match mark {
         Some(mark) => Ok(format!(in alloc; "mark {k} {mark:08x}")?),

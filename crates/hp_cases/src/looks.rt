@@ -5,6 +5,7 @@ use hp_machine::Machine;
 use hp_model::{Access, Answer, Event, NoMemory};
 use std::alloc::Global;
 
+/// Whether a value of so many bytes has no 0 among its bits.
 fn is_all_ones(width: u8, value: u64) -> bool {
     match width {
         1 => value == 0xff,
@@ -34,10 +35,13 @@ pub fn reach(alloc: Global, machine: &mut Machine, rest: &str) -> Result<Option<
     let Some((k, width, first)) = three_numbers(numbers) else {
         return Ok(None);
     };
+    let Ok(width) = u8::try_from(width) else {
+        return Ok(None);
+    };
     let mut text = format!(in alloc; "reach {numbers} ")?;
     let mut addr = first;
     for _ in letters.chars() {
-        text.push(look(machine, k, width as u8, addr)?)?;
+        text.push(look(machine, k, width, addr)?)?;
         addr = addr.wrapping_add(1);
     }
     Ok(Some(text))

@@ -1,14 +1,14 @@
 //! Plays the case files that data/names lists over machines, and writes of each whether all its lines came out.
 #![tactic(auto)]
 
+mod case_files;
 mod facts;
 mod looks;
 mod players;
-mod sheets;
 mod steps;
 
+use case_files::{Verdict, verdict_of};
 use hp_model::NoMemory;
-use sheets::{Verdict, verdict_of};
 use std::alloc::Global;
 use std::fs;
 use std::io::{self, Write};
@@ -19,12 +19,12 @@ fn report(alloc: Global, name: &str, verdict: &Verdict) -> Result<Vec<u8>, NoMem
     match verdict {
         Verdict::Kept(lines) => Ok(format!(in alloc; "{name}: {lines} lines\n")?.into_bytes()),
         Verdict::Broken {
-            place,
+            line,
             wanted,
             found,
         } => {
             let mut text = format!(in alloc;
-                "{name}, line {place}: wanted {wanted}, found "
+                "{name}, line {line}: wanted {wanted}, found "
             )?.into_bytes();
             text.extend_from_slice(found.as_slice())?;
             text.push(b'\n')?;
@@ -33,11 +33,12 @@ fn report(alloc: Global, name: &str, verdict: &Verdict) -> Result<Vec<u8>, NoMem
     }
 }
 
+/// The only want of this program that is no fault of a file.
 fn no_memory(_: NoMemory) -> io::Error {
     io::Error::from(io::ErrorKind::OutOfMemory)
 }
 
-/// Whether all lines of a case file came out, which it tells.
+/// Plays `NAME.txt` and tells of it. Answers whether all its lines came out; a file that can't be read is an error.
 fn play(rt: &HostRuntime, name: &str) -> io::Result<bool> {
     let alloc = rt.alloc();
     let path = format!(in alloc; "{name}.txt")?;
@@ -48,6 +49,7 @@ fn play(rt: &HostRuntime, name: &str) -> io::Result<bool> {
     Ok(matches!(verdict, Verdict::Kept(_)))
 }
 
+/// Plays all files, also after one that did not come out.
 fn main(rt: HostRuntime) -> io::Result<ExitCode> {
     let names = fs::read_to_string(&rt, "names")?;
     let mut all_kept = true;

@@ -50,6 +50,7 @@ fn answer(alloc: Global, machine: &mut Machine, line: &str) -> Result<Vec<u8>, N
     }
 }
 
+/// Plays one line that is neither a comment nor a beginning.
 fn compare(alloc: Global, machine: &mut Option<Machine>, line: &str) -> Result<Found, NoMemory> {
     let Some(machine) = machine else {
         return Ok(Found::Other(Vec::from_slice(alloc, b"no machine")?));
@@ -62,6 +63,7 @@ fn compare(alloc: Global, machine: &mut Option<Machine>, line: &str) -> Result<F
 }
 
 impl<'a> Player<'a> {
+    /// A player that has no machine before the first header.
     pub fn new(alloc: Global) -> Player<'a> {
         Player {
             alloc,
@@ -72,6 +74,7 @@ impl<'a> Player<'a> {
         }
     }
 
+    /// A new machine of the header's platform.
     fn start(&mut self) -> Result<Found, NoMemory> {
         self.machine = machine_of(self.alloc, self.head)?;
         if self.machine.is_none() {

@@ -9,9 +9,9 @@ use std::alloc::Global;
 pub enum Verdict<'a> {
     /// So many lines were compared, and each came out.
     Kept(u32),
-    /// The first line that didn't come out, by its place from 1 on, and what came in its stead.
+    /// The first line that didn't come out, by its number from 1 on, and what came in its stead.
     Broken {
-        place: u32,
+        line: u32,
         wanted: &'a str,
         found: Vec<u8>,
     },
@@ -20,16 +20,16 @@ pub enum Verdict<'a> {
 /// Plays the lines in their order. A file without a line to compare is broken too.
 pub fn verdict_of(alloc: Global, text: &str) -> Result<Verdict<'_>, NoMemory> {
     let mut player = Player::new(alloc);
-    let mut place = 0u32;
+    let mut number = 0u32;
     let mut compared = 0u32;
     for line in text.lines() {
-        place = place.saturating_add(1);
+        number = number.saturating_add(1);
         match player.play(line)? {
             Found::Nothing => {}
             Found::AsSaid => compared = compared.saturating_add(1),
             Found::Other(found) => {
                 return Ok(Verdict::Broken {
-                    place,
+                    line: number,
                     wanted: line,
                     found,
                 });
@@ -38,7 +38,7 @@ pub fn verdict_of(alloc: Global, text: &str) -> Result<Verdict<'_>, NoMemory> {
     }
     if compared == 0 {
         return Ok(Verdict::Broken {
-            place,
+            line: number,
             wanted: "a line to compare",
             found: Vec::from_slice(alloc, b"none")?,
         });
