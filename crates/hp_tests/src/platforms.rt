@@ -11,7 +11,7 @@ use std::test::Fail;
 
 /// The platform whose trace has this header.
 pub fn platform_of(rt: &impl Abort, alloc: Global, head: &str) -> Result<Platform, Fail>
-    ensures { IfOk result (λ p. IsFit p.now) }
+    ensures { IfOk result (λ p. IsFit p) }
 {
     let Some(p) = read_head(alloc, head.as_bytes())? else {
         panic!(rt; "no header");
@@ -29,7 +29,7 @@ pub fn sized(
     low_memory: u32,
     tseg_mib: u32,
 ) -> Result<Platform, Fail>
-    ensures { IfOk result (λ p. IsFit p.now) }
+    ensures { IfOk result (λ p. IsFit p) }
 {
     let p = Platform {
         apic: ids(alloc, count)?,
