@@ -2,7 +2,5 @@
 #![tactic(auto)]
 
 mod commands;
-#[cfg(test)]
-mod tests;
 
 pub use commands::{decode, decode_wide, hits};

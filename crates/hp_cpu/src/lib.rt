@@ -5,8 +5,6 @@ mod laws;
 mod places;
 mod processors;
 mod save_area;
-#[cfg(test)]
-mod tests;
 
 pub use laws::{
     an_smi_goes_before_init, an_smi_returns_to_its_page, init_and_sipi_leave_smbase,

@@ -6,8 +6,6 @@ mod device;
 mod features;
 mod items;
 mod laws;
-#[cfg(test)]
-mod tests;
 mod transfers;
 
 pub use device::FwCfg;

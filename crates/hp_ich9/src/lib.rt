@@ -4,8 +4,6 @@
 mod flags;
 mod laws;
 mod ports;
-#[cfg(test)]
-mod tests;
 
 pub use laws::{
     apm_cnt_raises_with_apmc_en, gpe_status_goes_bit_by_bit, other_accesses_do_nothing,

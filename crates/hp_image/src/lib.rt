@@ -1,14 +1,10 @@
 //! The firmware's image: the marks of the handlers and the cells where they stand, and what memory holds before the start.
 #![tactic(auto)]
 
-#[cfg(test)]
-mod image_tests;
 mod initial;
 mod laws;
 mod marks;
 mod stores;
-#[cfg(test)]
-mod tests;
 
 pub use initial::image;
 pub use laws::{

@@ -6,8 +6,6 @@ mod interrupts;
 mod machines;
 mod ports;
 mod reach;
-#[cfg(test)]
-mod tests;
 mod transfers;
 
 pub use machines::Machine;

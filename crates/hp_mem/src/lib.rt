@@ -5,8 +5,6 @@ mod laws;
 mod memory;
 mod pages;
 mod same;
-#[cfg(test)]
-mod tests;
 mod words;
 
 pub use laws::{a_store_leaves_what_lies_beside_it, a_store_reads_back};

@@ -166,5 +166,3 @@ inserted_count b k = length-set b.slots k _
 
 pub requested_count : (b : Block) (k : ℕ) → length (with_removal b k).slots ≡ length b.slots
 requested_count b k = length-set b.slots k _
-
-pub ruleset count_facts = (stays_count, inserted_count, requested_count)

@@ -5,8 +5,6 @@ mod flags;
 mod laws;
 mod registers;
 mod slots;
-#[cfg(test)]
-mod tests;
 
 pub use laws::{
     a_write_touches_the_selected_processor_alone, an_eject_leaves_the_events,

@@ -4,8 +4,6 @@
 mod flags;
 mod laws;
 mod registers;
-#[cfg(test)]
-mod tests;
 
 pub use laws::{
     default_area_stays_locked, locks_start_as_the_machine, memory_is_open_in_smm,

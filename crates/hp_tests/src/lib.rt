@@ -2,4 +2,16 @@
 #![tactic(auto)]
 
 #[cfg(test)]
+mod devices;
+#[cfg(test)]
 mod firmware;
+#[cfg(test)]
+mod images;
+#[cfg(test)]
+mod machines;
+#[cfg(test)]
+mod memory;
+#[cfg(test)]
+mod platforms;
+#[cfg(test)]
+mod processors;
