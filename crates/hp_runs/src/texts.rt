@@ -10,7 +10,10 @@ pub fn first_difference<'a>(wanted: &'a str, found: &'a str) -> Option<(&'a str,
             None => return Some((line, "no more lines")),
         }
     }
-    others.next().map(|other| ("no more lines", other))
+    match others.next() {
+        Some(other) => Some(("no more lines", other)),
+        None => None,
+    }
 }
 
 /// How many lines there are.

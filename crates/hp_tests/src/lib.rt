@@ -8,6 +8,14 @@ mod echoes;
 #[cfg(test)]
 mod edge;
 #[cfg(test)]
+mod handed;
+#[cfg(test)]
+mod lines;
+#[cfg(test)]
+mod outcomes;
+#[cfg(test)]
+mod spellings;
+#[cfg(test)]
 mod turns;
 #[cfg(test)]
 mod worlds;

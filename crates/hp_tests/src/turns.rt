@@ -9,6 +9,14 @@ use std::alloc::Global;
 use std::process::Abort;
 use std::test::Fail;
 
+/// Two processors, the first there at boot.
+pub(crate) const TWO: &str =
+    "platform apic=0,1 boot=0 low=08000000 tseg=1 features=7 polls=8 turns=0 modern=true smram=true delivery=prompt";
+
+/// Two boot processors.
+pub(crate) const BOTH: &str =
+    "platform apic=0,1 boot=0,1 low=08000000 tseg=1 features=7 polls=8 turns=0 modern=true smram=true delivery=prompt";
+
 /// The script of these steps.
 fn script_of(alloc: Global, steps: &[&str]) -> Result<Script, Fail> {
     let mut list = Vec::new(alloc);
