@@ -38,35 +38,31 @@ fn try_answers<A: Agent>(rt: &impl Abort, agent: &mut A, rows: &[(u32, u32, Answ
     }
 }
 
+const OF_A_SCRIPT: [(u32, u32, Answer, Access); 4] = [
+    (5, 0, Answer::Quiet, READ),
+    (5, 0x9f, Answer::Value(3), WRITE),
+    (5, 0x9f, Answer::Value(u64::MAX), Access::Halt),
+    (5, 0, Answer::Quiet, Access::Halt),
+];
+
+const OF_A_PEN: [(u32, u32, Answer, Access); 7] = [
+    (1, 0, Answer::Quiet, Access::Halt),
+    (1, 0x9e, Answer::Quiet, Access::Halt),
+    (1, 0xa0, Answer::Quiet, Access::Halt),
+    (2, 0x9f, Answer::Quiet, STORE),
+    (2, 0x9f, Answer::Quiet, Access::Halt),
+    (3, 0, Answer::Quiet, Access::Halt),
+    (4, 0x9f, Answer::Quiet, Access::Halt),
+];
+
 #[test]
 fn scripts_say_their_steps_whatever_they_are_asked_and_pens_store_once_at_page_9f(
     rt: HostRuntime,
 ) -> Result<(), Fail> {
     let mut script = Script::new(two_steps(rt.alloc())?);
-    try_answers(
-        &rt,
-        &mut script,
-        &[
-            (5, 0, Answer::Quiet, READ),
-            (5, 0x9f, Answer::Value(3), WRITE),
-            (5, 0x9f, Answer::Value(u64::MAX), Access::Halt),
-            (5, 0, Answer::Quiet, Access::Halt),
-        ],
-    );
+    try_answers(&rt, &mut script, &OF_A_SCRIPT);
     let mut pen = PenAgent::new();
-    try_answers(
-        &rt,
-        &mut pen,
-        &[
-            (1, 0, Answer::Quiet, Access::Halt),
-            (1, 0x9e, Answer::Quiet, Access::Halt),
-            (1, 0xa0, Answer::Quiet, Access::Halt),
-            (2, 0x9f, Answer::Quiet, STORE),
-            (2, 0x9f, Answer::Quiet, Access::Halt),
-            (3, 0, Answer::Quiet, Access::Halt),
-            (4, 0x9f, Answer::Quiet, Access::Halt),
-        ],
-    );
+    try_answers(&rt, &mut pen, &OF_A_PEN);
     Ok(())
 }
 
@@ -108,6 +104,19 @@ fn try_places<A: Agent>(
     }
 }
 
+const PLACES: [(u32, Access); 10] = [
+    (0, READ),
+    (3, READ),
+    (3, WRITE),
+    (1, Access::Halt),
+    (2, STORE),
+    (2, Access::Halt),
+    (0, WRITE),
+    (0, Access::Halt),
+    (4, Access::Halt),
+    (u32::MAX, Access::Halt),
+];
+
 #[test]
 fn each_place_has_an_agent_of_its_own(rt: HostRuntime) -> Result<(), Fail> {
     let alloc = rt.alloc();
@@ -118,34 +127,82 @@ fn each_place_has_an_agent_of_its_own(rt: HostRuntime) -> Result<(), Fail> {
         Some(Voice::Script(Script::new(two_steps(alloc)?))),
     ]?;
     let mut agents: Agents<PenAgent> = Agents::new(list);
-    for (cpu, want) in [
-        (0, READ),
-        (3, READ),
-        (3, WRITE),
-        (1, Access::Halt),
-        (2, STORE),
-        (2, Access::Halt),
-        (0, WRITE),
-        (0, Access::Halt),
-        (4, Access::Halt),
-        (u32::MAX, Access::Halt),
-    ] {
+    for (cpu, want) in PLACES {
         try_places(&rt, &mut agents, &[(cpu, 0x9f, Answer::Quiet, want)]);
     }
     Ok(())
 }
 
-/// What `Echo` says.
-fn echo(cpu: u64, page: u32, desired: u64) -> Access {
-    Access::Swap {
-        addr: page,
-        expected: cpu,
-        desired,
-    }
-}
-
 /// Lets go of what may go to another thread.
 fn let_go<T: Send + Drop>(_value: T) {}
+
+const BEFORE_THE_DROP: [(u32, u32, Answer, Access); 6] = [
+    (
+        0,
+        0,
+        Answer::Quiet,
+        Access::Swap {
+            addr: 0,
+            expected: 0,
+            desired: 0,
+        },
+    ),
+    (
+        1,
+        0,
+        Answer::Quiet,
+        Access::Swap {
+            addr: 0,
+            expected: 1,
+            desired: 0,
+        },
+    ),
+    (
+        1,
+        0xfffff,
+        Answer::Value(9),
+        Access::Swap {
+            addr: 0xfffff,
+            expected: 1,
+            desired: 10,
+        },
+    ),
+    (
+        1,
+        0x9f,
+        Answer::Value(u64::MAX),
+        Access::Swap {
+            addr: 0x9f,
+            expected: 1,
+            desired: 0,
+        },
+    ),
+    (
+        0,
+        0,
+        Answer::Quiet,
+        Access::Swap {
+            addr: 0,
+            expected: 0,
+            desired: 0,
+        },
+    ),
+    (2, 0, Answer::Quiet, Access::Halt),
+];
+
+const AFTER_THE_DROP: [(u32, u32, Answer, Access); 2] = [
+    (0, 0, Answer::Quiet, Access::Halt),
+    (
+        1,
+        0,
+        Answer::Quiet,
+        Access::Swap {
+            addr: 0,
+            expected: 1,
+            desired: 0,
+        },
+    ),
+];
 
 /// The first is dropped with its processor, and the second with all.
 fn try_drops<A: Agent + Send>(
@@ -159,31 +216,13 @@ fn try_drops<A: Agent + Send>(
         places.push(Some(Voice::Handed(agent)))?;
     }
     let mut agents = Agents::new(places);
-    try_places(
-        rt,
-        &mut agents,
-        &[
-            (0, 0, Answer::Quiet, echo(0, 0, 0)),
-            (1, 0, Answer::Quiet, echo(1, 0, 0)),
-            (1, 0xfffff, Answer::Value(9), echo(1, 0xfffff, 10)),
-            (1, 0x9f, Answer::Value(u64::MAX), echo(1, 0x9f, 0)),
-            (0, 0, Answer::Quiet, echo(0, 0, 0)),
-            (2, 0, Answer::Quiet, Access::Halt),
-        ],
-    );
+    try_places(rt, &mut agents, &BEFORE_THE_DROP);
     assert_eq!(rt; drops.load(Ordering::SeqCst), 0);
     for _ in 0..2 {
         agents.drop_of(0);
         agents.drop_of(2);
         assert_eq!(rt; drops.load(Ordering::SeqCst), 1);
-        try_places(
-            rt,
-            &mut agents,
-            &[
-                (0, 0, Answer::Quiet, Access::Halt),
-                (1, 0, Answer::Quiet, echo(1, 0, 0)),
-            ],
-        );
+        try_places(rt, &mut agents, &AFTER_THE_DROP);
     }
     let_go(agents);
     assert_eq!(rt; drops.load(Ordering::SeqCst), 2);

@@ -42,66 +42,67 @@ fn the_header_and_the_end_stand_around_the_lines(rt: HostRuntime) -> Result<(), 
     Ok(())
 }
 
+const STEPS: [(&str, Access); 10] = [
+    (
+        "load 4 07f28088",
+        Access::Load {
+            addr: 0x7f28088,
+            width: 4,
+        },
+    ),
+    (
+        "store 8 000a0000 00000000fedcba98",
+        Access::Store {
+            addr: 0xa0000,
+            width: 8,
+            value: 0xfedcba98,
+        },
+    ),
+    (
+        "cas 00000010 0000000000000000 0123456789abcdef",
+        Access::Swap {
+            addr: 16,
+            expected: 0,
+            desired: 0x123456789abcdef,
+        },
+    ),
+    (
+        "in 2 0cd8",
+        Access::In {
+            port: 0xcd8,
+            width: 2,
+        },
+    ),
+    (
+        "out 1 00b2 04",
+        Access::Out {
+            port: 0xb2,
+            width: 1,
+            value: 4,
+        },
+    ),
+    ("cfgr 9d", Access::CfgRead { reg: 0x9d }),
+    (
+        "cfgw 9d 5a",
+        Access::CfgWrite {
+            reg: 0x9d,
+            value: 0x5a,
+        },
+    ),
+    (
+        "icr 01000000 00000500",
+        Access::Icr {
+            high: 0x1000000,
+            low: 0x500,
+        },
+    ),
+    ("halt", Access::Halt),
+    ("nop", Access::Nop),
+];
+
 #[test]
 fn steps_are_read(rt: HostRuntime) {
-    let cases = [
-        (
-            "load 4 07f28088",
-            Access::Load {
-                addr: 0x7f28088,
-                width: 4,
-            },
-        ),
-        (
-            "store 8 000a0000 00000000fedcba98",
-            Access::Store {
-                addr: 0xa0000,
-                width: 8,
-                value: 0xfedcba98,
-            },
-        ),
-        (
-            "cas 00000010 0000000000000000 0123456789abcdef",
-            Access::Swap {
-                addr: 16,
-                expected: 0,
-                desired: 0x123456789abcdef,
-            },
-        ),
-        (
-            "in 2 0cd8",
-            Access::In {
-                port: 0xcd8,
-                width: 2,
-            },
-        ),
-        (
-            "out 1 00b2 04",
-            Access::Out {
-                port: 0xb2,
-                width: 1,
-                value: 4,
-            },
-        ),
-        ("cfgr 9d", Access::CfgRead { reg: 0x9d }),
-        (
-            "cfgw 9d 5a",
-            Access::CfgWrite {
-                reg: 0x9d,
-                value: 0x5a,
-            },
-        ),
-        (
-            "icr 01000000 00000500",
-            Access::Icr {
-                high: 0x1000000,
-                low: 0x500,
-            },
-        ),
-        ("halt", Access::Halt),
-        ("nop", Access::Nop),
-    ];
-    for (text, access) in cases {
+    for (text, access) in STEPS {
         assert_eq!(rt; step_of(text.as_bytes()), Some(access), "{text}");
     }
 }

@@ -17,26 +17,29 @@ const AFTER: [(Actor, &str); 5] = [
     (Actor::Cpu(2), "idle"),
 ];
 
+/// Headers of boots that are refused, after how many steps, and the value that was read.
+const REFUSED: [(&str, u32, BootFact); 3] = [
+    (
+        "platform apic=0,1 boot=0 low=08000000 tseg=1 features=7 polls=8 turns=0 modern=false smram=true delivery=prompt",
+        4,
+        BootFact::NotModern(1),
+    ),
+    (
+        "platform apic=0,1 boot=0 low=08000000 tseg=1 features=7 polls=8 turns=0 modern=true smram=false delivery=prompt",
+        6,
+        BootFact::NoDefaultSmram(0),
+    ),
+    (
+        "platform apic=0,1 boot=0 low=08000000 tseg=1 features=5 polls=8 turns=0 modern=true smram=true delivery=prompt",
+        26,
+        BootFact::NotNegotiated(0),
+    ),
+];
+
 #[test]
 fn after_a_refused_boot_there_is_no_step(rt: HostRuntime) -> Result<(), Fail> {
     let alloc = rt.alloc();
-    for (head, steps, fact) in [
-        (
-            "platform apic=0,1 boot=0 low=08000000 tseg=1 features=7 polls=8 turns=0 modern=false smram=true delivery=prompt",
-            4,
-            BootFact::NotModern(1),
-        ),
-        (
-            "platform apic=0,1 boot=0 low=08000000 tseg=1 features=7 polls=8 turns=0 modern=true smram=false delivery=prompt",
-            6,
-            BootFact::NoDefaultSmram(0),
-        ),
-        (
-            "platform apic=0,1 boot=0 low=08000000 tseg=1 features=5 polls=8 turns=0 modern=true smram=true delivery=prompt",
-            26,
-            BootFact::NotNegotiated(0),
-        ),
-    ] {
+    for (head, steps, fact) in REFUSED {
         let mut world: World<PenAgent> = world_of(
             &rt,
             alloc,
@@ -62,6 +65,33 @@ fn try_asked<A: Agent>(rt: &impl Abort, world: &World<A>, rows: &[(Actor, u64)])
     }
 }
 
+/// Turns after the boot, with what each makes.
+const TURNS: [(Actor, &str); 13] = [
+    (Actor::Cpu(2), "idle"),
+    (Actor::Cpu(u32::MAX), "idle"),
+    (Actor::Insert(0), "idle"),
+    (Actor::Remove(0), "idle"),
+    (Actor::Remove(1), "idle"),
+    (Actor::Insert(2), "idle"),
+    (Actor::Insert(1), "host insert 1"),
+    (Actor::Insert(1), "idle"),
+    (Actor::Remove(1), "host remove 1"),
+    (Actor::Remove(1), "host remove 1"),
+    (Actor::Cpu(1), "idle"),
+    (Actor::Cpu(0), "p0 out 1 00b2 05"),
+    (Actor::Cpu(0), "p0 smi"),
+];
+
+/// How many turns actors had then, with those before.
+const COUNTS: [(Actor, u64); 6] = [
+    (Actor::Cpu(0), 29),
+    (Actor::Cpu(1), 1),
+    (Actor::Cpu(2), 0),
+    (Actor::Cpu(u32::MAX), 0),
+    (Actor::Insert(0), 9),
+    (Actor::Remove(9), 9),
+];
+
 #[test]
 fn turns_are_counted_with_a_step_and_without(rt: HostRuntime) -> Result<(), Fail> {
     let alloc = rt.alloc();
@@ -76,31 +106,8 @@ fn turns_are_counted_with_a_step_and_without(rt: HostRuntime) -> Result<(), Fail
     boot(&rt, &mut world, 27)?;
     assert!(rt; world.handed());
     assert_eq!(rt; world.boot_fact(), None);
-    let rows = [
-        (Actor::Cpu(2), "idle"),
-        (Actor::Cpu(u32::MAX), "idle"),
-        (Actor::Insert(0), "idle"),
-        (Actor::Remove(0), "idle"),
-        (Actor::Remove(1), "idle"),
-        (Actor::Insert(2), "idle"),
-        (Actor::Insert(1), "host insert 1"),
-        (Actor::Insert(1), "idle"),
-        (Actor::Remove(1), "host remove 1"),
-        (Actor::Remove(1), "host remove 1"),
-        (Actor::Cpu(1), "idle"),
-        (Actor::Cpu(0), "p0 out 1 00b2 05"),
-        (Actor::Cpu(0), "p0 smi"),
-    ];
-    play(&rt, alloc, &mut world, &rows)?;
-    let counts = [
-        (Actor::Cpu(0), 29),
-        (Actor::Cpu(1), 1),
-        (Actor::Cpu(2), 0),
-        (Actor::Cpu(u32::MAX), 0),
-        (Actor::Insert(0), 9),
-        (Actor::Remove(9), 9),
-    ];
-    try_asked(&rt, &world, &counts);
+    play(&rt, alloc, &mut world, &TURNS)?;
+    try_asked(&rt, &world, &COUNTS);
     Ok(())
 }
 
@@ -138,6 +145,26 @@ fn the_turns_of_rounds_are_counted(rt: HostRuntime) -> Result<(), Fail> {
     Ok(())
 }
 
+/// What processors and the monarch do about their arrived bytes.
+const ARRIVALS: [(&str, &str); 4] = [
+    (
+        "p1 @05038000 store 1 05000001 01",
+        "p0 @0502800c load 1 05000001 = 01",
+    ),
+    (
+        "p255 @06018000 store 1 050000ff 01",
+        "p0 @0502800c load 1 050000ff = 01",
+    ),
+    (
+        "p256 @06028000 store 1 05000100 01",
+        "p0 @0502800c load 1 05000100 = 01",
+    ),
+    (
+        "p511 @07018000 store 1 050001ff 01",
+        "p0 @0502800c load 1 050001ff = 01",
+    ),
+];
+
 /// All 512 come to SMM, each in the tile of its slot, which begin at 5020000; the monarch sees each arrived byte. No run has
 /// as many turns as this session takes, where all processors have as many.
 #[test]
@@ -152,24 +179,7 @@ fn five_hundred_and_twelve_processors_meet_in_smm(rt: HostRuntime) -> Result<(),
     rounds(&mut world, 1, 1600)?;
     let left = times(alloc, world.entries(), "p0 @05028094 rsm")?;
     assert_eq!(rt; left, 1);
-    for (stores, looks) in [
-        (
-            "p1 @05038000 store 1 05000001 01",
-            "p0 @0502800c load 1 05000001 = 01",
-        ),
-        (
-            "p255 @06018000 store 1 050000ff 01",
-            "p0 @0502800c load 1 050000ff = 01",
-        ),
-        (
-            "p256 @06028000 store 1 05000100 01",
-            "p0 @0502800c load 1 05000100 = 01",
-        ),
-        (
-            "p511 @07018000 store 1 050001ff 01",
-            "p0 @0502800c load 1 050001ff = 01",
-        ),
-    ] {
+    for (stores, looks) in ARRIVALS {
         assert_eq!(rt; times(alloc, world.entries(), stores)?, 1, "{stores}");
         assert_eq!(rt; times(alloc, world.entries(), looks)?, 1, "{looks}");
     }
@@ -186,6 +196,18 @@ fn reach<A: Agent>(alloc: Global, world: &mut World<A>, front: &str) -> Result<(
     }
     Err(Fail::from("not reached"))
 }
+
+const AFTER_THE_TELL: [(Actor, &str); 6] = [
+    (Actor::Cpu(0), "p0 @07f2808c store 1 07f04000 00"),
+    (Actor::Cpu(0), "p0 @07f28090 store 1 07f01001 01"),
+    // the SMI of processor 1 is latched all the time, and its own turn leaves it so
+    (Actor::Cpu(1), "p1 halt"),
+    (Actor::Cpu(1), "idle"),
+    (Actor::Smi(1), "p1 smi"),
+    (Actor::Smi(2), "idle"),
+];
+
+const LATE_COUNTS: [(Actor, u64); 3] = [(Actor::Smi(1), 5), (Actor::Cpu(1), 5), (Actor::Smi(2), 0)];
 
 /// Processor 1 never takes its SMI. It selects processor 0 when the monarch has read the status of processor 1.
 #[test]
@@ -215,21 +237,19 @@ fn a_late_processor_moves_the_selector(rt: HostRuntime) -> Result<(), Fail> {
     let told = times(alloc, world.entries(), "p0 @07f28088 tell foreign 1 0")?;
     assert_eq!(rt; told, 1);
     // the session ends with that, and tells nothing more
-    let rows = [
-        (Actor::Cpu(0), "p0 @07f2808c store 1 07f04000 00"),
-        (Actor::Cpu(0), "p0 @07f28090 store 1 07f01001 01"),
-        // the SMI of processor 1 is latched all the time, and its own turn leaves it so
-        (Actor::Cpu(1), "p1 halt"),
-        (Actor::Cpu(1), "idle"),
-        (Actor::Smi(1), "p1 smi"),
-        (Actor::Smi(2), "idle"),
-    ];
-    play(&rt, alloc, &mut world, &rows)?;
+    play(&rt, alloc, &mut world, &AFTER_THE_TELL)?;
     // both are turns of processor 1
-    let counts = [(Actor::Smi(1), 5), (Actor::Cpu(1), 5), (Actor::Smi(2), 0)];
-    try_asked(&rt, &world, &counts);
+    try_asked(&rt, &world, &LATE_COUNTS);
     Ok(())
 }
+
+const AT_ONCE: [(Actor, &str); 5] = [
+    (Actor::Smi(0), "idle"),
+    (Actor::Cpu(0), "p0 out 1 00b2 05"),
+    (Actor::Smi(1), "p1 smi"),
+    (Actor::Smi(1), "idle"),
+    (Actor::Cpu(0), "p0 smi"),
+];
 
 /// Where SMIs don't come late, the turn of an SMI takes it as its processor's does.
 #[test]
@@ -244,12 +264,5 @@ fn an_smi_that_comes_at_once_has_its_turn_too(rt: HostRuntime) -> Result<(), Fai
     )?;
     play(&rt, alloc, &mut world, &[(Actor::Smi(0), "idle")])?;
     boot(&rt, &mut world, 27)?;
-    let rows = [
-        (Actor::Smi(0), "idle"),
-        (Actor::Cpu(0), "p0 out 1 00b2 05"),
-        (Actor::Smi(1), "p1 smi"),
-        (Actor::Smi(1), "idle"),
-        (Actor::Cpu(0), "p0 smi"),
-    ];
-    play(&rt, alloc, &mut world, &rows)
+    play(&rt, alloc, &mut world, &AT_ONCE)
 }
