@@ -7,8 +7,6 @@ mod laws;
 mod pens;
 mod places;
 mod scripts;
-#[cfg(test)]
-mod tests;
 
 pub use asking::Agent;
 pub use kinds::{Voice, voice_for};

@@ -18,6 +18,3 @@ pub use faults::ConfigFault;
 pub use laws::{good_files_are_sound, read_files_are_sound, steps_are_read_as_spelled};
 pub use reading::read;
 pub use steps::step_of;
-
-#[cfg(test)]
-mod tests;

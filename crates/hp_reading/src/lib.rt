@@ -20,6 +20,3 @@ pub use laws::{
     traces_are_read_as_spelled,
 };
 pub use readers::{Piece, Reader};
-
-#[cfg(test)]
-mod tests;

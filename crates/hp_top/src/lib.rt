@@ -11,8 +11,6 @@ mod sorting;
 mod stalling;
 mod statuses;
 mod streams;
-#[cfg(test)]
-mod tests;
 mod writing;
 
 pub use answering::top;

@@ -7,7 +7,5 @@ mod lines;
 mod outcomes;
 mod pieces;
 mod steps;
-#[cfg(test)]
-mod tests;
 
 pub use lines::{end, head, line};
