@@ -9,4 +9,4 @@ use Rattle.hp_sessions.proofs.firmware.feed_handlers.Goals as goal
 pub returns : goal.returns
 returns c =
     layout_stays c.args.handlers.now c.feed-at.new.self c.args.seat.now.stand c.args.answer
-      (subst (λ (w : Option Want). FitsWant w c.args.answer) c.want-want.ensures (c.if-not-takes.ensures.fits refl)) c.feed-at.ensures.monarch
+    (subst (λ (w : Option Want). FitsWant w c.args.answer) c.want-want.ensures (c.if-not-takes.ensures.fits refl)) c.feed-at.ensures.monarch
