@@ -71,9 +71,9 @@ module _ (p : Platform) (f : Facts p) where
 
     turned : (w : Scene) → w.state ≡ s → (act p w (Cpu 0)).scene.state ≡ made a s
     turned w at =
-        let state_of : Option After → State = λ (o : Option After). (made_by p w (Cpu 0) o).scene.state in
+        let state_of : Option After → State = λ (o : Option After). (made_by w (Do 0 a) w.voices (λ answer. w.last) o).scene.state in
         ap (λ (m : Made). m.scene.state) (act_boots p w done supported (ap (λ (t : State). t.stage) at ∙ boots))
-        ∙ ap (λ (b : Access). state_of (step p w.state (Do 0 b))) is
+        ∙ ap (λ (b : Access). (made_by w (Do 0 b) w.voices (λ answer. w.last) (step p w.state (Do 0 b))).scene.state) is
         ∙ ap (λ (t : State). state_of (step p t (Do 0 a))) at
         ∙ ap state_of stepped
         ∙ after_made

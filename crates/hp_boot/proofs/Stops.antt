@@ -9,7 +9,6 @@ use Rattle.hp_model.specs.declared.accesses.Answer.{Answer}
 use Rattle.hp_model.specs.declared.accesses.Answer.TheVariants.{Value}
 use Rattle.hp_model.specs.declared.entries.Actor.{Actor}
 use Rattle.hp_model.specs.declared.entries.Actor.TheVariants as actor
-use Rattle.hp_model.specs.declared.entries.Event.{Event}
 use Rattle.hp_model.specs.declared.entries.Event.TheVariants.{Do}
 use Rattle.hp_model.specs.declared.entries.Entry.{Entry}
 use Rattle.hp_model.specs.declared.files.File.{File}
@@ -21,11 +20,11 @@ use Rattle.hp_model.specs.declared.processors.Mode.TheVariants.{Wait, Running, H
 use Rattle.hp_model.specs.Cpu.{is_in_smm, address_in, smm_address}
 use Rattle.hp_model.specs.Boot.{Stage, Boots, Refused, Handed, boot_accesses, boot_access, boot_refusal, ext_count, value_in, stage_after, stage_by, fact_of}
 use Rattle.hp_model.specs.Step.{State, After, at, effect_of, answer_to, firmware_led, after, step}
-use Rattle.hp_model.specs.Schedule.{Scene, Made, makes_none, both_make, made_by, event_of, entry_of, act, act_all, booted, boot_fact, boot_turns, scene_start}
+use Rattle.hp_model.specs.Schedule.{Scene, Made, makes_none, both_make, made_by, entry_of, act, act_all, booted, boot_fact, boot_turns, scene_start}
 use Rattle.hp_boot.specs.Ending.{reads_fact, IsRefusing, StopsAt}
 use Rattle.hp_boot.proofs.Parts.{at_ext, at_ok}
 use Rattle.hp_boot.proofs.Tail.{head_fact, head_refusal, ok_refusal, wide_refusal}
-use Rattle.hp_boot.proofs.Turns.{all_refused, all_handed, step_either, event_boots, act_boots}
+use Rattle.hp_boot.proofs.Turns.{all_refused, all_handed, step_either, act_boots}
 use Rattle.hp_boot.proofs.Outside.{IsOutside, IsOutside-access, IsOutside-start, boot_calm}
 
 -- an access with its answer, outside SMM, is the one that reads the fact
@@ -132,7 +131,7 @@ module _ (p : Platform) (w : Scene) (fact : BootFact) (done supported : ℕ) (bo
   then_after = after p w.state (Do 0 next)
 
   abbrev turn : Made
-  turn = made_by p w (actor.Cpu 0) (Some then_after)
+  turn = made_by w (Do 0 next) w.voices (λ answer. w.last) (Some then_after)
 
   abbrev value : ℕ
   value = value_in then_after.answer
@@ -145,10 +144,9 @@ module _ (p : Platform) (w : Scene) (fact : BootFact) (done supported : ℕ) (bo
       subst (λ (t : Stage). IsOutside (firmware_led p w.state t (Do 0 next) (effect_of p w.state (Do 0 next))).cpus) (sym boots)
       (IsOutside-access p 0 w.state outside (is_in_smm (at w.state 0).mode) next (boot_calm p.tseg_mib supported done))
 
-  entry_then : entry_of w (event_of p w (actor.Cpu 0)) then_after ≡ record { event = Do 0 next; at = None; answer = then_after.answer }
+  entry_then : entry_of w (Do 0 next) then_after ≡ record { event = Do 0 next; at = None; answer = then_after.answer }
   entry_then =
-      ap (λ (e : Event). entry_of w e then_after) (event_boots p w done supported boots)
-      ∙ ap (λ (a : Option ℕ). record { event = Do 0 next; at = a; answer = then_after.answer }) (no_address (at w.state 0) outside)
+      ap (λ (a : Option ℕ). record { event = Do 0 next; at = a; answer = then_after.answer }) (no_address (at w.state 0) outside)
 
   stops_here : boot_refusal p.tseg_mib done value ≡ Some fact → StopsAt fact turn.entries
   stops_here e =
@@ -204,10 +202,10 @@ stops (suc n) p w fact done supported boots outside h =
         (step p w.state (Do 0 a) ≡ None) ⊎ (step p w.state (Do 0 a) ≡ Some (after p w.state (Do 0 a))) →
         Stops fact (both_make (act p w (actor.Cpu 0)) (act_all p (act p w (actor.Cpu 0)).scene more))
     by_step later (inl none) =
-        let made : act p w (actor.Cpu 0) ≡ makes_none w = act_boots p w done supported boots ∙ ap (made_by p w (actor.Cpu 0)) none in
+        let made : act p w (actor.Cpu 0) ≡ makes_none w = act_boots p w done supported boots ∙ ap (made_by w (Do 0 a) w.voices (λ answer. w.last)) none in
         subst (λ (m : Made). Stops fact (both_make m (act_all p m.scene more))) (sym made) (later w done supported boots outside)
     by_step later (inr some) =
-        let made : act p w (actor.Cpu 0) ≡ turn p w fact done supported boots outside = act_boots p w done supported boots ∙ ap (made_by p w (actor.Cpu 0)) some in
+        let made : act p w (actor.Cpu 0) ≡ turn p w fact done supported boots outside = act_boots p w done supported boots ∙ ap (made_by w (Do 0 a) w.voices (λ answer. w.last)) some in
         subst (λ (m : Made). Stops fact (both_make m (act_all p m.scene more))) (sym made)
         (stops_then p w fact done supported boots outside more
         (λ d u goes. later (turn p w fact done supported boots outside).scene d u goes (outside_then p w fact done supported boots outside)))

@@ -1,5 +1,6 @@
 -- Turns of the boot: what one makes, and how the boot stands after it.
 use Rattle.std.proofs.Common.{◌≡◌, ◌⊎◌, inl, inr, ℕ, Bool, true, false, ◌&&◌, List, [], ◌∷◌, Option, Some, None, refl, ap, ◌∙◌, if◌then◌else◌}
+use Rattle.std.specs.Prelude.{slice_set}
 use Rattle.hp_model.specs.declared.platforms.Platform.{Platform}
 use Rattle.hp_model.specs.declared.entries.Actor.{Actor}
 use Rattle.hp_model.specs.declared.entries.Actor.TheVariants.{Cpu}
@@ -7,8 +8,14 @@ use Rattle.hp_model.specs.declared.entries.Event.{Event}
 use Rattle.hp_model.specs.declared.entries.Event.TheVariants.{Do}
 use Rattle.hp_model.specs.declared.outcomes.BootFact.{BootFact}
 use Rattle.hp_model.specs.Boot.{Stage, Boots, Refused, Handed, boot_access, stage_after}
-use Rattle.hp_model.specs.Step.{State, After, is_enabled, is_wanted, wanted_in, answer_of, after, step}
-use Rattle.hp_model.specs.Schedule.{Scene, makes_none, made_by, own_event, event_of, stage_event, act, act_all}
+use Rattle.hp_model.specs.Step.{State, After, is_enabled, is_wanted, wanted_in, answer_of, after, normal, step}
+use Rattle.hp_model.specs.declared.accesses.Answer.{Answer}
+use Rattle.hp_model.specs.declared.turns.Due.{Due}
+use Rattle.hp_model.specs.declared.turns.Due.TheVariants.{Idle, Makes, Asks}
+use Rattle.hp_model.specs.Schedule.{Scene, makes_none, made_by, said_by, does, act, act_all}
+use Rattle.hp_model.specs.Turn.{due_in, due_of}
+use Rattle.hp_model.specs.Voices.{Voice}
+use Rattle.hp_model.proofs.Scheduled.{does_if}
 
 unwanted : (b c : Bool) (a : After) → c ≡ false → (if b && c then Some a else None) ≡ None
 unwanted true true a h = cc
@@ -23,7 +30,7 @@ refused_stays p s fact e at = unwanted (is_enabled p s e) (is_wanted p s e) (aft
 -- a refused boot makes nothing more
 act_refused : (p : Platform) (w : Scene) (fact : BootFact) (a : Actor) → w.state.stage ≡ Refused fact → act p w a ≡ makes_none w
 unfolding act
-act_refused p w fact a at = ap (made_by p w a) (refused_stays p w.state fact (event_of p w a) at)
+act_refused p w fact a at = ap (λ (t : Stage). does p w (due_in p w.state t a)) at
 
 pub all_refused : (p : Platform) (w : Scene) (fact : BootFact) (as' : List Actor) → w.state.stage ≡ Refused fact → act_all p w as' ≡ makes_none w
 unfolding act_all
@@ -42,14 +49,21 @@ step_either p s e = by_guard (is_enabled p s e && is_wanted p s e)
 -- what is handed over stays so
 act_handed : (p : Platform) (w : Scene) (requested : ℕ) (a : Actor) → w.state.stage ≡ Handed requested → (act p w a).scene.state.stage ≡ Handed requested
 unfolding act
-act_handed p w requested a at = by_step (step_either p w.state (event_of p w a))
+act_handed p w requested a at = by_due (due_of p w.state a)
   where
-    by_step : (step p w.state (event_of p w a) ≡ None) ⊎ (step p w.state (event_of p w a) ≡ Some (after p w.state (event_of p w a)))
-        → (made_by p w a (step p w.state (event_of p w a))).scene.state.stage ≡ Handed requested
-    by_step (inl none) = ap (λ (o : Option After). (made_by p w a o).scene.state.stage) none ∙ at
-    by_step (inr some) =
-        ap (λ (o : Option After). (made_by p w a o).scene.state.stage) some
-        ∙ ap (stage_after p.tseg_mib (answer_of w.state (event_of p w a))) at
+    by_event : (e : Event) (voices : List Voice) (last : Answer → List Answer) → (made_by w e voices last (step p w.state e)).scene.state.stage ≡ Handed requested
+    by_event e voices last = by_step (step_either p w.state e)
+      where
+        by_step : (step p w.state e ≡ None) ⊎ (step p w.state e ≡ Some (after p w.state e)) → (made_by w e voices last (step p w.state e)).scene.state.stage ≡ Handed requested
+        by_step (inl none) = ap (λ (o : Option After). (made_by w e voices last o).scene.state.stage) none ∙ at
+        by_step (inr some) =
+            ap (λ (o : Option After). (made_by w e voices last o).scene.state.stage) some
+            ∙ ap (stage_after p.tseg_mib (answer_of w.state e)) at
+
+    by_due : (d : Due) → (does p w d).scene.state.stage ≡ Handed requested
+    by_due Idle = at
+    by_due (Makes e) = by_event e w.voices (λ answer. w.last)
+    by_due (Asks k) = by_event (Do k (normal (said_by w k).access)) (slice_set w.voices k (said_by w k).voice) (slice_set w.last k)
 
 pub all_handed : (p : Platform) (w : Scene) (requested : ℕ) (as' : List Actor) → w.state.stage ≡ Handed requested → (act_all p w as').scene.state.stage ≡ Handed requested
 unfolding act_all
@@ -57,11 +71,8 @@ all_handed p w requested [] at = at
 all_handed p w requested (a ∷ as') at = all_handed p (act p w a).scene requested as' (act_handed p w requested a at)
 
 -- before both, a turn of processor 0 is the boot's next access
-pub event_boots : (p : Platform) (w : Scene) (done supported : ℕ) → w.state.stage ≡ Boots done supported →
-    event_of p w (Cpu 0) ≡ Do 0 (boot_access p.tseg_mib supported done)
-event_boots p w done supported at = ap (λ (t : Stage). stage_event p t 0 (own_event p w 0)) at
-
 pub act_boots : (p : Platform) (w : Scene) (done supported : ℕ) → w.state.stage ≡ Boots done supported →
-    act p w (Cpu 0) ≡ made_by p w (Cpu 0) (step p w.state (Do 0 (boot_access p.tseg_mib supported done)))
+    act p w (Cpu 0) ≡ made_by w (Do 0 (boot_access p.tseg_mib supported done)) w.voices (λ answer. w.last) (step p w.state (Do 0 (boot_access p.tseg_mib supported done)))
 unfolding act
-act_boots p w done supported at = ap (λ (e : Event). made_by p w (Cpu 0) (step p w.state e)) (event_boots p w done supported at)
+act_boots p w done supported at =
+    ap (λ (t : Stage). does p w (due_in p w.state t (Cpu 0))) at ∙ does_if p w (Do 0 (boot_access p.tseg_mib supported done))

@@ -1,5 +1,6 @@
 -- The entries that the schedule makes are a run.
-use Rattle.std.proofs.Common.{◌≡◌, ℕ, zero, suc, true, ◌+◌, List, [], ◌∷◌, ◌++◌, replicate, Option, Some, None, option_and_then, IsSome, refl, sym, ap, subst, ◌∙◌, arith}
+use Rattle.std.proofs.Common.{◌≡◌, ℕ, zero, suc, Bool, true, false, ◌&&◌, ◌+◌, List, [], ◌∷◌, ◌++◌, replicate, Option, Some, None, option_and_then, IsSome, refl, sym, ap, subst, ◌∙◌, arith, if◌then◌else◌}
+use Rattle.std.specs.Prelude.{slice_set}
 use Rattle.std.proofs.lemmas.Option.{same_Some}
 use Rattle.std.proofs.lemmas.Bool.Decides.{nat_tests}
 use Rattle.hp_model.specs.declared.platforms.Platform.{Platform}
@@ -8,11 +9,16 @@ use Rattle.hp_model.specs.declared.accesses.Answer.TheVariants.{Quiet, Value}
 use Rattle.hp_model.specs.declared.entries.Actor.{Actor}
 use Rattle.hp_model.specs.declared.entries.Actor.TheVariants as actor
 use Rattle.hp_model.specs.declared.entries.Event.{Event}
+use Rattle.hp_model.specs.declared.entries.Event.TheVariants as event
 use Rattle.hp_model.specs.declared.entries.Entry.{Entry}
 use Rattle.hp_model.specs.declared.files.File.{File}
-use Rattle.hp_model.specs.Step.{State, After, step}
+use Rattle.hp_model.specs.declared.turns.Due.{Due}
+use Rattle.hp_model.specs.declared.turns.Due.TheVariants.{Idle, Makes, Asks}
+use Rattle.hp_model.specs.Step.{State, After, after, is_enabled, is_wanted, normal, step}
+use Rattle.hp_model.specs.Turn.{due_of, makes_if}
+use Rattle.hp_model.specs.Voices.{Voice}
 use Rattle.hp_model.specs.Runs.{same_answer, same_address, address_of, accept, run_on, run_from, run}
-use Rattle.hp_model.specs.Schedule.{Scene, Made, makes_none, both_make, made_by, event_of, entry_of, act, act_all, actors_of, turns_from, boot_turns, booted, scheduled, scene_start}
+use Rattle.hp_model.specs.Schedule.{Scene, Made, makes_none, both_make, made_by, said_by, entry_of, does, act, act_all, actors_of, turns_from, boot_turns, booted, scheduled, scene_start}
 
 pub same_answer-refl : (a : Answer) → same_answer a a ≡ true
 same_answer-refl Quiet = refl
@@ -41,13 +47,33 @@ pub record IsRun (p : Platform) (w : Scene) (m : Made) : Type 0 where
 accept-own : (s : State) (a : After) (w : Scene) (e : Event) → accept (entry_of w e a) (address_of w.state e) a ≡ Some a.state
 accept-own s a w e = rw (same_answer-refl, same_address-refl) refl
 
-IsRun-act : (p : Platform) (w : Scene) (a : Actor) → IsRun p w (act p w a)
-unfolding act run_from run_on
-IsRun-act p w a = by_step (step p w.state (event_of p w a)) refl
+made_runs : (p : Platform) (w : Scene) (e : Event) (voices : List Voice) (last : Answer → List Answer) → IsRun p w (made_by w e voices last (step p w.state e))
+unfolding run_from run_on
+made_runs p w e voices last = by_step (step p w.state e) refl
   where
-    by_step : (n : Option After) → step p w.state (event_of p w a) ≡ n → IsRun p w (made_by p w a n)
-    by_step None e = record { runs = refl }
-    by_step (Some after) e = record { runs = rw (e, accept-own w.state after w (event_of p w a)) refl }
+    by_step : (n : Option After) → step p w.state e ≡ n → IsRun p w (made_by w e voices last n)
+    by_step None none = record { runs = refl }
+    by_step (Some after) some = record { runs = rw (some, accept-own w.state after w e) refl }
+
+IsRun-does : (p : Platform) (w : Scene) (d : Due) → IsRun p w (does p w d)
+unfolding run_from
+IsRun-does p w Idle = record { runs = refl }
+IsRun-does p w (Makes e) = made_runs p w e w.voices (λ answer. w.last)
+IsRun-does p w (Asks k) = made_runs p w (event.Do k (normal (said_by w k).access)) (slice_set w.voices k (said_by w k).voice) (slice_set w.last k)
+
+IsRun-act : (p : Platform) (w : Scene) (a : Actor) → IsRun p w (act p w a)
+unfolding act
+IsRun-act p w a = IsRun-does p w (due_of p w.state a)
+
+-- an event that is made where it may be is made where it is a step: one that isn't enabled is none
+pub does_if : (p : Platform) (w : Scene) (e : Event) → does p w (makes_if p w.state e) ≡ made_by w e w.voices (λ answer. w.last) (step p w.state e)
+unfolding step
+does_if p w e = by (is_enabled p w.state e) refl
+  where
+    by : (b : Bool) → is_enabled p w.state e ≡ b →
+        does p w (if b then Makes e else Idle) ≡ made_by w e w.voices (λ answer. w.last) (if b && is_wanted p w.state e then Some (after p w.state e) else None)
+    by true enabled = rw (enabled) refl
+    by false disabled = refl
 
 IsRun-both : (p : Platform) (w : Scene) (m n : Made) → IsRun p w m → IsRun p m.scene n → IsRun p w (both_make m n)
 IsRun-both p w m n first second = record { runs = run_from-append p m.entries n.entries w.state m.scene.state first.runs ∙ second.runs }

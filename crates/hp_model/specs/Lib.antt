@@ -23,6 +23,7 @@ pub mod Handlers
 pub mod Voices
 pub mod Step
 pub mod Runs
+pub mod Turn
 pub mod Events
 pub mod Transitions
 pub mod Account
@@ -32,5 +33,7 @@ pub mod Outcomes
 pub mod Exact
 pub mod Safety
 pub mod Schedule
+pub mod Following
+pub mod Hosting
 pub mod Text
 pub mod Visible

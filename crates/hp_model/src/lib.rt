@@ -13,6 +13,7 @@ mod platforms;
 mod processors;
 mod rules;
 mod spans;
+mod turns;
 
 pub use accesses::{Access, Answer, Steps, Want};
 pub use entries::{Actor, Entry, Event};
@@ -26,3 +27,4 @@ pub use platforms::{Delivery, Ids, Platform};
 pub use processors::{Cpu, Ipi, Kind, Mode, Target};
 pub use rules::{Rule, fits};
 pub use spans::Span;
+pub use turns::Due;

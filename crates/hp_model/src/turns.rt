@@ -1,10 +1,10 @@
 //! What an actor's turn comes to.
 
-use hp_model::Event;
+use crate::entries::Event;
 
-/// What the machine and its firmware have for an actor now.
+/// What the machine and its firmware have for an actor now: decided once, for the schedule, for a world's turns and for what is read back.
 #[derive(Clone, Copy)]
-pub(crate) enum Due {
+pub enum Due {
     /// No step.
     Idle,
     /// This step, which no voice has a say in.

@@ -11,8 +11,8 @@ use Rattle.hp_model.specs.Boot.{Stage, Boots, Refused, Handed, boot_access}
 use Rattle.hp_model.specs.Cpu.{is_free, may_take_smi, may_take_init}
 use Rattle.hp_model.specs.Platform.{is_late}
 use Rattle.hp_model.specs.Step.{State, at, is_enabled, stands_in_smm, wanted}
-use Rattle.hp_platform.specs.declared.dues.Due.{Due}
-use Rattle.hp_platform.specs.declared.dues.Due.TheVariants.{Idle, Makes, Asks}
+use Rattle.hp_model.specs.declared.turns.Due.{Due}
+use Rattle.hp_model.specs.declared.turns.Due.TheVariants.{Idle, Makes, Asks}
 
 abbrev pub makes_if : Platform → State → Event → Due
 makes_if p s e = if is_enabled p s e then Makes e else Idle
