@@ -7,7 +7,8 @@ use Rattle.hp_model.specs.declared.accesses.Access.{Access}
 use Rattle.hp_model.specs.declared.accesses.Access.TheVariants.{Halt}
 use Rattle.hp_agent.specs.declared.kinds.Voice.{Voice}
 use Rattle.hp_agent.specs.Kinds.{place_tells, all_tell}
-use Rattle.hp_agent.specs.Speaking.{Speaks, told_at}
+use Rattle.hp_model.specs.Following.{told_at}
+use Rattle.hp_agent.specs.Speaking.{Speaks}
 use Rattle.hp_agent.proofs.Said.{silent_halts}
 
 module _ {A : Type 0} (handed : A → Option model.Voice) where

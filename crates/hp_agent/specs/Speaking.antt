@@ -1,8 +1,8 @@
 -- Speaking: how an agent's answer goes with the voice that it tells of itself.
-use Rattle.std.specs.Prelude.{⊤, ◌≡◌, ℕ, List, Option, Some, None, get_or}
+use Rattle.std.specs.Prelude.{⊤, ◌≡◌, ℕ, Option, Some, None}
 use Rattle.hp_model.specs.declared.accesses.Access.{Access}
 use Rattle.hp_model.specs.declared.accesses.Answer.{Answer}
-use Rattle.hp_model.specs.Voices.{Voice, Question, says, silent}
+use Rattle.hp_model.specs.Voices.{Voice, Question, says}
 
 -- what an agent is asked
 abbrev pub asked : ℕ → ℕ → Answer → Question
@@ -12,7 +12,3 @@ asked cpu page last = record { cpu = cpu; page = page; last = last }
 abbrev pub Speaks : Option Voice → Option Voice → Question → Access → Type 0
 Speaks None new q access = ⊤
 Speaks (Some v) new q access = (access ≡ (says v q).access) × (new ≡ Some (says v q).voice)
-
--- what the place of a processor tells; past the last place as where there is no agent
-abbrev pub told_at : List (Option Voice) → ℕ → Option Voice
-told_at places cpu = get_or places cpu (Some silent)

@@ -3,7 +3,8 @@
 ghost use Rattle.std.specs.Prelude.{◌≡◌, Some, slice_set};
 ghost use Rattle.hp_model.specs.Voices.{silent};
 ghost use Rattle.hp_agent.specs.Kinds.{place_tells, all_tell};
-ghost use Rattle.hp_agent.specs.Speaking.{Speaks, asked, told_at};
+ghost use Rattle.hp_model.specs.Following.{told_at};
+ghost use Rattle.hp_agent.specs.Speaking.{Speaks, asked};
 
 use crate::asking::Agent;
 use crate::kinds::Voice;

@@ -21,11 +21,11 @@ use Rattle.hp_model.specs.Platform.{is_late}
 use Rattle.hp_model.specs.Runs.{IsStepBy, actor_of}
 use Rattle.hp_model.specs.Step.{State, after, at, is_boots, is_enabled, is_halt, is_handlers, is_memory_width, is_normal, is_port_width, is_that_access, is_wanted, may_access, normal, same_access, stands_in_smm, step, wanted, wanted_in, is_that_outcome, is_rsm}
 use Rattle.hp_model.proofs.Same.{same_access-equal, same_access-refl, same_outcome-refl}
-use Rattle.hp_platform.specs.declared.dues.Due.{Due}
-use Rattle.hp_platform.specs.declared.dues.Due.TheVariants.{Idle, Makes, Asks}
+use Rattle.hp_model.specs.declared.turns.Due.{Due}
+use Rattle.hp_model.specs.declared.turns.Due.TheVariants.{Idle, Makes, Asks}
 use Rattle.hp_platform.specs.Board.{is_step}
-use Rattle.hp_platform.specs.Due.{makes_if, boot_due, smm_due, cpu_due, handed_due, due_in, due_of}
-use Rattle.hp_platform.specs.World.{HasNone, asks}
+use Rattle.hp_model.specs.Turn.{makes_if, boot_due, smm_due, cpu_due, handed_due, due_in, due_of}
+use Rattle.hp_platform.specs.World.{HasNone}
 use Rattle.hp_platform.proofs.Leading.{left, right, that_access, that_outcome, that_rsm}
 
 -- which event, which processor
@@ -42,7 +42,6 @@ asked_in j (Asks k) = k
 pub record IsMakes (p : Platform) (s : State) (a : Actor) (e : Event) : Type 0 where
   pub step : is_step p s e ≡ true
   pub actor : IsStepBy (is_late p.delivery) a e
-  pub unasked : asks (is_late p.delivery) s a ≡ false
 
 -- what holds of who an event belongs to, and of an SMI whose taking it is, holds of each actor whose step it is
 pub by_actor : (late : Bool) (P : Actor → Type 0) (a : Actor) (x : Event) → IsStepBy late a x → P (actor_of late x) → ((k : ℕ) → x ≡ event.TakeSmi k → P (actor.Smi k)) → P a
@@ -66,45 +65,13 @@ pub prompt_of : (late b : Bool) → (not late && b) ≡ true → late ≡ false
 prompt_of true b e = cc
 prompt_of false b e = refl
 
-latched_smi : (late smi init : Bool) → not late ≡ true → smi ≡ true → ((late && smi) || (not smi && not init)) ≡ false
-latched_smi true smi init e f = cc
-latched_smi false true init e f = refl
-latched_smi false false init e f = cc
-
-latched_init : (late smi init : Bool) → not smi ≡ true → init ≡ true → ((late && smi) || (not smi && not init)) ≡ false
-latched_init late true init e f = cc
-latched_init true false true e f = refl
-latched_init false false true e f = refl
-latched_init late false false e f = cc
-
-pub smi_not_free : (late : Bool) (c : Cpu) → (not late && may_take_smi c) ≡ true → is_free late c ≡ false
-smi_not_free late c e =
-    let taken = right c.present (c.smi && is_outside c.mode) (right (not late) (may_take_smi c) e) in
-    let latched : is_unlatched late c ≡ false = latched_smi late c.smi c.init (left (not late) (may_take_smi c) e) (left c.smi (is_outside c.mode) taken) in
-    rw (latched, and_off, and_off) refl
-
-pub init_not_free : (late : Bool) (c : Cpu) → may_take_init c ≡ true → is_free late c ≡ false
-init_not_free late c e =
-    let taken = right c.present (not c.smi && (c.init && is_outside c.mode)) e in
-    let latched : is_unlatched late c ≡ false = latched_init late c.smi c.init (left (not c.smi) (c.init && is_outside c.mode) taken) (left c.init (is_outside c.mode) (right (not c.smi) (c.init && is_outside c.mode) taken)) in
-    rw (latched, and_off, and_off) refl
-
-smm_not_running : (m : Mode) → is_in_smm m ≡ true → is_running m ≡ false
-smm_not_running Wait e = cc
-smm_not_running (Running page) e = cc
-smm_not_running (Halted page) e = cc
-smm_not_running (Smm address) e = refl
-
-smm_not_free : (late : Bool) (c : Cpu) → stands_in_smm c ≡ true → is_free late c ≡ false
-smm_not_free late c e = let stopped : is_running c.mode ≡ false = smm_not_running c.mode (right c.present (is_in_smm c.mode) e) in rw (stopped, and_off) refl
-
 running_not_smm : (m : Mode) → is_running m ≡ true → is_in_smm m ≡ false
 running_not_smm Wait e = cc
 running_not_smm (Running page) e = refl
 running_not_smm (Halted page) e = cc
 running_not_smm (Smm address) e = cc
 
-pub free_not_smm : (late : Bool) (c : Cpu) → is_free late c ≡ true → is_in_smm c.mode ≡ false
+free_not_smm : (late : Bool) (c : Cpu) → is_free late c ≡ true → is_in_smm c.mode ≡ false
 free_not_smm late c e = running_not_smm c.mode (left (is_running c.mode) (is_unlatched late c) (right c.present (is_running c.mode && is_unlatched late c) e))
 
 -- an event that is made if it can be
@@ -134,7 +101,6 @@ module _ (p : Platform) (s : State) where
             subst (λ (x : Event). IsMakes p s (actor.Cpu k) x) made.1 (record {
               step = both (is_enabled p s (event.Do 0 next)) (is_wanted p s (event.Do 0 next)) made.0 (wants_boots (event.Do 0 next) ∙ same_access-refl next);
               actor = inl (ap (λ (j : ℕ). actor.Cpu j) (sym (eqb-true k 0 is)));
-              unasked = ap (λ (st : Stage). is_handed st && is_free late (at s k)) stage;
             })
 
     boot_some : (a : Actor) (x : Event) → IsStepBy late a x → is_step p s x ≡ true → boot_due p s done supported a ≢ Idle
@@ -168,28 +134,25 @@ module _ (p : Platform) (s : State) where
     is_made : (x : Event) → is_enabled p s x ≡ true → is_handlers p s x ≡ true → is_step p s x ≡ true
     is_made x can wants = both (is_enabled p s x) (is_wanted p s x) can (wants_handed x ∙ wants)
 
-    not_asked : (k : ℕ) → is_free late (at s k) ≡ false → asks late s (actor.Cpu k) ≡ false
-    not_asked k e = rw (e, and_off) refl
-
-    makes : (k : ℕ) (x e : Event) → is_free late (at s k) ≡ false → actor_of late x ≡ actor.Cpu k → is_handlers p s x ≡ true → makes_if p s x ≡ Makes e → IsMakes p s (actor.Cpu k) e
-    makes k x e busy its wants due =
+    makes : (k : ℕ) (x e : Event) → actor_of late x ≡ actor.Cpu k → is_handlers p s x ≡ true → makes_if p s x ≡ Makes e → IsMakes p s (actor.Cpu k) e
+    makes k x e its wants due =
         let made = opened (is_enabled p s x) x e due in
-        subst (λ (y : Event). IsMakes p s (actor.Cpu k) y) made.1 (record { step = is_made x made.0 wants; actor = inl its; unasked = not_asked k busy })
+        subst (λ (y : Event). IsMakes p s (actor.Cpu k) y) made.1 (record { step = is_made x made.0 wants; actor = inl its })
 
-    smm_makes : (k : ℕ) (e : Event) → stands_in_smm (at s k) ≡ true → (o : Option Want) → wanted p s k ≡ o → smm_due p s k o ≡ Makes e → IsMakes p s (actor.Cpu k) e
-    smm_makes k e here None is due = cc
-    smm_makes k e here (Some (want.Do a)) is due =
-        makes k (event.Do k a) e (smm_not_free late (at s k) here) refl
+    smm_makes : (k : ℕ) (e : Event) → (o : Option Want) → wanted p s k ≡ o → smm_due p s k o ≡ Makes e → IsMakes p s (actor.Cpu k) e
+    smm_makes k e None is due = cc
+    smm_makes k e (Some (want.Do a)) is due =
+        makes k (event.Do k a) e refl
         (ap (λ (b : Bool). not (is_in_smm (at s k).mode) || b) (ap (λ (o : Option Want). is_that_access o a) is ∙ same_access-refl a) ∙ or_on (not (is_in_smm (at s k).mode))) due
-    smm_makes k e here (Some (want.Tell o)) is due = first (k == 0) refl due
+    smm_makes k e (Some (want.Tell o)) is due = first (k == 0) refl due
       where
         first : (b : Bool) → (k == 0) ≡ b → (if b then makes_if p s (event.Tell o) else Idle) ≡ Makes e → IsMakes p s (actor.Cpu k) e
         first false at0 due = cc
         first true at0 due =
             let zero_is : k ≡ 0 = eqb-true k 0 at0 in
-            makes k (event.Tell o) e (smm_not_free late (at s k) here) (ap (λ (j : ℕ). actor.Cpu j) (sym zero_is))
+            makes k (event.Tell o) e (ap (λ (j : ℕ). actor.Cpu j) (sym zero_is))
             (ap (λ (w : Option Want). is_that_outcome w o) (ap (λ (j : ℕ). wanted p s j) (sym zero_is) ∙ is) ∙ same_outcome-refl o) due
-    smm_makes k e here (Some want.Resume) is due = makes k (event.Resume k) e (smm_not_free late (at s k) here) refl (ap is_rsm is) due
+    smm_makes k e (Some want.Resume) is due = makes k (event.Resume k) e refl (ap is_rsm is) due
 
     cpu_makes : (k : ℕ) (e : Event) → cpu_due p s k ≡ Makes e → IsMakes p s (actor.Cpu k) e
     cpu_makes k e due = smi (not late && may_take_smi (at s k)) refl due
@@ -199,14 +162,14 @@ module _ (p : Platform) (s : State) where
         free false due = cc
 
         smm : (b : Bool) → stands_in_smm (at s k) ≡ b → (if b then smm_due p s k (wanted p s k) else if is_free late (at s k) then Asks k else Idle) ≡ Makes e → IsMakes p s (actor.Cpu k) e
-        smm true is due = smm_makes k e is (wanted p s k) refl due
+        smm true is due = smm_makes k e (wanted p s k) refl due
         smm false is due = free (is_free late (at s k)) due
 
         init : (b : Bool) → may_take_init (at s k) ≡ b
             → (if b then Makes (event.TakeInit k) else if stands_in_smm (at s k) then smm_due p s k (wanted p s k) else if is_free late (at s k) then Asks k else Idle) ≡ Makes e → IsMakes p s (actor.Cpu k) e
         init true is due =
             subst (λ (x : Event). IsMakes p s (actor.Cpu k) x) (ap (made_in (event.TakeInit k)) due)
-            (record { step = is_made (event.TakeInit k) is refl; actor = inl refl; unasked = not_asked k (init_not_free late (at s k) is) })
+            (record { step = is_made (event.TakeInit k) is refl; actor = inl refl })
         init false is due = smm (stands_in_smm (at s k)) refl due
 
         smi : (b : Bool) → (not late && may_take_smi (at s k)) ≡ b
@@ -217,21 +180,20 @@ module _ (p : Platform) (s : State) where
             (record {
               step = is_made (event.TakeSmi k) (right (not late) (may_take_smi (at s k)) is) refl;
               actor = inl (ap (λ (b : Bool). if b then actor.Smi k else actor.Cpu k) (prompt_of late (may_take_smi (at s k)) is));
-              unasked = not_asked k (smi_not_free late (at s k) is);
             })
         smi false is due = init (may_take_init (at s k)) refl due
 
     handed_makes : (a : Actor) (e : Event) → handed_due p s a ≡ Makes e → IsMakes p s a e
     handed_makes (actor.Insert k) e due =
         let made = opened (is_enabled p s (event.Insert k)) (event.Insert k) e due in
-        subst (λ (x : Event). IsMakes p s (actor.Insert k) x) made.1 (record { step = is_made (event.Insert k) made.0 refl; actor = inl refl; unasked = refl })
+        subst (λ (x : Event). IsMakes p s (actor.Insert k) x) made.1 (record { step = is_made (event.Insert k) made.0 refl; actor = inl refl })
     handed_makes (actor.Remove k) e due =
         let made = opened (is_enabled p s (event.Remove k)) (event.Remove k) e due in
-        subst (λ (x : Event). IsMakes p s (actor.Remove k) x) made.1 (record { step = is_made (event.Remove k) made.0 refl; actor = inl refl; unasked = refl })
+        subst (λ (x : Event). IsMakes p s (actor.Remove k) x) made.1 (record { step = is_made (event.Remove k) made.0 refl; actor = inl refl })
     handed_makes (actor.Cpu k) e due = cpu_makes k e due
     handed_makes (actor.Smi k) e due =
         let made = opened (is_enabled p s (event.TakeSmi k)) (event.TakeSmi k) e due in
-        subst (λ (x : Event). IsMakes p s (actor.Smi k) x) made.1 (record { step = is_made (event.TakeSmi k) made.0 refl; actor = inr (k, refl, refl); unasked = refl })
+        subst (λ (x : Event). IsMakes p s (actor.Smi k) x) made.1 (record { step = is_made (event.TakeSmi k) made.0 refl; actor = inr (k, refl, refl) })
 
     -- an event of a processor that is a step makes its turn due
     past_smi : (k : ℕ) (x : Event) (b : Bool) (d : Due) → d ≢ Idle → (if b then Makes x else d) ≢ Idle
@@ -296,7 +258,7 @@ module _ (p : Platform) (s : State) where
         by_actor late (λ (b : Actor). handed_due p s b ≢ Idle) a x its (cpu_some x can wants)
         (λ k taken. made_due (event.TakeSmi k) (subst (λ (y : Event). is_enabled p s y ≡ true) taken can))
 
--- what is due is a step of the actor, and its voice isn't asked
+-- what is due is a step of the actor
 pub makes_is : (p : Platform) (s : State) (a : Actor) (e : Event) → due_of p s a ≡ Makes e → IsMakes p s a e
 makes_is p s a e due = by s.stage refl due
   where
@@ -337,7 +299,6 @@ idle_none p s a idle = record { none = λ x its. unmade p s x (not_true (is_step
 -- a voice is asked, and any access that it says is a step, as the machine takes it
 pub record IsAsks (p : Platform) (s : State) (a : Actor) (k : ℕ) : Type 0 where
   pub actor : a ≡ actor.Cpu k
-  pub asked : asks (is_late p.delivery) s a ≡ true
   pub step : (x : Access) → is_step p s (event.Do k (normal x)) ≡ true
 
 -- accesses as the machine takes them are normal
@@ -380,7 +341,6 @@ module _ (p : Platform) (s : State) where
   free_asks : (requested : ℕ) → s.stage ≡ Handed requested → (k : ℕ) → is_free (is_late p.delivery) (at s k) ≡ true → IsAsks p s (actor.Cpu k) k
   free_asks requested stage k free = record {
     actor = refl;
-    asked = both (is_handed s.stage) (is_free (is_late p.delivery) (at s k)) (ap is_handed stage) free;
     step = λ x.
         is_made p s requested stage (event.Do k (normal x)) (both (is_normal (normal x)) (may_access (is_late p.delivery) (at s k) (normal x)) (normal_is x) (ap (λ (b : Bool). b || (stands_in_smm (at s k) && not (is_halt (normal x)))) free))
         (ap (λ (b : Bool). not b || is_that_access (wanted p s k) (normal x)) (free_not_smm (is_late p.delivery) (at s k) free));

@@ -12,19 +12,23 @@ use Rattle.hp_model.specs.declared.entries.Actor.TheVariants as actor
 use Rattle.hp_model.specs.declared.entries.Event.{Event}
 use Rattle.hp_model.specs.declared.entries.Event.TheVariants as event
 use Rattle.hp_model.specs.declared.entries.Entry.{Entry}
+use Rattle.hp_model.specs.declared.turns.Due.{Due}
+use Rattle.hp_model.specs.declared.turns.Due.TheVariants as due
 use Rattle.hp_model.specs.Block.{Block, ejected_by}
 use Rattle.hp_model.specs.Boot.{is_handed}
 use Rattle.hp_model.specs.Cpu.{page_of}
+use Rattle.hp_model.specs.Following.{told_at, without_agent}
 use Rattle.hp_model.specs.Platform.{IsFit, count_of, is_late}
 use Rattle.hp_model.specs.Runs.{IsStepBy, actor_of, accept, address_of, run, run_from, run_on}
 use Rattle.hp_model.specs.Step.{State, after, answer_of, at, normal, start, step}
+use Rattle.hp_model.specs.Turn.{due_of}
 use Rattle.hp_model.specs.Voices.{Voice}
 use Rattle.hp_model.proofs.Scheduled.{run_from-append, same_address-refl, same_answer-refl}
-use Rattle.hp_agent.specs.Speaking.{Speaks, asked, told_at}
+use Rattle.hp_agent.specs.Speaking.{Speaks, asked}
 use Rattle.hp_platform.specs.Board.{Board, IsReady, Shows, is_step}
-use Rattle.hp_platform.specs.World.{HasNone, IsIdle, IsKept, IsMade, IsNoted, IsSaid, IsStepOf, Says, WasIdle, World, asks, asked_place, counted, counted_at, idle_place, idle_place_of, idle_places, noted, noted_at, one_more, without_agent}
+use Rattle.hp_platform.specs.World.{HasNone, IsIdle, IsKept, IsMade, IsNoted, IsSaid, IsStepOf, Says, WasIdle, World, asked_place, counted, counted_at, idle_place, idle_place_of, idle_places, noted, noted_at, one_more}
 use Rattle.hp_platform.proofs.Leading.{left, right}
-use Rattle.hp_platform.proofs.Stepping.{IsAsks, IsMakes}
+use Rattle.hp_platform.proofs.Stepping.{asks_is, makes_is}
 
 -- what making a step says
 pub record HasMade (b c : Board) (x : Event) (e : Entry) : Type 0 where
@@ -232,33 +236,33 @@ module _ (old new : World) (b c : Board) (asks0 : List ℕ) (notes : List (Optio
     (entries : new.entries ≡ old.entries ++ e ∷ []) (counts : new.asked ≡ counted (count_of old.platform) a old.asked) (idle : new.idle ≡ old.idle) where
   -- the step of the entry
   module _ (s : State) (shows : Shows b s) (its : is_step b.platform s x ≡ true) (own : IsStepBy (is_late b.platform.delivery) a x) where
-    stepped : Says (asks (is_late b.platform.delivery) s a) old new s a e (ejected_by s.block (after b.platform s x).state.block) → IsStepOf old new s a e
+    stepped : Says (due_of b.platform s a) old new s e (ejected_by s.block (after b.platform s x).state.block) → IsStepOf old new s a e
     stepped says = record {
       actor = subst (λ (p : Platform). IsStepBy (is_late p.delivery) a e.event) (sym platform) (subst (λ (y : Event). IsStepBy (is_late b.platform.delivery) a y) (sym made.event) own);
       step = subst (λ (p : Platform). step p s e.event ≡ Some (after p s e.event)) (sym platform)
           (subst (λ (y : Event). step b.platform s y ≡ Some (after b.platform s y)) (sym made.event) (due_step b.platform s x its));
       answer = made.answer s shows ∙ ap (answer_of s) (sym made.event);
       address = made.address s shows ∙ ap (address_of s) (sym made.event);
-      says = subst (λ (p : Platform). Says (asks (is_late p.delivery) s a) old new s a e (ejected_by s.block (after p s e.event).state.block)) (sym platform)
-          (subst (λ (y : Event). Says (asks (is_late b.platform.delivery) s a) old new s a e (ejected_by s.block (after b.platform s y).state.block)) (sym made.event) says);
+      says = subst (λ (p : Platform). Says (due_of p s a) old new s e (ejected_by s.block (after p s e.event).state.block)) (sym platform)
+          (subst (λ (y : Event). Says (due_of b.platform s a) old new s e (ejected_by s.block (after b.platform s y).state.block)) (sym made.event) says);
     }
 
   shown_by : (s : State) → run old.platform old.entries ≡ Some s → Shows b s
   shown_by s is = shown b old.entries asks0 notes kept s (subst (λ (p : Platform). run p old.entries ≡ Some s) platform is)
 
   -- nobody was asked
-  pub makes_turn : ((s : State) → Shows b s → IsMakes b.platform s a x) → new.voices ≡ without_agent c.machine.ejected old.voices → new.last ≡ old.last → IsMade old new a e
+  pub makes_turn : ((s : State) → Shows b s → due_of b.platform s a ≡ due.Makes x) → new.voices ≡ without_agent c.machine.ejected old.voices → new.last ≡ old.last → IsMade old new a e
   makes_turn makes voices last = record { entries = entries; is = λ s so. by s (shown_by s so); asked = counts; idle = idle }
     where
       by : (s : State) → Shows b s → IsStepOf old new s a e
       by s shows =
-          let m = makes s shows in
+          let m = makes_is b.platform s a x (makes s shows) in
           stepped s shows m.step m.actor
-          (subst (λ (q : Bool). Says q old new s a e (ejected_by s.block (after b.platform s x).state.block)) (sym m.unasked)
-          (record { voices = voices ∙ ap (λ (o : Option ℕ). without_agent o old.voices) (ejected-is b c x e made s shows); last = last }))
+          (subst (λ (d : Due). Says d old new s e (ejected_by s.block (after b.platform s x).state.block)) (sym (makes s shows))
+          (made.event, record { voices = voices ∙ ap (λ (o : Option ℕ). without_agent o old.voices) (ejected-is b c x e made s shows); last = last }))
 
   -- the agent of processor k was asked
-  pub asks_turn : (k page : ℕ) (access : Access) (left : Option Voice) → ((s : State) → Shows b s → IsAsks b.platform s a k) → ((s : State) → Shows b s → page ≡ page_of (at s k).mode)
+  pub asks_turn : (k page : ℕ) (access : Access) (left : Option Voice) → ((s : State) → Shows b s → due_of b.platform s a ≡ due.Asks k) → ((s : State) → Shows b s → page ≡ page_of (at s k).mode)
       → Speaks (told_at old.voices k) left (asked k page (slice_index_or old.last k Quiet)) access → x ≡ event.Do k (normal access)
       → new.voices ≡ without_agent c.machine.ejected (slice_set old.voices k left) → new.last ≡ slice_set old.last k e.answer → IsMade old new a e
   asks_turn k page access left its on speaks event voices last = record { entries = entries; is = λ s so. by s (shown_by s so); asked = counts; idle = idle }
@@ -275,10 +279,9 @@ module _ (old new : World) (b c : Board) (asks0 : List ℕ) (notes : List (Optio
 
       by : (s : State) → Shows b s → IsStepOf old new s a e
       by s shows =
-          let m = its s shows in
+          let m = asks_is b.platform s a k (its s shows) in
           stepped s shows (subst (λ (y : Event). is_step b.platform s y ≡ true) (sym event) (m.step access)) (inl (ap (actor_of (is_late b.platform.delivery)) event ∙ sym m.actor))
-          (subst (λ (q : Bool). Says q old new s a e (ejected_by s.block (after b.platform s x).state.block)) (sym m.asked)
-          (subst (λ (i : Actor). Says true old new s i e (ejected_by s.block (after b.platform s x).state.block)) (sym m.actor) (said s shows)))
+          (subst (λ (d : Due). Says d old new s e (ejected_by s.block (after b.platform s x).state.block)) (sym (its s shows)) (said s shows))
 
 -- a turn without a step
 pub idle_turn : (old new : World) (b : Board) (asks0 : List ℕ) (notes : List (Option ℕ)) (handed : Bool) (a : Actor) → IsKept b old.entries asks0 notes → old.platform ≡ b.platform → ((s : State) → Shows b s → HasNone b.platform s a)

@@ -1,23 +1,25 @@
 -- What contracts see of a world, and what a turn makes of it.
-use Rattle.std.specs.Prelude.{◌≡◌, ◌≤◌, ℕ, Bool, true, false, ◌&&◌, nat_lt, ◌+◌, ◌-◌, ◌^◌, min, List, [], ◌∷◌, ◌++◌, length, map, take, Option, Some, None, IsSome, slice_index_or, slice_set, if◌then◌else◌}
+use Rattle.std.specs.Prelude.{⊥, ◌≡◌, ◌≤◌, ℕ, Bool, true, false, ◌&&◌, nat_lt, ◌+◌, ◌-◌, ◌^◌, min, List, [], ◌∷◌, ◌++◌, length, map, take, Option, Some, None, IsSome, slice_index_or, slice_set, if◌then◌else◌}
 use Rattle.hp_model.specs.declared.platforms.Platform.{Platform}
 use Rattle.hp_model.specs.declared.accesses.Access.{Access}
 use Rattle.hp_model.specs.declared.accesses.Answer.{Answer}
-use Rattle.hp_model.specs.declared.accesses.Answer.TheVariants.{Quiet}
 use Rattle.hp_model.specs.declared.entries.Actor.{Actor}
 use Rattle.hp_model.specs.declared.entries.Actor.TheVariants as actor
 use Rattle.hp_model.specs.declared.entries.Event.{Event}
 use Rattle.hp_model.specs.declared.entries.Event.TheVariants as event
 use Rattle.hp_model.specs.declared.entries.Entry.{Entry}
+use Rattle.hp_model.specs.declared.turns.Due.{Due}
+use Rattle.hp_model.specs.declared.turns.Due.TheVariants as due
 use Rattle.hp_model.specs.Block.{ejected_by}
 use Rattle.hp_model.specs.Boot.{is_handed}
-use Rattle.hp_model.specs.Cpu.{is_free, page_of}
+use Rattle.hp_model.specs.Following.{told_at, without_agent}
 use Rattle.hp_model.specs.Platform.{IsFit, count_of, is_late}
 use Rattle.hp_model.specs.Runs.{IsStepBy, address_of, run}
-use Rattle.hp_model.specs.Schedule.{Scene, Made as Scheduled}
-use Rattle.hp_model.specs.Step.{State, after, answer_of, at, normal, step}
-use Rattle.hp_model.specs.Voices.{Voice, silent}
-use Rattle.hp_agent.specs.Speaking.{Speaks, asked, told_at}
+use Rattle.hp_model.specs.Schedule.{Scene, question_in, Made as Scheduled}
+use Rattle.hp_model.specs.Step.{State, after, answer_of, normal, step}
+use Rattle.hp_model.specs.Turn.{due_of}
+use Rattle.hp_model.specs.Voices.{Voice}
+use Rattle.hp_agent.specs.Speaking.{Speaks}
 use Rattle.hp_platform.specs.declared.worlds.Turn.{Turn}
 use Rattle.hp_platform.specs.declared.worlds.Turn.TheVariants.{Made, Idle}
 use Rattle.hp_platform.specs.Board.{Board, Shows}
@@ -70,23 +72,11 @@ turns_at (Some place) ns = slice_index_or ns place 0
 abbrev pub turns_of : ℕ → Actor → List ℕ → ℕ
 turns_of count a ns = turns_at (asked_place count a) ns
 
--- whether the actor's turn asks its voice: after the hand-over, of a processor that runs, where nothing goes before
-abbrev pub asks : Bool → State → Actor → Bool
-asks late s (actor.Insert k) = false
-asks late s (actor.Remove k) = false
-asks late s (actor.Cpu k) = is_handed s.stage && is_free late (at s k)
-asks late s (actor.Smi k) = false
-
--- an ejected processor has no agent
-abbrev pub without_agent : Option ℕ → List (Option Voice) → List (Option Voice)
-without_agent None vs = vs
-without_agent (Some k) vs = slice_set vs k (Some silent)
-
 -- the agent of processor k said this access, which the machine takes as a normal one, and tells what is left of its voice
 pub record IsSaid (old new : World) (s : State) (k : ℕ) (e : Entry) (ejected : Option ℕ) : Type 0 where
   pub access : Access
   pub left : Option Voice
-  pub speaks : Speaks (told_at old.voices k) left (asked k (page_of (at s k).mode) (slice_index_or old.last k Quiet)) access
+  pub speaks : Speaks (told_at old.voices k) left (question_in s k old.last) access
   pub event : e.event ≡ event.Do k (normal access)
   pub voices : new.voices ≡ without_agent ejected (slice_set old.voices k left)
   pub last : new.last ≡ slice_set old.last k e.answer
@@ -96,12 +86,11 @@ pub record IsUnasked (old new : World) (ejected : Option ℕ) : Type 0 where
   pub voices : new.voices ≡ without_agent ejected old.voices
   pub last : new.last ≡ old.last
 
-abbrev pub Says : Bool → World → World → State → Actor → Entry → Option ℕ → Type 0
-Says false old new s a e ejected = IsUnasked old new ejected
-Says true old new s (actor.Insert k) e ejected = IsUnasked old new ejected
-Says true old new s (actor.Remove k) e ejected = IsUnasked old new ejected
-Says true old new s (actor.Cpu k) e ejected = IsSaid old new s k e ejected
-Says true old new s (actor.Smi k) e ejected = IsUnasked old new ejected
+-- what was due is what was made
+abbrev pub Says : Due → World → World → State → Entry → Option ℕ → Type 0
+Says due.Idle old new s e ejected = ⊥
+Says (due.Makes x) old new s e ejected = (e.event ≡ x) × IsUnasked old new ejected
+Says (due.Asks k) old new s e ejected = IsSaid old new s k e ejected
 
 -- the entry is a step of this actor in the state s, with that step's answer and address, and what it left of the agents
 pub record IsStepOf (old new : World) (s : State) (a : Actor) (e : Entry) : Type 0 where
@@ -109,7 +98,7 @@ pub record IsStepOf (old new : World) (s : State) (a : Actor) (e : Entry) : Type
   pub step : step old.platform s e.event ≡ Some (after old.platform s e.event)
   pub answer : e.answer ≡ answer_of s e.event
   pub address : e.at ≡ address_of s e.event
-  pub says : Says (asks (is_late old.platform.delivery) s a) old new s a e (ejected_by s.block (after old.platform s e.event).state.block)
+  pub says : Says (due_of old.platform s a) old new s e (ejected_by s.block (after old.platform s e.event).state.block)
 
 -- a turn that made this entry
 pub record IsMade (old new : World) (a : Actor) (e : Entry) : Type 0 where

@@ -11,14 +11,13 @@ ghost use Rattle.hp_model.specs.Step.{State, after as step_after, answer_of, at,
 ghost use Rattle.hp_machine.specs.Machine.{FitsEvent, IsState, IsStep};
 ghost use Rattle.hp_reloc.specs.Relocating.{greatest};
 ghost use Rattle.hp_platform.specs.Board.{IsReady, IsStand, Shows, goes_on, row_event, told};
-ghost use Rattle.hp_platform.specs.Due.{due_of, boot_due as due_in_boot, cpu_due as due_of_cpu, handed_due as due_after_boot, makes_if, smm_due};
+ghost use Rattle.hp_model.specs.Turn.{due_of, boot_due as due_in_boot, cpu_due as due_of_cpu, handed_due as due_after_boot, makes_if, smm_due};
 
-use crate::dues::Due;
 use hp_boot::{Boot, BootStage};
 use hp_image::image;
 use hp_machine::Machine;
 use hp_model::{
-    Access, Actor, Answer, BootFact, Cpu, Delivery, Event, Mode, NoMemory, Platform, Want,
+    Access, Actor, Answer, BootFact, Cpu, Delivery, Due, Event, Mode, NoMemory, Platform, Want,
 };
 use hp_smm::{Handlers, Stand};
 use std::alloc::Global;

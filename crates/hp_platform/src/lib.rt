@@ -2,7 +2,6 @@
 #![tactic(auto)]
 
 mod boards;
-mod dues;
 mod laws;
 mod normal;
 mod worlds;

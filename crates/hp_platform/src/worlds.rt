@@ -4,18 +4,18 @@ ghost use Rattle.std.specs.Prelude.{◌≡◌, ◌≤◌, ◌<◌, ◌+◌, ◌-
 ghost use Rattle.hp_model.specs.declared.accesses.Answer.TheVariants.{Quiet};
 ghost use Rattle.hp_model.specs.Block.{ejected_by};
 ghost use Rattle.hp_model.specs.Boot.{fact_of, is_handed};
+ghost use Rattle.hp_model.specs.Following.{without_agent};
 ghost use Rattle.hp_model.specs.Platform.{IsFit, count_of, is_late as comes_late};
 ghost use Rattle.hp_model.specs.Runs.{address_of, run};
 ghost use Rattle.hp_model.specs.Safety.{IsGuarded};
 ghost use Rattle.hp_model.specs.Step.{State, after as step_after, answer_of, normal as normal_of};
 ghost use Rattle.hp_platform.specs.Board.{IsReady, Shows};
-ghost use Rattle.hp_platform.specs.World.{IsSound, IsTurned, asked_place, counted, counted_at, idle_place_of, idle_places, noted, turns_at, turns_of, without_agent};
+ghost use Rattle.hp_platform.specs.World.{IsSound, IsTurned, asked_place, counted, counted_at, idle_place_of, idle_places, noted, turns_at, turns_of};
 
 use crate::boards::{Board, is_late};
-use crate::dues::Due;
 use crate::normal::normal;
 use hp_agent::{Agent, Agents};
-use hp_model::{Actor, Answer, BootFact, Entry, Event, NoMemory, Platform};
+use hp_model::{Actor, Answer, BootFact, Due, Entry, Event, NoMemory, Platform};
 use std::alloc::Global;
 use std::marker::Model;
 

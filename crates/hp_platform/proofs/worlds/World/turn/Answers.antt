@@ -11,9 +11,10 @@ use Rattle.hp_model.specs.declared.entries.Entry.{Entry}
 use Rattle.hp_model.specs.declared.entries.Event.{Event}
 use Rattle.hp_model.specs.declared.entries.Event.TheVariants as event
 use Rattle.hp_model.specs.Step.{State, normal}
-use Rattle.hp_agent.specs.Speaking.{Speaks, asked, told_at}
+use Rattle.hp_model.specs.Following.{told_at, without_agent}
+use Rattle.hp_agent.specs.Speaking.{Speaks, asked}
 use Rattle.hp_platform.specs.Board.{IsReady, Shows, is_step}
-use Rattle.hp_platform.specs.World.{IsIdle, IsKept, IsMade, World, counted, idle_place_of, noted, without_agent}
+use Rattle.hp_platform.specs.World.{IsIdle, IsKept, IsMade, World, counted, idle_place_of, noted}
 use Rattle.hp_platform.proofs.Stepping.{IsAsks, IsMakes, asks_is, idle_none, makes_is}
 use Rattle.hp_platform.proofs.Turning.{HasMade, asks_turn, idle_turn, kept_idle, kept_made, kept_same, kept_turn, makes_turn, ready_of}
 use Rattle.hp_platform.proofs.worlds.World.turn.Goals as goal
@@ -86,7 +87,6 @@ pub returns-in-Makes-clause-turned : goal.returns-in-Makes-clause-turned
 returns-in-Makes-clause-turned g c =
     let b = c.reserve-2.new.self in
     let kept = kept_same c.self.inside.board b c.self.inside.entries.items c.self.inside.asked.items c.self.inside.idle.items c.self.invariant c.in_ok-reserve-2.ensures.platform c.in_ok-reserve-2.ensures.unchanged in
-    let its : (s : State) → Shows b s → IsMakes b.platform s c.args.a c.in-Makes.event = λ s shows. makes_is b.platform s c.args.a c.in-Makes.event (sym (c.in-Makes.ensures s shows)) in
     let made : HasMade b c.make-entry.new.board c.in-Makes.event c.make-entry.result =
     record { platform = c.make-entry.ensures.platform; event = c.make-entry.ensures.event; address = c.make-entry.ensures.address; answer = c.make-entry.ensures.answer; state = c.make-entry.ensures.state; ejected = c.make-entry.ensures.ejected } in
     let old : World = record { platform = c.self.inside.board.platform; entries = c.self.inside.entries.items; voices = c.self.inside.agents; last = c.self.inside.last.items; asked = c.self.inside.asked.items; idle = c.self.inside.idle.items } in
@@ -94,14 +94,13 @@ returns-in-Makes-clause-turned g c =
     subst (λ (w : World). IsMade w new c.args.a c.make-entry.result) c.self.view_is
     (makes_turn old new b c.make-entry.new.board c.self.inside.asked.items c.self.inside.idle.items c.args.a c.in-Makes.event c.make-entry.result kept (sym c.in_ok-reserve-2.ensures.platform) made
     (c.make-entry.ensures.entries ∙ ap (λ (es : List Entry). es ++ c.make-entry.result ∷ []) c.in_ok-reserve.ensures.items)
-    (c.count_turn.ensures ∙ ap (λ (n : ℕ). counted n c.args.a c.self.inside.asked.items) (c.possible-count.ensures.value ∙ ap count_of (c.platform.ensures ∙ c.in_ok-reserve-2.ensures.platform))) refl its
+    (c.count_turn.ensures ∙ ap (λ (n : ℕ). counted n c.args.a c.self.inside.asked.items) (c.possible-count.ensures.value ∙ ap count_of (c.platform.ensures ∙ c.in_ok-reserve-2.ensures.platform))) refl (λ s shows. sym (c.in-Makes.ensures s shows))
     (c.drop_ejected.ensures ∙ ap (λ (o : Option ℕ). without_agent o c.self.inside.agents) c.ejected.ensures) refl)
 
 pub returns-in-Asks-clause-turned : goal.returns-in-Asks-clause-turned
 returns-in-Asks-clause-turned g c =
     let b = c.reserve-2.new.self in
     let kept = kept_same c.self.inside.board b c.self.inside.entries.items c.self.inside.asked.items c.self.inside.idle.items c.self.invariant c.in_ok-reserve-2.ensures.platform c.in_ok-reserve-2.ensures.unchanged in
-    let its : (s : State) → Shows b s → IsAsks b.platform s c.args.a c.in-Asks.k = λ s shows. asks_is b.platform s c.args.a c.in-Asks.k (sym (c.in-Asks.ensures s shows)) in
     let x : Event = event.Do c.in-Asks.k c.normal.result in
     let made : HasMade b c.make-entry-in-Asks.new.board x c.make-entry-in-Asks.result =
     record { platform = c.make-entry-in-Asks.ensures.platform; event = c.make-entry-in-Asks.ensures.event; address = c.make-entry-in-Asks.ensures.address; answer = c.make-entry-in-Asks.ensures.answer; state = c.make-entry-in-Asks.ensures.state; ejected = c.make-entry-in-Asks.ensures.ejected } in
@@ -111,7 +110,7 @@ returns-in-Asks-clause-turned g c =
     (asks_turn old new b c.make-entry-in-Asks.new.board c.self.inside.asked.items c.self.inside.idle.items c.args.a x c.make-entry-in-Asks.result kept (sym c.in_ok-reserve-2.ensures.platform) made
     (c.make-entry-in-Asks.ensures.entries ∙ ap (λ (es : List Entry). es ++ c.make-entry-in-Asks.result ∷ []) c.in_ok-reserve.ensures.items)
     (c.count_turn.ensures ∙ ap (λ (n : ℕ). counted n c.args.a c.self.inside.asked.items) (c.possible-count.ensures.value ∙ ap count_of (c.platform.ensures ∙ c.in_ok-reserve-2.ensures.platform))) refl
-    c.in-Asks.k c.page-page.result c.next-access.result (told_at c.next-access.new.self c.in-Asks.k) its c.page-page.ensures
+    c.in-Asks.k c.page-page.result c.next-access.result (told_at c.next-access.new.self c.in-Asks.k) (λ s shows. sym (c.in-Asks.ensures s shows)) c.page-page.ensures
     (subst (λ (v : Answer). Speaks (told_at c.self.inside.agents c.in-Asks.k) (told_at c.next-access.new.self c.in-Asks.k) (asked c.in-Asks.k c.page-page.result v) c.next-access.result) (c.answer_at.ensures ∙ ap (λ (vs : List Answer). slice_index_or vs c.in-Asks.k Quiet) c.as_slice.ensures.value) c.next-access.ensures.says)
     (ap (λ (y : Access). event.Do c.in-Asks.k y) c.normal.ensures)
     (c.drop_ejected-in-Asks.ensures ∙ ap (λ (o : Option ℕ). without_agent o c.next-access.new.self) c.ejected-in-Asks.ensures ∙ ap (without_agent c.make-entry-in-Asks.new.board.machine.ejected) c.next-access.ensures.others)
