@@ -16,8 +16,8 @@ use crate::statuses::Status;
 use hp_agent::Script;
 use hp_boot::{boot_ends, boot_stops_at_its_fact};
 use hp_config::{ConfigFault, read, read_files_are_sound};
+use hp_exact::runs_are_safe;
 use hp_model::{File, schedule_is_a_run};
-use hp_safety::runs_are_guarded;
 use std::alloc::Global;
 
 fn is_run(word: &str) -> bool
@@ -60,7 +60,7 @@ fn run_bytes<K: Sink>(alloc: Global, bytes: &[u8], out: &mut K) -> Status
     ensures calm { result ≢ Status.WriteFault → K.faults out.new ≡ K.faults out.old }
 {
     schedule_is_a_run();
-    runs_are_guarded();
+    runs_are_safe();
     read_files_are_sound();
     boot_stops_at_its_fact();
     match read(alloc, bytes) {
