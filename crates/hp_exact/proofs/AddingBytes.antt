@@ -90,58 +90,34 @@ Bytes p k s x (Some want.Resume) = Unit {0}
 
 row_bytes : (p : Platform) (k : ℕ) (s : State) (q : Seat) (r : Monarch) (x : ℕ) (l : Label) → Sound p → IsShared p x → Bytes p k s x (want_at (layout_of p) q r l)
 row_bytes p k s q r x F1 sound here = pick (Keeps x s.writes) (loaded s.locks true (byte_at s.writes) gate 8 == q.apic) _ _ (elsewhere s.locks gate 8 (closed) x s.writes (low_misses (tseg p) gate 8 x sound.above (omega arith) (inl (omega arith)) here)) (inl refl)
-row_bytes p k s q r x F2 sound here = inl refl
 row_bytes p k s q r x F3 sound here = elsewhere s.locks default_smbase_field 4 (q.base) x s.writes (low_misses (tseg p) default_smbase_field 4 x sound.above (omega arith) (inr (omega arith)) here)
 row_bytes p k s q r x F4 sound here = bit_stored s.locks flag x 1 s.writes (inr refl)
-row_bytes p k s q r x F5 sound here = inl refl
 row_bytes p k s q r x F6 sound here = tt
 row_bytes p k s q r x R1 sound here = bit_stored s.locks (arrived_byte (layout_of p) q.slot) x 1 s.writes (inr refl)
-row_bytes p k s q r x R2 sound here = inl refl
-row_bytes p k s q r x R3 sound here = inl refl
 row_bytes p k s q r x R4 sound here = bit_stored s.locks (arrived_byte (layout_of p) q.slot) x 0 s.writes (inl refl)
 row_bytes p k s q r x R5 sound here = tt
 row_bytes p k s q r x R6 sound here = bit_stored s.locks (parked_byte (layout_of p) q.slot) x 1 s.writes (inr refl)
 row_bytes p k s q r x S0 sound here = bit_stored s.locks (session_byte (layout_of p)) x 1 s.writes (inr refl)
 row_bytes p k s q r x S1 sound here = bit_stored s.locks (release_byte (layout_of p) r.slot) x 0 s.writes (inl refl)
-row_bytes p k s q r x S2 sound here = inl refl
-row_bytes p k s q r x S3 sound here = inl refl
-row_bytes p k s q r x S4 sound here = inl refl
-row_bytes p k s q r x C1 sound here = inl refl
-row_bytes p k s q r x C2 sound here = inl refl
-row_bytes p k s q r x C3 sound here = inl refl
-row_bytes p k s q r x C4 sound here = inl refl
-row_bytes p k s q r x C5 sound here = inl refl
-row_bytes p k s q r x C6 sound here = inl refl
 row_bytes p k s q r x NB sound here = bit_stored s.locks (release_byte (layout_of p) r.add.slot) x 0 s.writes (inl refl)
 row_bytes p k s q r x N0 sound here = bit_stored s.locks (arrived_byte (layout_of p) r.add.slot) x 0 s.writes (inl refl)
 row_bytes p k s q r x N1 sound here = bit_stored s.locks flag x 0 s.writes (inl refl)
 row_bytes p k s q r x N2 sound here = elsewhere s.locks new_smbase 4 (tile_in (layout_of p) r.add.slot) x s.writes (low_misses (tseg p) new_smbase 4 x sound.above (omega arith) (inl (omega arith)) here)
-row_bytes p k s q r x N3 sound here = inl refl
-row_bytes p k s q r x N4 sound here = inl refl
-row_bytes p k s q r x N5 sound here = inl refl
-row_bytes p k s q r x N6 sound here = inl refl
 row_bytes p k s q r x N7 sound here = elsewhere s.locks gate 8 (r.add.apic) x s.writes (low_misses (tseg p) gate 8 x sound.above (omega arith) (inl (omega arith)) here)
-row_bytes p k s q r x N8a sound here = inl refl
-row_bytes p k s q r x N8b sound here = inl refl
 row_bytes p k s q r x N9 sound here = elsewhere s.locks gate 8 (closed) x s.writes (low_misses (tseg p) gate 8 x sound.above (omega arith) (inl (omega arith)) here)
 row_bytes p k s q r x N10 sound here = bit_stored s.locks (arrived_byte (layout_of p) r.add.slot) x 0 s.writes (inl refl)
-row_bytes p k s q r x N11 sound here = inl refl
 row_bytes p k s q r x E0 sound here = bit_stored s.locks (parked_byte (layout_of p) r.eject.slot) x 0 s.writes (inl refl)
 row_bytes p k s q r x E1 sound here = bit_stored s.locks (map_byte (layout_of p) r.eject.slot) x 1 s.writes (inr refl)
-row_bytes p k s q r x E2 sound here = inl refl
 row_bytes p k s q r x E3 sound here = bit_stored s.locks (map_byte (layout_of p) r.eject.slot) x 0 s.writes (inl refl)
-row_bytes p k s q r x E4a sound here = inl refl
-row_bytes p k s q r x E4b sound here = inl refl
 row_bytes p k s q r x E4c sound here = bit_stored s.locks (arrived_byte (layout_of p) r.eject.slot) x 0 s.writes (inl refl)
 row_bytes p k s q r x E4d sound here = bit_stored s.locks (map_byte (layout_of p) r.eject.slot) x 0 s.writes (inl refl)
 row_bytes p k s q r x E4e sound here = bit_stored s.locks (parked_byte (layout_of p) r.eject.slot) x 0 s.writes (inl refl)
-row_bytes p k s q r x E4f sound here = inl refl
-row_bytes p k s q r x E4g sound here = inl refl
 row_bytes p k s q r x E4h sound here = bit_stored s.locks (map_byte (layout_of p) r.eject.slot) x 0 s.writes (inl refl)
 row_bytes p k s q r x T sound here = tt
 row_bytes p k s q r x E5 sound here = bit_stored s.locks (session_byte (layout_of p)) x 0 s.writes (inl refl)
 row_bytes p k s q r x E6 sound here = bit_stored s.locks (release_byte (layout_of p) r.slot) x 1 s.writes (inr refl)
 row_bytes p k s q r x E7 sound here = tt
+row_bytes p k s q r x _ sound here = inl refl
 
 -- a row of anybody's
 pub bits_row : (p : Platform) (s : State) (k : ℕ) (q : Seat) (l : Label) (a : Access) (x : ℕ) → Sound p → want_at (layout_of p) q s.monarch l ≡ Some (want.Do a) → IsShared p x → Keeps x s.writes (access_effect p k true a s).writes

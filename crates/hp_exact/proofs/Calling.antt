@@ -59,44 +59,9 @@ after_row y q r R6 v mine is n = absurd cc
 after_row y q r S0 v mine is n = pick (λ (t : Monarch). is_after_broadcast t.label ≡ true → is_after_broadcast S0 ≡ true) (nat_lt 1 (length r.slots.bound)) (record r { label = S1; slot = 1 }) (at_label S2 r) (λ e. absurd cc) (λ e. absurd cc)
 after_row y q r S1 v mine is n = pick (λ (t : Monarch). is_after_broadcast t.label ≡ true → is_after_broadcast S1 ≡ true) (nat_lt (r.slot + 1) (length r.slots.bound)) (record r { label = S1; slot = r.slot + 1 }) (at_label S2 r) (λ e. absurd cc) (λ e. absurd cc)
 after_row y q r S2 v mine is n = absurd (n refl)
-after_row y q r S3 v mine is n = λ e. refl
-after_row y q r S4 v mine is n = λ e. refl
-after_row y q r C1 v mine is n = λ e. refl
-after_row y q r C2 v mine is n = λ e. refl
-after_row y q r C3 v mine is n = λ e. refl
-after_row y q r C4 v mine is n = λ e. refl
-after_row y q r C5 v mine is n = λ e. refl
-after_row y q r C6 v mine is n = λ e. refl
-after_row y q r NB v mine is n = λ e. refl
-after_row y q r N0 v mine is n = λ e. refl
-after_row y q r N1 v mine is n = λ e. refl
-after_row y q r N2 v mine is n = λ e. refl
-after_row y q r N3 v mine is n = λ e. refl
-after_row y q r N4 v mine is n = λ e. refl
-after_row y q r N5 v mine is n = λ e. refl
-after_row y q r N6 v mine is n = λ e. refl
-after_row y q r N7 v mine is n = λ e. refl
-after_row y q r N8a v mine is n = λ e. refl
-after_row y q r N8b v mine is n = λ e. refl
-after_row y q r N9 v mine is n = λ e. refl
-after_row y q r N10 v mine is n = λ e. refl
-after_row y q r N11 v mine is n = λ e. refl
-after_row y q r E0 v mine is n = λ e. refl
-after_row y q r E1 v mine is n = λ e. refl
-after_row y q r E2 v mine is n = λ e. refl
-after_row y q r E3 v mine is n = λ e. refl
-after_row y q r E4a v mine is n = λ e. refl
-after_row y q r E4b v mine is n = λ e. refl
-after_row y q r E4c v mine is n = λ e. refl
-after_row y q r E4d v mine is n = λ e. refl
-after_row y q r E4e v mine is n = λ e. refl
-after_row y q r E4f v mine is n = λ e. refl
-after_row y q r E4g v mine is n = λ e. refl
-after_row y q r E4h v mine is n = λ e. refl
-after_row y q r T v mine is n = λ e. refl
-after_row y q r E5 v mine is n = λ e. refl
 after_row y q r E6 v mine is n = pick (λ (t : Monarch). is_after_broadcast t.label ≡ true → is_after_broadcast E6 ≡ true) (nat_lt (r.slot + 1) (length r.slots.bound)) (record r { label = E6; slot = r.slot + 1 }) (at_label E7 r) (λ e. absurd cc) (λ e. absurd cc)
 after_row y q r E7 v mine is n = λ e. subst (λ m. is_after_broadcast m ≡ true) is e
+after_row y q r _ v mine is n = λ e. refl
 
 -- processor 0 has nothing to fear: nobody waits for it
 latches_first : (p : Platform) (called : Bool) (c : Cpu) → Sound p → c.smbase ≡ tile p 0 → Latches called 0 c
@@ -340,47 +305,7 @@ onward p s called k R3 mine h = pick_by (Needs called k (at s k).smbase (at s k)
 onward p s called k R4 mine h = other_needs called k (at s k).smbase (at s k) R5 (h.other refl) (λ c e. h.latched refl c)
 onward p s called k R5 mine h = tt
 onward p s called k R6 mine h = other_needs called k (at s k).smbase (at s k) R2 (h.other refl) (λ c e. absurd cc)
-onward p s called k S0 mine h = absurd (mine refl)
-onward p s called k S1 mine h = absurd (mine refl)
-onward p s called k S2 mine h = absurd (mine refl)
-onward p s called k S3 mine h = absurd (mine refl)
-onward p s called k S4 mine h = absurd (mine refl)
-onward p s called k C1 mine h = absurd (mine refl)
-onward p s called k C2 mine h = absurd (mine refl)
-onward p s called k C3 mine h = absurd (mine refl)
-onward p s called k C4 mine h = absurd (mine refl)
-onward p s called k C5 mine h = absurd (mine refl)
-onward p s called k C6 mine h = absurd (mine refl)
-onward p s called k NB mine h = absurd (mine refl)
-onward p s called k N0 mine h = absurd (mine refl)
-onward p s called k N1 mine h = absurd (mine refl)
-onward p s called k N2 mine h = absurd (mine refl)
-onward p s called k N3 mine h = absurd (mine refl)
-onward p s called k N4 mine h = absurd (mine refl)
-onward p s called k N5 mine h = absurd (mine refl)
-onward p s called k N6 mine h = absurd (mine refl)
-onward p s called k N7 mine h = absurd (mine refl)
-onward p s called k N8a mine h = absurd (mine refl)
-onward p s called k N8b mine h = absurd (mine refl)
-onward p s called k N9 mine h = absurd (mine refl)
-onward p s called k N10 mine h = absurd (mine refl)
-onward p s called k N11 mine h = absurd (mine refl)
-onward p s called k E0 mine h = absurd (mine refl)
-onward p s called k E1 mine h = absurd (mine refl)
-onward p s called k E2 mine h = absurd (mine refl)
-onward p s called k E3 mine h = absurd (mine refl)
-onward p s called k E4a mine h = absurd (mine refl)
-onward p s called k E4b mine h = absurd (mine refl)
-onward p s called k E4c mine h = absurd (mine refl)
-onward p s called k E4d mine h = absurd (mine refl)
-onward p s called k E4e mine h = absurd (mine refl)
-onward p s called k E4f mine h = absurd (mine refl)
-onward p s called k E4g mine h = absurd (mine refl)
-onward p s called k E4h mine h = absurd (mine refl)
-onward p s called k T mine h = absurd (mine refl)
-onward p s called k E5 mine h = absurd (mine refl)
-onward p s called k E6 mine h = absurd (mine refl)
-onward p s called k E7 mine h = absurd (mine refl)
+onward p s called k _ mine h = absurd (mine refl)
 
 -- which handler runs tells the SMBASE
 at_default : (p : Platform) (k b : ℕ) → runs_at (layout_of p) First k b ≡ true → (b == 0x30000) ≡ true
@@ -427,59 +352,10 @@ reads_none p s slot is = pick (λ v. (v == 1) ≡ false) (is_hole s.locks true (
 
 -- other handlers neither start processors nor eject them
 pub aside : (l : Label) → part_of l ≢ Monarchs → is_among l (N5 ∷ N6 ∷ E4b ∷ []) ≡ false
-aside F1 other = refl
-aside F2 other = refl
-aside F3 other = refl
-aside F4 other = refl
-aside F5 other = refl
-aside F6 other = refl
-aside R1 other = refl
-aside R2 other = refl
-aside R3 other = refl
-aside R4 other = refl
-aside R5 other = refl
-aside R6 other = refl
-aside S0 other = refl
-aside S1 other = refl
-aside S2 other = refl
-aside S3 other = refl
-aside S4 other = refl
-aside C1 other = refl
-aside C2 other = refl
-aside C3 other = refl
-aside C4 other = refl
-aside C5 other = refl
-aside C6 other = refl
-aside NB other = refl
-aside N0 other = refl
-aside N1 other = refl
-aside N2 other = refl
-aside N3 other = refl
-aside N4 other = refl
 aside N5 other = absurd (other refl)
 aside N6 other = absurd (other refl)
-aside N7 other = refl
-aside N8a other = refl
-aside N8b other = refl
-aside N9 other = refl
-aside N10 other = refl
-aside N11 other = refl
-aside E0 other = refl
-aside E1 other = refl
-aside E2 other = refl
-aside E3 other = refl
-aside E4a other = refl
 aside E4b other = absurd (other refl)
-aside E4c other = refl
-aside E4d other = refl
-aside E4e other = refl
-aside E4f other = refl
-aside E4g other = refl
-aside E4h other = refl
-aside T other = refl
-aside E5 other = refl
-aside E6 other = refl
-aside E7 other = refl
+aside _ other = refl
 
 -- another handler's row
 pub latched_other : (p : Platform) (s : State) (k : ℕ) (l : Label) (a : Access) → Sound p → Ids p → IsStood p s → AtOther p s k l → want_at (layout_of p) (seat p s k) s.monarch l ≡ Some (want.Do a)

@@ -82,59 +82,13 @@ IsBit p ws slot = byte_at ws (parked_byte (layout_of p) slot) ≤ 1
 
 -- by the label at which the monarch stands
 abbrev pub SaidAt : Platform → List Entry → Bool → List Write → Monarch → Label → Type 0
-SaidAt p own d ws r F1 = Unit {0}
-SaidAt p own d ws r F2 = Unit {0}
-SaidAt p own d ws r F3 = Unit {0}
-SaidAt p own d ws r F4 = Unit {0}
-SaidAt p own d ws r F5 = Unit {0}
-SaidAt p own d ws r F6 = Unit {0}
-SaidAt p own d ws r R1 = Unit {0}
-SaidAt p own d ws r R2 = Unit {0}
-SaidAt p own d ws r R3 = Unit {0}
-SaidAt p own d ws r R4 = Unit {0}
-SaidAt p own d ws r R5 = Unit {0}
-SaidAt p own d ws r R6 = Unit {0}
-SaidAt p own d ws r S0 = Unit {0}
-SaidAt p own d ws r S1 = Unit {0}
-SaidAt p own d ws r S2 = Unit {0}
-SaidAt p own d ws r S3 = Unit {0}
-SaidAt p own d ws r S4 = Unit {0}
-SaidAt p own d ws r C1 = Unit {0}
-SaidAt p own d ws r C2 = Unit {0}
-SaidAt p own d ws r C3 = Unit {0}
-SaidAt p own d ws r C4 = Unit {0}
-SaidAt p own d ws r C5 = Unit {0}
-SaidAt p own d ws r C6 = Unit {0}
-SaidAt p own d ws r NB = Unit {0}
-SaidAt p own d ws r N0 = Unit {0}
-SaidAt p own d ws r N1 = Unit {0}
-SaidAt p own d ws r N2 = Unit {0}
-SaidAt p own d ws r N3 = Unit {0}
-SaidAt p own d ws r N4 = Unit {0}
-SaidAt p own d ws r N5 = Unit {0}
-SaidAt p own d ws r N6 = Unit {0}
-SaidAt p own d ws r N7 = Unit {0}
-SaidAt p own d ws r N8a = Unit {0}
-SaidAt p own d ws r N8b = Unit {0}
-SaidAt p own d ws r N9 = Unit {0}
-SaidAt p own d ws r N10 = Unit {0}
-SaidAt p own d ws r N11 = Unit {0}
 SaidAt p own d ws r E0 = values_at p E2 own ≡ []
 SaidAt p own d ws r E1 = (values_at p E2 own ≡ []) × IsBit p ws r.eject.slot
 SaidAt p own d ws r E2 = Looked p own r.eject.polls × IsBit p ws r.eject.slot
 SaidAt p own d ws r E3 = values_at p E2 own ≡ replicate p.polls 0
-SaidAt p own d ws r E4a = Unit {0}
-SaidAt p own d ws r E4b = Unit {0}
-SaidAt p own d ws r E4c = Unit {0}
-SaidAt p own d ws r E4d = Unit {0}
-SaidAt p own d ws r E4e = Unit {0}
-SaidAt p own d ws r E4f = Unit {0}
-SaidAt p own d ws r E4g = Unit {0}
 SaidAt p own d ws r E4h = is_still_pending p r.eject.status own ≡ true
 SaidAt p own d ws r T = (shows_reads p own r.outcome ≡ true) × (d ≡ false → may_tell r.outcome ≡ true)
-SaidAt p own d ws r E5 = Unit {0}
-SaidAt p own d ws r E6 = Unit {0}
-SaidAt p own d ws r E7 = Unit {0}
+SaidAt p own d ws r _ = Unit {0}
 
 -- the report of a told outcome is a processor's own, where the session is undisturbed
 abbrev pub Owns : Platform → Bool → Monarch → Type 0

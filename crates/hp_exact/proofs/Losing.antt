@@ -97,43 +97,6 @@ module _ (p : Platform) (own : List Transition) (b : Block) (cs : List Cpu) wher
       losses_plain t (part t.label alone).0 (part t.label alone).1 (part t.label alone).2 (part t.label alone).3 (λ e. none) on.told
     where
       part : (l : Label) → is_among l ejecting ≡ false → (is_among l pending ≡ false) × (is_among l handed ≡ false) × (is_among l (E4g ∷ []) ≡ false) × (is_among l (E4h ∷ []) ≡ false)
-      part F1 e = (refl, refl, refl, refl)
-      part F2 e = (refl, refl, refl, refl)
-      part F3 e = (refl, refl, refl, refl)
-      part F4 e = (refl, refl, refl, refl)
-      part F5 e = (refl, refl, refl, refl)
-      part F6 e = (refl, refl, refl, refl)
-      part R1 e = (refl, refl, refl, refl)
-      part R2 e = (refl, refl, refl, refl)
-      part R3 e = (refl, refl, refl, refl)
-      part R4 e = (refl, refl, refl, refl)
-      part R5 e = (refl, refl, refl, refl)
-      part R6 e = (refl, refl, refl, refl)
-      part S0 e = (refl, refl, refl, refl)
-      part S1 e = (refl, refl, refl, refl)
-      part S2 e = (refl, refl, refl, refl)
-      part S3 e = (refl, refl, refl, refl)
-      part S4 e = (refl, refl, refl, refl)
-      part C1 e = (refl, refl, refl, refl)
-      part C2 e = (refl, refl, refl, refl)
-      part C3 e = (refl, refl, refl, refl)
-      part C4 e = (refl, refl, refl, refl)
-      part C5 e = (refl, refl, refl, refl)
-      part C6 e = (refl, refl, refl, refl)
-      part NB e = (refl, refl, refl, refl)
-      part N0 e = (refl, refl, refl, refl)
-      part N1 e = (refl, refl, refl, refl)
-      part N2 e = (refl, refl, refl, refl)
-      part N3 e = (refl, refl, refl, refl)
-      part N4 e = (refl, refl, refl, refl)
-      part N5 e = (refl, refl, refl, refl)
-      part N6 e = (refl, refl, refl, refl)
-      part N7 e = (refl, refl, refl, refl)
-      part N8a e = (refl, refl, refl, refl)
-      part N8b e = (refl, refl, refl, refl)
-      part N9 e = (refl, refl, refl, refl)
-      part N10 e = (refl, refl, refl, refl)
-      part N11 e = (refl, refl, refl, refl)
       part E0 e = absurd cc
       part E1 e = absurd cc
       part E2 e = absurd cc
@@ -146,10 +109,7 @@ module _ (p : Platform) (own : List Transition) (b : Block) (cs : List Cpu) wher
       part E4f e = absurd cc
       part E4g e = absurd cc
       part E4h e = absurd cc
-      part T e = (refl, refl, refl, refl)
-      part E5 e = (refl, refl, refl, refl)
-      part E6 e = (refl, refl, refl, refl)
-      part E7 e = (refl, refl, refl, refl)
+      part _ e = (refl, refl, refl, refl)
 
 told_same : (o : Outcome) (r : Monarch) → ((told o r).collection ≡ r.collection) × ((told o r).taken ≡ r.taken)
 told_same (Added cpu apic slot) r = (refl, refl)

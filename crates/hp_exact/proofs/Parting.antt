@@ -65,47 +65,9 @@ Gone p own d r (Refused why) = Unit {0}
 
 -- by the label at which the monarch stands
 abbrev pub PartsAt : Platform → List Transition → Bool → List Cpu → List Write → Monarch → Label → Type 0
-PartsAt p own d cs ws r F1 = Unit {0}
-PartsAt p own d cs ws r F2 = Unit {0}
-PartsAt p own d cs ws r F3 = Unit {0}
-PartsAt p own d cs ws r F4 = Unit {0}
-PartsAt p own d cs ws r F5 = Unit {0}
-PartsAt p own d cs ws r F6 = Unit {0}
-PartsAt p own d cs ws r R1 = Unit {0}
-PartsAt p own d cs ws r R2 = Unit {0}
-PartsAt p own d cs ws r R3 = Unit {0}
-PartsAt p own d cs ws r R4 = Unit {0}
-PartsAt p own d cs ws r R5 = Unit {0}
-PartsAt p own d cs ws r R6 = Unit {0}
-PartsAt p own d cs ws r S0 = Unit {0}
-PartsAt p own d cs ws r S1 = Unit {0}
-PartsAt p own d cs ws r S2 = Unit {0}
-PartsAt p own d cs ws r S3 = Unit {0}
-PartsAt p own d cs ws r S4 = Unit {0}
-PartsAt p own d cs ws r C1 = Unit {0}
-PartsAt p own d cs ws r C2 = Unit {0}
-PartsAt p own d cs ws r C3 = Unit {0}
-PartsAt p own d cs ws r C4 = Unit {0}
-PartsAt p own d cs ws r C5 = Unit {0}
-PartsAt p own d cs ws r C6 = Unit {0}
-PartsAt p own d cs ws r NB = Unit {0}
-PartsAt p own d cs ws r N0 = Unit {0}
-PartsAt p own d cs ws r N1 = Unit {0}
-PartsAt p own d cs ws r N2 = Unit {0}
-PartsAt p own d cs ws r N3 = Unit {0}
-PartsAt p own d cs ws r N4 = Unit {0}
-PartsAt p own d cs ws r N5 = Unit {0}
-PartsAt p own d cs ws r N6 = Unit {0}
-PartsAt p own d cs ws r N7 = Unit {0}
-PartsAt p own d cs ws r N8a = Unit {0}
-PartsAt p own d cs ws r N8b = Unit {0}
-PartsAt p own d cs ws r N9 = Unit {0}
-PartsAt p own d cs ws r N10 = Unit {0}
-PartsAt p own d cs ws r N11 = Unit {0}
 PartsAt p own d cs ws r E0 = Seated p r
 PartsAt p own d cs ws r E1 = Seated p r × Waits p d cs ws r
 PartsAt p own d cs ws r E2 = Seated p r × Waits p d cs ws r
-PartsAt p own d cs ws r E3 = Unit {0}
 PartsAt p own d cs ws r E4a = Seated p r × (d ≡ false → Parked p r.eject.slot (cpu_at cs r.eject.cpu))
 PartsAt p own d cs ws r E4b = Seated p r × (d ≡ false → Parked p r.eject.slot (cpu_at cs r.eject.cpu))
 PartsAt p own d cs ws r E4c = Seated p r × Alone p own d r
@@ -113,11 +75,8 @@ PartsAt p own d cs ws r E4d = Seated p r × Alone p own d r
 PartsAt p own d cs ws r E4e = Seated p r × Alone p own d r
 PartsAt p own d cs ws r E4f = Seated p r × Alone p own d r
 PartsAt p own d cs ws r E4g = Seated p r × Alone p own d r
-PartsAt p own d cs ws r E4h = Unit {0}
 PartsAt p own d cs ws r T = Gone p own d r r.outcome
-PartsAt p own d cs ws r E5 = Unit {0}
-PartsAt p own d cs ws r E6 = Unit {0}
-PartsAt p own d cs ws r E7 = Unit {0}
+PartsAt p own d cs ws r _ = Unit {0}
 
 -- a class begins an eject of a processor's own report, of a known APIC ID, and tells refusals alone
 abbrev Begins : Facts → Class → Type 0

@@ -134,58 +134,7 @@ module _ (p : Platform) (es : List Entry) where
     where
       never : (l : Label) → is_among l (T ∷ adding) ≡ true → is_among l (E4h ∷ []) ≡ true → ⊥
       never F1 e f = cc
-      never F2 e f = cc
-      never F3 e f = cc
-      never F4 e f = cc
-      never F5 e f = cc
-      never F6 e f = cc
-      never R1 e f = cc
-      never R2 e f = cc
-      never R3 e f = cc
-      never R4 e f = cc
-      never R5 e f = cc
-      never R6 e f = cc
-      never S0 e f = cc
-      never S1 e f = cc
-      never S2 e f = cc
-      never S3 e f = cc
-      never S4 e f = cc
-      never C1 e f = cc
-      never C2 e f = cc
-      never C3 e f = cc
-      never C4 e f = cc
-      never C5 e f = cc
-      never C6 e f = cc
-      never NB e f = cc
-      never N0 e f = cc
-      never N1 e f = cc
-      never N2 e f = cc
-      never N3 e f = cc
-      never N4 e f = cc
-      never N5 e f = cc
-      never N6 e f = cc
-      never N7 e f = cc
-      never N8a e f = cc
-      never N8b e f = cc
-      never N9 e f = cc
-      never N10 e f = cc
-      never N11 e f = cc
-      never E0 e f = cc
-      never E1 e f = cc
-      never E2 e f = cc
-      never E3 e f = cc
-      never E4a e f = cc
-      never E4b e f = cc
-      never E4c e f = cc
-      never E4d e f = cc
-      never E4e e f = cc
-      never E4f e f = cc
-      never E4g e f = cc
-      never E4h e f = cc
-      never T e f = cc
-      never E5 e f = cc
-      never E6 e f = cc
-      never E7 e f = cc
+      never _ e f = cc
 
   -- where each row leads: seen at E4g, and kept at E4h
   pends_row : (y : Layout) (q : Seat) (r : Monarch) (l : Label) (v : ℕ) → part_of l ≡ Monarchs → r.label ≡ l → (l ≡ E4g → is_in v (values_at p E4g es) ≡ true) → (l ≡ E4h → is_still_pending p r.eject.status es ≡ true) → Now (next_at y q r l v).monarch

@@ -81,58 +81,34 @@ Bytes p k s x (Some want.Resume) = Unit {0}
 row_bytes : (p : Platform) (k : ℕ) (s : State) (q : Seat) (r : Monarch) (x : ℕ) (l : Label) → Sound p → tseg p + 0x1000 ≤ x → x < tseg p + 0x2000
     → (part_of l ≡ Relocated → q.slot < 0x1000) → (l ≡ E6 → x ≢ release_byte (layout_of p) r.slot) → Bytes p k s x (want_at (layout_of p) q r l)
 row_bytes p k s q r x F1 sound from to small other = pick (Leaves x s.writes) (loaded s.locks true (byte_at s.writes) gate 8 == q.apic) _ _ (elsewhere s.locks gate 8 (closed) x s.writes (low_misses (tseg p) gate 8 x sound.above (omega arith) from)) (inl refl)
-row_bytes p k s q r x F2 sound from to small other = inl refl
 row_bytes p k s q r x F3 sound from to small other = elsewhere s.locks default_smbase_field 4 (q.base) x s.writes (low_misses (tseg p) default_smbase_field 4 x sound.above (omega arith) from)
 row_bytes p k s q r x F4 sound from to small other = elsewhere s.locks flag 1 (1) x s.writes (low_misses (tseg p) flag 1 x sound.above (omega arith) from)
-row_bytes p k s q r x F5 sound from to small other = inl refl
 row_bytes p k s q r x F6 sound from to small other = tt
 row_bytes p k s q r x R1 sound from to small other = elsewhere s.locks (arrived_byte (layout_of p) q.slot) 1 1 x s.writes (first_misses (tseg p) q.slot x (small refl) from)
-row_bytes p k s q r x R2 sound from to small other = inl refl
-row_bytes p k s q r x R3 sound from to small other = inl refl
 row_bytes p k s q r x R4 sound from to small other = zero_stored s.locks (arrived_byte (layout_of p) q.slot) x s.writes
 row_bytes p k s q r x R5 sound from to small other = tt
 row_bytes p k s q r x R6 sound from to small other = elsewhere s.locks (parked_byte (layout_of p) q.slot) 1 1 x s.writes (later_misses (tseg p) (parked_byte (layout_of p) q.slot) x (omega arith) to)
 row_bytes p k s q r x S0 sound from to small other = elsewhere s.locks (session_byte (layout_of p)) 1 1 x s.writes (later_misses (tseg p) (session_byte (layout_of p)) x (omega arith) to)
 row_bytes p k s q r x S1 sound from to small other = zero_stored s.locks (release_byte (layout_of p) r.slot) x s.writes
-row_bytes p k s q r x S2 sound from to small other = inl refl
-row_bytes p k s q r x S3 sound from to small other = inl refl
-row_bytes p k s q r x S4 sound from to small other = inl refl
-row_bytes p k s q r x C1 sound from to small other = inl refl
-row_bytes p k s q r x C2 sound from to small other = inl refl
-row_bytes p k s q r x C3 sound from to small other = inl refl
-row_bytes p k s q r x C4 sound from to small other = inl refl
-row_bytes p k s q r x C5 sound from to small other = inl refl
-row_bytes p k s q r x C6 sound from to small other = inl refl
 row_bytes p k s q r x NB sound from to small other = zero_stored s.locks (release_byte (layout_of p) r.add.slot) x s.writes
 row_bytes p k s q r x N0 sound from to small other = zero_stored s.locks (arrived_byte (layout_of p) r.add.slot) x s.writes
 row_bytes p k s q r x N1 sound from to small other = zero_stored s.locks (flag) x s.writes
 row_bytes p k s q r x N2 sound from to small other = elsewhere s.locks new_smbase 4 (tile_in (layout_of p) r.add.slot) x s.writes (low_misses (tseg p) new_smbase 4 x sound.above (omega arith) from)
-row_bytes p k s q r x N3 sound from to small other = inl refl
-row_bytes p k s q r x N4 sound from to small other = inl refl
-row_bytes p k s q r x N5 sound from to small other = inl refl
-row_bytes p k s q r x N6 sound from to small other = inl refl
 row_bytes p k s q r x N7 sound from to small other = elsewhere s.locks gate 8 (r.add.apic) x s.writes (low_misses (tseg p) gate 8 x sound.above (omega arith) from)
-row_bytes p k s q r x N8a sound from to small other = inl refl
-row_bytes p k s q r x N8b sound from to small other = inl refl
 row_bytes p k s q r x N9 sound from to small other = elsewhere s.locks gate 8 (closed) x s.writes (low_misses (tseg p) gate 8 x sound.above (omega arith) from)
 row_bytes p k s q r x N10 sound from to small other = zero_stored s.locks (arrived_byte (layout_of p) r.add.slot) x s.writes
-row_bytes p k s q r x N11 sound from to small other = inl refl
 row_bytes p k s q r x E0 sound from to small other = zero_stored s.locks (parked_byte (layout_of p) r.eject.slot) x s.writes
 row_bytes p k s q r x E1 sound from to small other = elsewhere s.locks (map_byte (layout_of p) r.eject.slot) 1 1 x s.writes (later_misses (tseg p) (map_byte (layout_of p) r.eject.slot) x (omega arith) to)
-row_bytes p k s q r x E2 sound from to small other = inl refl
 row_bytes p k s q r x E3 sound from to small other = zero_stored s.locks (map_byte (layout_of p) r.eject.slot) x s.writes
-row_bytes p k s q r x E4a sound from to small other = inl refl
-row_bytes p k s q r x E4b sound from to small other = inl refl
 row_bytes p k s q r x E4c sound from to small other = zero_stored s.locks (arrived_byte (layout_of p) r.eject.slot) x s.writes
 row_bytes p k s q r x E4d sound from to small other = zero_stored s.locks (map_byte (layout_of p) r.eject.slot) x s.writes
 row_bytes p k s q r x E4e sound from to small other = zero_stored s.locks (parked_byte (layout_of p) r.eject.slot) x s.writes
-row_bytes p k s q r x E4f sound from to small other = inl refl
-row_bytes p k s q r x E4g sound from to small other = inl refl
 row_bytes p k s q r x E4h sound from to small other = zero_stored s.locks (map_byte (layout_of p) r.eject.slot) x s.writes
 row_bytes p k s q r x T sound from to small other = tt
 row_bytes p k s q r x E5 sound from to small other = zero_stored s.locks (session_byte (layout_of p)) x s.writes
 row_bytes p k s q r x E6 sound from to small other = elsewhere s.locks (release_byte (layout_of p) r.slot) 1 1 x s.writes (other_misses (release_byte (layout_of p) r.slot) x (other refl))
 row_bytes p k s q r x E7 sound from to small other = tt
+row_bytes p k s q r x _ sound from to small other = inl refl
 
 -- which bytes must be 0, as the monarch's record goes on
 pub kept_called : (r : Monarch) (slot : ℕ) → (is_among r.label (S2 ∷ []) || is_after_broadcast r.label) ≡ true → is_kept_in r slot ≡ true

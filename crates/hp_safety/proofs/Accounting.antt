@@ -51,11 +51,6 @@ use Rattle.hp_safety.proofs.Marked.{at_none, same_index, at_monarch, at_other}
 -- where a label needs nothing, the bound APIC IDs are those of the entries
 free_bound : (B : List ℕ) (S : Session) (r : Monarch) (l : Label) → need_of l ≡ Nothing → TiedAt B S r (tie_of l) → r.slots.bound ≡ B
 free_bound B S r F1 e h = h
-free_bound B S r F2 e h = absurd cc
-free_bound B S r F3 e h = absurd cc
-free_bound B S r F4 e h = absurd cc
-free_bound B S r F5 e h = absurd cc
-free_bound B S r F6 e h = absurd cc
 free_bound B S r R1 e h = h
 free_bound B S r R2 e h = h
 free_bound B S r R3 e h = h
@@ -73,36 +68,10 @@ free_bound B S r C3 e h = h.0
 free_bound B S r C4 e h = h.0
 free_bound B S r C5 e h = h.0
 free_bound B S r C6 e h = h.0
-free_bound B S r NB e h = absurd cc
-free_bound B S r N0 e h = absurd cc
-free_bound B S r N1 e h = absurd cc
-free_bound B S r N2 e h = absurd cc
-free_bound B S r N3 e h = absurd cc
-free_bound B S r N4 e h = absurd cc
-free_bound B S r N5 e h = absurd cc
-free_bound B S r N6 e h = absurd cc
-free_bound B S r N7 e h = absurd cc
-free_bound B S r N8a e h = absurd cc
-free_bound B S r N8b e h = absurd cc
-free_bound B S r N9 e h = absurd cc
-free_bound B S r N10 e h = absurd cc
-free_bound B S r N11 e h = absurd cc
-free_bound B S r E0 e h = absurd cc
-free_bound B S r E1 e h = absurd cc
-free_bound B S r E2 e h = absurd cc
-free_bound B S r E3 e h = absurd cc
-free_bound B S r E4a e h = absurd cc
-free_bound B S r E4b e h = absurd cc
-free_bound B S r E4c e h = absurd cc
-free_bound B S r E4d e h = absurd cc
-free_bound B S r E4e e h = absurd cc
-free_bound B S r E4f e h = absurd cc
-free_bound B S r E4g e h = absurd cc
-free_bound B S r E4h e h = absurd cc
-free_bound B S r T e h = absurd cc
 free_bound B S r E5 e h = h
 free_bound B S r E6 e h = h
 free_bound B S r E7 e h = h
+free_bound B S r _ e h = absurd cc
 
 -- what an event stores, and whether it bounds a session
 abbrev pub stored_in : Event → Option ℕ
