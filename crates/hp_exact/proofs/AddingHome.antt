@@ -35,7 +35,8 @@ use Rattle.hp_sealed.proofs.Places.{slot_of}
 use Rattle.hp_sealed.proofs.Runs.{made as made_by}
 use Rattle.hp_safety.proofs.Accesses.{past_aloft}
 use Rattle.hp_safety.proofs.Keeps.{smm_present}
-use Rattle.hp_safety.proofs.Moves.{Moves, moves}
+use Rattle.hp_safety.proofs.GateRows.{Moves}
+use Rattle.hp_safety.proofs.Moves.{moves}
 use Rattle.hp_safety.proofs.Placing.{place_same}
 use Rattle.hp_safety.proofs.Runs.{IsHanded}
 use Rattle.hp_exact.proofs.Stood.{IsStood}

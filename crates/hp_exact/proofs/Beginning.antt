@@ -36,7 +36,7 @@ use Rattle.hp_sealed.proofs.Left.{left_more, length-bytes_of}
 use Rattle.hp_sealed.proofs.Same.{same_access-is}
 use Rattle.hp_sealed.proofs.Places.{tseg_locked}
 use Rattle.hp_sealed.proofs.Labels.{index_small}
-use Rattle.hp_sealed.proofs.Boots.{locked_by}
+use Rattle.hp_sealed.proofs.BootLocks.{locked_by}
 use Rattle.hp_sealed.proofs.Goes.{stepped, not_in_smm, boot_leaves, boot_goes, refused_goes}
 use Rattle.hp_sealed.proofs.Runs.{made as made_by}
 use Rattle.hp_safety.proofs.Marked.{at_none}

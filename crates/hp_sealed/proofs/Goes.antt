@@ -23,7 +23,9 @@ use Rattle.hp_sealed.proofs.Left.{pick_by}
 use Rattle.hp_sealed.proofs.Same.{same_access-is}
 use Rattle.hp_sealed.proofs.Outside.{Calm, acts, left_acted}
 use Rattle.hp_sealed.specs.Features.{Agreeing}
-use Rattle.hp_sealed.proofs.Boots.{Passes, passes, outside_acts, locked_by}
+use Rattle.hp_sealed.proofs.BootStores.{Passes, outside_acts}
+use Rattle.hp_sealed.proofs.BootLocks.{locked_by}
+use Rattle.hp_sealed.proofs.Boots.{passes}
 use Rattle.hp_sealed.proofs.Features.{Agrees, agree, agrees_still}
 use Rattle.hp_sealed.proofs.Image.{holds_sealed}
 

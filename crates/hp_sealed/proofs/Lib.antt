@@ -9,6 +9,8 @@ pub mod Same
 pub mod Image
 pub mod BootSlots
 pub mod Starts
+pub mod BootStores
+pub mod BootLocks
 pub mod Boots
 pub mod Features
 pub mod Goes
