@@ -286,18 +286,6 @@ module _ (y : Layout) (t : Trail) (old bound : List ℕ) (ws vs : List Write) (h
 
   -- each row
   pub row_add : (l : Label) → part_of l ≡ Monarchs → r.label ≡ l → Deeds y ws vs home home2 bound r l v → AddAt y t old ws home r l → Then l (next_at y q r l v).monarch
-  row_add F1 mine is d h = absurd cc
-  row_add F2 mine is d h = absurd cc
-  row_add F3 mine is d h = absurd cc
-  row_add F4 mine is d h = absurd cc
-  row_add F5 mine is d h = absurd cc
-  row_add F6 mine is d h = absurd cc
-  row_add R1 mine is d h = absurd cc
-  row_add R2 mine is d h = absurd cc
-  row_add R3 mine is d h = absurd cc
-  row_add R4 mine is d h = absurd cc
-  row_add R5 mine is d h = absurd cc
-  row_add R6 mine is d h = absurd cc
   row_add S0 mine is d h = pick (Then S0) (nat_lt 1 (length r.slots.bound)) (record r { label = S1; slot = 1 }) (at_label S2 r) tt tt
   row_add S1 mine is d h = pick (Then S1) (nat_lt (r.slot + 1) (length r.slots.bound)) (record r { label = S1; slot = r.slot + 1 }) (at_label S2 r) tt tt
   row_add S2 mine is d h = add_look S2 y.polls (known_from r.slots 1) r
@@ -340,6 +328,7 @@ module _ (y : Layout) (t : Trail) (old bound : List ℕ) (ws vs : List Write) (h
   row_add E5 mine is d h = pick (Then E5) (nat_lt 1 (length r.slots.bound)) (record r { label = E6; slot = 1 }) (at_label E7 r) tt tt
   row_add E6 mine is d h = pick (Then E6) (nat_lt (r.slot + 1) (length r.slots.bound)) (record r { label = E6; slot = r.slot + 1 }) (at_label E7 r) tt tt
   row_add E7 mine is d h = subst (AddAt y _ old vs home2 r) (sym is) tt
+  row_add _ mine is d h = absurd cc
 
 -- where its label needs nothing nothing is tied
 pub add_resting : (y : Layout) (t : Trail) (old : List ℕ) (ws : List Write) (home : ℕ → ℕ → Type 0) (r : Monarch) (l : Label) → need_of l ≡ Nothing → AddAt y t old ws home r l
@@ -396,29 +385,11 @@ look_apic polls (Some slot) u = refl
 
 -- but where a row ends an outcome's entries, the add's APIC ID stays
 pub apic_stays : (y : Layout) (q : Seat) (r : Monarch) (l : Label) (v : ℕ) → part_of l ≡ Monarchs → is_ending l ≡ false → (next_at y q r l v).monarch.add.apic ≡ r.add.apic
-apic_stays y q r F1 v mine e = absurd cc
-apic_stays y q r F2 v mine e = absurd cc
-apic_stays y q r F3 v mine e = absurd cc
-apic_stays y q r F4 v mine e = absurd cc
-apic_stays y q r F5 v mine e = absurd cc
-apic_stays y q r F6 v mine e = absurd cc
-apic_stays y q r R1 v mine e = absurd cc
-apic_stays y q r R2 v mine e = absurd cc
-apic_stays y q r R3 v mine e = absurd cc
-apic_stays y q r R4 v mine e = absurd cc
-apic_stays y q r R5 v mine e = absurd cc
-apic_stays y q r R6 v mine e = absurd cc
 apic_stays y q r S0 v mine e = pick (λ (u : Monarch). u.add.apic ≡ r.add.apic) (nat_lt 1 (length r.slots.bound)) (record r { label = S1; slot = 1 }) (at_label S2 r) refl refl
 apic_stays y q r S1 v mine e = pick (λ (u : Monarch). u.add.apic ≡ r.add.apic) (nat_lt (r.slot + 1) (length r.slots.bound)) (record r { label = S1; slot = r.slot + 1 }) (at_label S2 r) refl refl
 apic_stays y q r S2 v mine e = look_apic y.polls (known_from r.slots 1) r
 apic_stays y q r S3 v mine e = pick (λ (u : Monarch). u.add.apic ≡ r.add.apic) ((v == 1) || nat_le r.polls 1) _ (record (noted r.slot v r) { polls = r.polls - 1 }) (look_apic y.polls (known_from r.slots (r.slot + 1)) (noted r.slot v r)) refl
 apic_stays y q r S4 v mine e = pick (λ (u : Monarch). u.add.apic ≡ r.add.apic) (v == 4) (record r { label = C1; collection = collection_start; taken = 0 }) (at_label E5 r) refl refl
-apic_stays y q r C1 v mine e = absurd cc
-apic_stays y q r C2 v mine e = absurd cc
-apic_stays y q r C3 v mine e = absurd cc
-apic_stays y q r C4 v mine e = absurd cc
-apic_stays y q r C5 v mine e = absurd cc
-apic_stays y q r C6 v mine e = absurd cc
 apic_stays y q r NB v mine e = (adds_on y q r NB v refl).apic
 apic_stays y q r N0 v mine e = (adds_on y q r N0 v refl).apic
 apic_stays y q r N1 v mine e = (adds_on y q r N1 v refl).apic
@@ -445,10 +416,10 @@ apic_stays y q r E4e v mine e = refl
 apic_stays y q r E4f v mine e = refl
 apic_stays y q r E4g v mine e = pick (λ w. (eject_led w r).add.apic ≡ r.add.apic) (bit_and v 0x10 == 0x10) (EjectsAt E4h (record r.eject { status = v })) (EjectsAt E4c r.eject) refl refl
 apic_stays y q r E4h v mine e = refl
-apic_stays y q r T v mine e = absurd cc
 apic_stays y q r E5 v mine e = pick (λ (u : Monarch). u.add.apic ≡ r.add.apic) (nat_lt 1 (length r.slots.bound)) (record r { label = E6; slot = 1 }) (at_label E7 r) refl refl
 apic_stays y q r E6 v mine e = pick (λ (u : Monarch). u.add.apic ≡ r.add.apic) (nat_lt (r.slot + 1) (length r.slots.bound)) (record r { label = E6; slot = r.slot + 1 }) (at_label E7 r) refl refl
 apic_stays y q r E7 v mine e = refl
+apic_stays y q r _ v mine e = absurd cc
 
 -- and where it does, the bound APIC IDs are those of the entries
 pub ending_bound : (B : List ℕ) (S : Session) (r : Monarch) (l : Label) → part_of l ≡ Monarchs → is_ending l ≡ true → TiedAt B S r (tie_of l) → (r.slots.bound ≡ B) × ((index_of l == 19) ≡ false)

@@ -234,36 +234,19 @@ module _ (p : Platform) (own own2 : List Entry) (d d2 : Bool) (ws ws2 : List Wri
   said_row S2 mine is says = said_look p own2 d2 ws2 p.polls (known_from r.slots 1) r
   said_row S3 mine is says = pick Now ((v == 1) || nat_le r.polls 1) _ _ (said_look p own2 d2 ws2 p.polls (known_from r.slots (r.slot + 1)) (noted r.slot v r)) (λ owns. subst (λ m. SaidAt p own2 d2 ws2 (record r { polls = r.polls - 1; last = (noted r.slot v r).last }) m) (sym is) tt)
   said_row S4 mine is says = pick Now (v == 4) (record r { label = C1; collection = collection_start; taken = 0 }) (at_label E5 r) (λ owns. tt) (λ owns. tt)
-  said_row C1 mine is says = λ owns. tt
-  said_row C2 mine is says = λ owns. tt
   said_row C3 mine is says = pick (λ w. Now (collected p.apic w r)) (nat_lt v r.collection.cpu || not (nat_lt v (count_of p))) (CollectedAll r.collection) (CollectsAt C4 (record r.collection { cpu = v })) (said_next p own2 d2 ws2 (record r { collection = r.collection }) (says.anew refl)) (λ owns. tt)
   said_row C4 mine is says = pick (λ w. Now (collected p.apic w r)) (bit_and v 0x12 == 0) (next_processor (count_of p) r.collection) (CollectsAt C5 (record r.collection { status = v })) (said_processor p own2 d2 ws2 (count_of p) r r.collection (says.anew refl)) (λ owns. tt)
-  said_row C5 mine is says = λ owns. tt
   said_row C6 mine is says = said_processor p own2 d2 ws2 (count_of p) r (record r.collection { reports = r.collection.reports ++ record { cpu = r.collection.cpu; status = r.collection.status; apic = v } ∷ [] }) (says.anew refl)
-  said_row NB mine is says = λ owns. tt
-  said_row N0 mine is says = λ owns. tt
-  said_row N1 mine is says = λ owns. tt
-  said_row N2 mine is says = λ owns. tt
-  said_row N3 mine is says = λ owns. tt
-  said_row N4 mine is says = λ owns. tt
-  said_row N5 mine is says = λ owns. tt
-  said_row N6 mine is says = λ owns. tt
-  said_row N7 mine is says = λ owns. tt
   said_row N8a mine is says = pick (λ w. Now (led w r)) (v == 1) _ _ (λ owns. tt) (λ owns. tt)
   said_row N8b mine is says = pick (λ w. Now (led w (noted r.add.slot v r))) (v == 1) _ _ (λ owns. tt) (pick (λ w. Now (led w (noted r.add.slot v r))) (is_last_look r.add) _ _ (λ owns. tt) (λ owns. tt))
   said_row N9 mine is says = pick (λ w. Now (led w r)) r.add.seen _ _ (λ owns. tt) (said_failed p own2 d2 ws2 r r.last (NotAtGate r.add.cpu r.add.apic) refl refl)
-  said_row N10 mine is says = λ owns. tt
   said_row N11 mine is says = pick (λ w. Now (led w (noted r.add.slot v r))) (v == 1) _ _ (λ owns. (refl, λ quiet. refl)) (pick (λ w. Now (led w (noted r.add.slot v r))) (is_last_look r.add) _ _ (said_failed p own2 d2 ws2 r (noted r.add.slot v r).last (NotCheckedIn r.add.cpu r.add.apic) refl refl) (λ owns. tt))
   said_row E0 mine is says = λ owns. (says.same refl ∙ here E0 is, let z = says.zeroed refl in omega (arith, z))
   said_row E1 mine is says = λ owns. (record { looks = 0; zeros = says.same refl ∙ (here E1 is).0; all = omega arith; some = polled }, let k = says.still refl in let b = (here E1 is).1 in omega (arith, k, b))
   said_row E2 mine is says = let h = here E2 is in looks_once h.0 says h.1 (v == 1) refl (says.bit refl h.1)
   said_row E3 mine is says = λ owns. (let e = says.same refl ∙ here E3 is in same_list _ _ e, λ quiet. refl)
-  said_row E4a mine is says = λ owns. tt
   said_row E4b mine is says = pick (λ m. Now (at_label m r)) (is_late p.delivery) E4f E4c (λ owns. tt) (λ owns. tt)
-  said_row E4c mine is says = λ owns. tt
-  said_row E4d mine is says = λ owns. tt
   said_row E4e mine is says = λ owns. (refl, λ quiet. refl)
-  said_row E4f mine is says = λ owns. tt
   said_row E4g mine is says = pick_by (λ w. Now (eject_led w r)) (bit_and v 0x10 == 0x10) (EjectsAt E4h (record r.eject { status = v })) (EjectsAt E4c r.eject) (λ one owns. seen v (values_at p E4g own2) true (says.sees refl) one) (λ _ owns. tt)
   said_row E4h mine is says = λ owns. (let h = here E4h is in let e = says.waits refl in subst (λ xs. (is_in r.eject.status xs && (bit_and r.eject.status 0x10 == 0x10)) ≡ true) (sym e) h, λ quiet. absurd (says.never refl quiet))
   said_row T mine is says = by_told r.outcome
@@ -275,3 +258,4 @@ module _ (p : Platform) (own own2 : List Entry) (d d2 : Bool) (ws ws2 : List Wri
   said_row E5 mine is says = pick Now (nat_lt 1 (length r.slots.bound)) (record r { label = E6; slot = 1 }) (at_label E7 r) (λ owns. tt) (λ owns. tt)
   said_row E6 mine is says = pick Now (nat_lt (r.slot + 1) (length r.slots.bound)) (record r { label = E6; slot = r.slot + 1 }) (at_label E7 r) (λ owns. tt) (λ owns. tt)
   said_row E7 mine is says = λ owns. subst (SaidAt p own2 d2 ws2 r) (sym is) tt
+  said_row _ mine is says = λ owns. tt

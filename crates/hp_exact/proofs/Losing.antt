@@ -135,18 +135,6 @@ module _ (p : Platform) (own own2 : List Transition) (b b2 : Block) (cs cs2 : Li
   Then t = Losses p own2 b2 cs2 t
 
   pub losses_row : (l : Label) → part_of l ≡ Monarchs → r.label ≡ l → Deeds p own own2 b2 cs2 r l v → is_after_broadcast (next_at (layout_of p) q r l v).monarch.label ≡ true → Then (next_at (layout_of p) q r l v).monarch
-  losses_row F1 mine is deeds after = absurd cc
-  losses_row F2 mine is deeds after = absurd cc
-  losses_row F3 mine is deeds after = absurd cc
-  losses_row F4 mine is deeds after = absurd cc
-  losses_row F5 mine is deeds after = absurd cc
-  losses_row F6 mine is deeds after = absurd cc
-  losses_row R1 mine is deeds after = absurd cc
-  losses_row R2 mine is deeds after = absurd cc
-  losses_row R3 mine is deeds after = absurd cc
-  losses_row R4 mine is deeds after = absurd cc
-  losses_row R5 mine is deeds after = absurd cc
-  losses_row R6 mine is deeds after = absurd cc
   losses_row S0 mine is deeds after = pick (λ (t : Monarch). is_after_broadcast t.label ≡ true → Then t) (nat_lt 1 (length r.slots.bound)) (record r { label = S1; slot = 1 }) (at_label S2 r) (λ e. absurd cc) (λ e. absurd cc) after
   losses_row S1 mine is deeds after = pick (λ (t : Monarch). is_after_broadcast t.label ≡ true → Then t) (nat_lt (r.slot + 1) (length r.slots.bound)) (record r { label = S1; slot = r.slot + 1 }) (at_label S2 r) (λ e. absurd cc) (λ e. absurd cc) after
   losses_row S2 mine is deeds after = losses_look p own2 b2 cs2 p.polls (known_from r.slots 1) r
@@ -209,3 +197,4 @@ module _ (p : Platform) (own own2 : List Transition) (b b2 : Block) (cs cs2 : Li
   losses_row E5 mine is deeds after = pick (λ (t : Monarch). is_after_broadcast t.label ≡ true → Then t) (nat_lt 1 (length r.slots.bound)) (record r { label = E6; slot = 1 }) (at_label E7 r) (λ e. absurd cc) (λ e. absurd cc) after
   losses_row E6 mine is deeds after = pick (λ (t : Monarch). is_after_broadcast t.label ≡ true → Then t) (nat_lt (r.slot + 1) (length r.slots.bound)) (record r { label = E6; slot = r.slot + 1 }) (at_label E7 r) (λ e. absurd cc) (λ e. absurd cc) after
   losses_row E7 mine is deeds after = absurd (let f : is_after_broadcast E7 ≡ true = subst (λ m. is_after_broadcast m ≡ true) is after in cc)
+  losses_row _ mine is deeds after = absurd cc

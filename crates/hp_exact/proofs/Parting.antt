@@ -197,25 +197,12 @@ module _ (p : Platform) (own own2 : List Transition) (d d2 : Bool) (cs cs2 : Lis
   parts_row S2 mine is does = parts_look p own2 d2 cs2 ws2 p.polls (known_from r.slots 1) r
   parts_row S3 mine is does = pick Now ((v == 1) || nat_le r.polls 1) _ _ (parts_look p own2 d2 cs2 ws2 p.polls (known_from r.slots (r.slot + 1)) (noted r.slot v r)) (λ placed. subst (λ m. PartsAt p own2 d2 cs2 ws2 (record r { polls = r.polls - 1; last = (noted r.slot v r).last }) m) (sym is) tt)
   parts_row S4 mine is does = pick Now (v == 4) (record r { label = C1; collection = collection_start; taken = 0 }) (at_label E5 r) (λ placed. tt) (λ placed. tt)
-  parts_row C1 mine is does = λ placed. tt
-  parts_row C2 mine is does = λ placed. tt
   parts_row C3 mine is does = pick (λ w. Now (collected p.apic w r)) (nat_lt v r.collection.cpu || not (nat_lt v (count_of p))) (CollectedAll r.collection) (CollectsAt C4 (record r.collection { cpu = v })) (parts_next p own2 d2 cs2 ws2 (record r { collection = r.collection })) (λ placed. tt)
   parts_row C4 mine is does = pick (λ w. Now (collected p.apic w r)) (bit_and v 0x12 == 0) (next_processor (count_of p) r.collection) (CollectsAt C5 (record r.collection { status = v })) (parts_processor p own2 d2 cs2 ws2 (count_of p) r r.collection) (λ placed. tt)
-  parts_row C5 mine is does = λ placed. tt
   parts_row C6 mine is does = parts_processor p own2 d2 cs2 ws2 (count_of p) r (record r.collection { reports = r.collection.reports ++ record { cpu = r.collection.cpu; status = r.collection.status; apic = v } ∷ [] })
-  parts_row NB mine is does = λ placed. tt
-  parts_row N0 mine is does = λ placed. tt
-  parts_row N1 mine is does = λ placed. tt
-  parts_row N2 mine is does = λ placed. tt
-  parts_row N3 mine is does = λ placed. tt
-  parts_row N4 mine is does = λ placed. tt
-  parts_row N5 mine is does = λ placed. tt
-  parts_row N6 mine is does = λ placed. tt
-  parts_row N7 mine is does = λ placed. tt
   parts_row N8a mine is does = pick (λ w. Now (led w r)) (v == 1) _ _ (λ placed. tt) (λ placed. tt)
   parts_row N8b mine is does = pick (λ w. Now (led w (noted r.add.slot v r))) (v == 1) _ _ (λ placed. tt) (pick (λ w. Now (led w (noted r.add.slot v r))) (is_last_look r.add) _ _ (λ placed. tt) (λ placed. tt))
   parts_row N9 mine is does = pick (λ w. Now (led w r)) r.add.seen _ _ (λ placed. tt) (parts_failed p own2 d2 cs2 ws2 r r.last (NotAtGate r.add.cpu r.add.apic))
-  parts_row N10 mine is does = λ placed. tt
   parts_row N11 mine is does = pick (λ w. Now (led w (noted r.add.slot v r))) (v == 1) _ _ (λ placed. tt) (pick (λ w. Now (led w (noted r.add.slot v r))) (is_last_look r.add) _ _ (parts_failed p own2 d2 cs2 ws2 r (noted r.add.slot v r).last (NotCheckedIn r.add.cpu r.add.apic)) (λ placed. tt))
   parts_row E0 mine is does = λ placed. (seated_as (at_label E1 r) refl refl refl refl (here E0 is), λ calm one. absurd (let z = does.zeroed refl in let both : 0 ≡ 1 = sym z ∙ one in cc))
   parts_row E1 mine is does = λ placed. (seated_as (next_at (layout_of p) q r E1 v).monarch refl refl refl refl (here E1 is).0, waits E1 does refl refl refl (here E1 is).1)
@@ -223,7 +210,6 @@ module _ (p : Platform) (own own2 : List Transition) (d d2 : Bool) (cs cs2 : Lis
       (λ one placed. (seated_as (record r { label = E4a; eject = r.eject }) refl refl refl refl (here E2 is).0, λ calm. does.still refl calm ((here E2 is).1 (does.quiet refl calm) (does.sees refl (one_is v one)))))
       (λ _. pick (λ w. Now (eject_led w r)) (nat_le r.eject.polls 1) (EjectsAt E3 r.eject) (EjectsAt E2 (record r.eject { polls = r.eject.polls - 1 })) (λ placed. tt)
       (λ placed. (seated_as (record r { label = E2; eject = record r.eject { polls = r.eject.polls - 1 } }) refl refl refl refl (here E2 is).0, waits E2 does refl refl refl (here E2 is).1)))
-  parts_row E3 mine is does = λ placed. tt
   parts_row E4a mine is does = λ placed. (seated_as (at_label E4b r) refl refl refl refl (here E4a is).0, λ calm. does.still refl calm ((here E4a is).1 (does.quiet refl calm)))
   parts_row E4b mine is does = let h = here E4b is in
       let gone : Alone p own2 d2 r = λ calm. does.leaves refl calm h.0 (h.1 (does.quiet refl calm)) in
@@ -233,8 +219,8 @@ module _ (p : Platform) (own own2 : List Transition) (d d2 : Bool) (cs cs2 : Lis
   parts_row E4e mine is does = let h = here E4e is in λ placed. (and_from (is_in r.eject.apic r.slots.bound) (place_of r.slots.bound r.eject.apic == r.eject.slot) h.0.bound (same_number (place_of r.slots.bound r.eject.apic) r.eject.slot h.0.place), alone E4e does refl refl h.1)
   parts_row E4f mine is does = λ placed. (seated_as (at_label E4g r) refl refl refl refl (here E4f is).0, alone E4f does refl refl (here E4f is).1)
   parts_row E4g mine is does = pick (λ w. Now (eject_led w r)) (bit_and v 0x10 == 0x10) (EjectsAt E4h (record r.eject { status = v })) (EjectsAt E4c r.eject) (λ placed. tt) (λ placed. (seated_as (record r { label = E4c; eject = r.eject }) refl refl refl refl (here E4g is).0, alone E4g does refl refl (here E4g is).1))
-  parts_row E4h mine is does = λ placed. tt
   parts_row T mine is does = parts_next p own2 d2 cs2 ws2 (told r.outcome r)
   parts_row E5 mine is does = pick Now (nat_lt 1 (length r.slots.bound)) (record r { label = E6; slot = 1 }) (at_label E7 r) (λ placed. tt) (λ placed. tt)
   parts_row E6 mine is does = pick Now (nat_lt (r.slot + 1) (length r.slots.bound)) (record r { label = E6; slot = r.slot + 1 }) (at_label E7 r) (λ placed. tt) (λ placed. tt)
   parts_row E7 mine is does = λ placed. subst (PartsAt p own2 d2 cs2 ws2 r) (sym is) tt
+  parts_row _ mine is does = λ placed. tt

@@ -138,18 +138,6 @@ module _ (p : Platform) (es : List Entry) where
 
   -- where each row leads: seen at E4g, and kept at E4h
   pends_row : (y : Layout) (q : Seat) (r : Monarch) (l : Label) (v : ℕ) → part_of l ≡ Monarchs → r.label ≡ l → (l ≡ E4g → is_in v (values_at p E4g es) ≡ true) → (l ≡ E4h → is_still_pending p r.eject.status es ≡ true) → Now (next_at y q r l v).monarch
-  pends_row y q r F1 v mine is looks keeps = absurd cc
-  pends_row y q r F2 v mine is looks keeps = absurd cc
-  pends_row y q r F3 v mine is looks keeps = absurd cc
-  pends_row y q r F4 v mine is looks keeps = absurd cc
-  pends_row y q r F5 v mine is looks keeps = absurd cc
-  pends_row y q r F6 v mine is looks keeps = absurd cc
-  pends_row y q r R1 v mine is looks keeps = absurd cc
-  pends_row y q r R2 v mine is looks keeps = absurd cc
-  pends_row y q r R3 v mine is looks keeps = absurd cc
-  pends_row y q r R4 v mine is looks keeps = absurd cc
-  pends_row y q r R5 v mine is looks keeps = absurd cc
-  pends_row y q r R6 v mine is looks keeps = absurd cc
   pends_row y q r S0 v mine is looks keeps = pick Now (nat_lt 1 (length r.slots.bound)) (record r { label = S1; slot = 1 }) (at_label S2 r) (pends_plain (record r { label = S1; slot = 1 }) refl refl) (pends_plain (at_label S2 r) refl refl)
   pends_row y q r S1 v mine is looks keeps = pick Now (nat_lt (r.slot + 1) (length r.slots.bound)) (record r { label = S1; slot = r.slot + 1 }) (at_label S2 r) (pends_plain (record r { label = S1; slot = r.slot + 1 }) refl refl) (pends_plain (at_label S2 r) refl refl)
   pends_row y q r S2 v mine is looks keeps = pends_look y.polls (known_from r.slots 1) r
@@ -195,6 +183,7 @@ module _ (p : Platform) (es : List Entry) where
   pends_row y q r E5 v mine is looks keeps = pick Now (nat_lt 1 (length r.slots.bound)) (record r { label = E6; slot = 1 }) (at_label E7 r) (pends_plain (record r { label = E6; slot = 1 }) refl refl) (pends_plain (at_label E7 r) refl refl)
   pends_row y q r E6 v mine is looks keeps = pick Now (nat_lt (r.slot + 1) (length r.slots.bound)) (record r { label = E6; slot = r.slot + 1 }) (at_label E7 r) (pends_plain (record r { label = E6; slot = r.slot + 1 }) refl refl) (pends_plain (at_label E7 r) refl refl)
   pends_row y q r E7 v mine is looks keeps = pends_plain r (rw is refl) (rw is refl)
+  pends_row y q r _ v mine is looks keeps = absurd cc
 
 -- an entry elsewhere
 values_past : (p : Platform) (e : Entry) (es : List Entry) → is_at p E4g e ≡ false → values_at p E4g (e ∷ es) ≡ values_at p E4g es

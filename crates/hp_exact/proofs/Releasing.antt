@@ -200,47 +200,11 @@ kept_row y q r R5 v slot mine is some = absurd cc
 kept_row y q r R6 v slot mine is some = absurd cc
 kept_row y q r S0 v slot mine is some = kept_first r slot some
 kept_row y q r S1 v slot mine is some = kept_next r slot is some
-kept_row y q r S2 v slot mine is some = λ e. inl (kept_called r slot (rw is refl))
-kept_row y q r S3 v slot mine is some = λ e. inl (kept_called r slot (rw is refl))
-kept_row y q r S4 v slot mine is some = λ e. inl (kept_called r slot (rw is refl))
-kept_row y q r C1 v slot mine is some = λ e. inl (kept_called r slot (rw is refl))
-kept_row y q r C2 v slot mine is some = λ e. inl (kept_called r slot (rw is refl))
-kept_row y q r C3 v slot mine is some = λ e. inl (kept_called r slot (rw is refl))
-kept_row y q r C4 v slot mine is some = λ e. inl (kept_called r slot (rw is refl))
-kept_row y q r C5 v slot mine is some = λ e. inl (kept_called r slot (rw is refl))
-kept_row y q r C6 v slot mine is some = λ e. inl (kept_called r slot (rw is refl))
-kept_row y q r NB v slot mine is some = λ e. inl (kept_called r slot (rw is refl))
-kept_row y q r N0 v slot mine is some = λ e. inl (kept_called r slot (rw is refl))
-kept_row y q r N1 v slot mine is some = λ e. inl (kept_called r slot (rw is refl))
-kept_row y q r N2 v slot mine is some = λ e. inl (kept_called r slot (rw is refl))
-kept_row y q r N3 v slot mine is some = λ e. inl (kept_called r slot (rw is refl))
-kept_row y q r N4 v slot mine is some = λ e. inl (kept_called r slot (rw is refl))
-kept_row y q r N5 v slot mine is some = λ e. inl (kept_called r slot (rw is refl))
-kept_row y q r N6 v slot mine is some = λ e. inl (kept_called r slot (rw is refl))
-kept_row y q r N7 v slot mine is some = λ e. inl (kept_called r slot (rw is refl))
-kept_row y q r N8a v slot mine is some = λ e. inl (kept_called r slot (rw is refl))
-kept_row y q r N8b v slot mine is some = λ e. inl (kept_called r slot (rw is refl))
-kept_row y q r N9 v slot mine is some = λ e. inl (kept_called r slot (rw is refl))
-kept_row y q r N10 v slot mine is some = λ e. inl (kept_called r slot (rw is refl))
-kept_row y q r N11 v slot mine is some = λ e. inl (kept_called r slot (rw is refl))
-kept_row y q r E0 v slot mine is some = λ e. inl (kept_called r slot (rw is refl))
-kept_row y q r E1 v slot mine is some = λ e. inl (kept_called r slot (rw is refl))
-kept_row y q r E2 v slot mine is some = λ e. inl (kept_called r slot (rw is refl))
-kept_row y q r E3 v slot mine is some = λ e. inl (kept_called r slot (rw is refl))
-kept_row y q r E4a v slot mine is some = λ e. inl (kept_called r slot (rw is refl))
-kept_row y q r E4b v slot mine is some = λ e. inl (kept_called r slot (rw is refl))
-kept_row y q r E4c v slot mine is some = λ e. inl (kept_called r slot (rw is refl))
-kept_row y q r E4d v slot mine is some = λ e. inl (kept_called r slot (rw is refl))
-kept_row y q r E4e v slot mine is some = λ e. inl (kept_called r slot (rw is refl))
-kept_row y q r E4f v slot mine is some = λ e. inl (kept_called r slot (rw is refl))
-kept_row y q r E4g v slot mine is some = λ e. inl (kept_called r slot (rw is refl))
-kept_row y q r E4h v slot mine is some = λ e. inl (kept_called r slot (rw is refl))
-kept_row y q r T v slot mine is some = λ e. inl (kept_called r slot (rw is refl))
-kept_row y q r E5 v slot mine is some = λ e. inl (kept_called r slot (rw is refl))
 kept_row y q r E6 v slot mine is some =
     pick (Kept r slot E6) (nat_lt (r.slot + 1) (length r.slots.bound)) (record r { label = E6; slot = r.slot + 1 }) (at_label E7 r)
     (kept_plain r (record r { label = E6; slot = r.slot + 1 }) slot E6 refl refl refl) (kept_plain r (at_label E7 r) slot E6 refl refl refl)
 kept_row y q r E7 v slot mine is some = λ e. inl e
+kept_row y q r _ v slot mine is some = λ e. inl (kept_called r slot (rw is refl))
 
 -- the bytes are in the first 8 KiB of TSEG
 from_1000 : (base slot : ℕ) → base + 0x1000 ≤ base + 0x1000 + slot

@@ -63,42 +63,24 @@ asleep_row y q r S1 v mine is other = pick Asleep (nat_lt (r.slot + 1) (length r
 asleep_row y q r S2 v mine is other = asleep_look y.polls (known_from r.slots 1) r
 asleep_row y q r S3 v mine is other = pick Asleep ((v == 1) || nat_le r.polls 1) _ _ (asleep_look y.polls (known_from r.slots (r.slot + 1)) (noted r.slot v r)) (rw is refl)
 asleep_row y q r S4 v mine is other = pick Asleep (v == 4) (record r { label = C1; collection = collection_start; taken = 0 }) (at_label E5 r) refl refl
-asleep_row y q r C1 v mine is other = refl
-asleep_row y q r C2 v mine is other = refl
 asleep_row y q r C3 v mine is other = pick (λ w. Asleep (collected y.apics w r)) (nat_lt v r.collection.cpu || not (nat_lt v y.count)) (CollectedAll r.collection) (CollectsAt C4 (record r.collection { cpu = v })) (asleep_next y.apics (record r { collection = r.collection })) refl
 asleep_row y q r C4 v mine is other = pick (λ w. Asleep (collected y.apics w r)) (bit_and v 0x12 == 0) (next_processor y.count r.collection) (CollectsAt C5 (record r.collection { status = v })) (asleep_processor y.count y.apics r r.collection) refl
-asleep_row y q r C5 v mine is other = refl
 asleep_row y q r C6 v mine is other = asleep_processor y.count y.apics r _
-asleep_row y q r NB v mine is other = refl
-asleep_row y q r N0 v mine is other = refl
-asleep_row y q r N1 v mine is other = refl
-asleep_row y q r N2 v mine is other = refl
 asleep_row y q r N3 v mine is other = absurd cc
 asleep_row y q r N4 v mine is other = absurd cc
 asleep_row y q r N5 v mine is other = absurd cc
-asleep_row y q r N6 v mine is other = refl
-asleep_row y q r N7 v mine is other = refl
 asleep_row y q r N8a v mine is other = pick (λ w. Asleep (led w r)) (v == 1) _ _ refl refl
 asleep_row y q r N8b v mine is other = pick (λ w. Asleep (led w (noted r.add.slot v r))) (v == 1) _ _ refl (pick (λ w. Asleep (led w (noted r.add.slot v r))) (is_last_look r.add) _ _ refl refl)
 asleep_row y q r N9 v mine is other = pick (λ w. Asleep (led w r)) r.add.seen _ _ refl (pick (λ w. Asleep (led w r)) (nat_lt r.add.attempt 3) _ _ refl refl)
-asleep_row y q r N10 v mine is other = refl
 asleep_row y q r N11 v mine is other = pick (λ w. Asleep (led w (noted r.add.slot v r))) (v == 1) _ _ refl (pick (λ w. Asleep (led w (noted r.add.slot v r))) (is_last_look r.add) _ _ (pick (λ w. Asleep (led w (noted r.add.slot v r))) (nat_lt r.add.attempt 3) _ _ refl refl) refl)
-asleep_row y q r E0 v mine is other = refl
-asleep_row y q r E1 v mine is other = refl
 asleep_row y q r E2 v mine is other = pick (λ w. Asleep (eject_led w r)) (v == 1) _ _ refl (pick (λ w. Asleep (eject_led w r)) (nat_le r.eject.polls 1) _ _ refl refl)
-asleep_row y q r E3 v mine is other = refl
-asleep_row y q r E4a v mine is other = refl
 asleep_row y q r E4b v mine is other = pick (λ m. Asleep (at_label m r)) y.late E4f E4c refl refl
-asleep_row y q r E4c v mine is other = refl
-asleep_row y q r E4d v mine is other = refl
-asleep_row y q r E4e v mine is other = refl
-asleep_row y q r E4f v mine is other = refl
 asleep_row y q r E4g v mine is other = pick (λ w. Asleep (eject_led w r)) (bit_and v 0x10 == 0x10) _ _ refl refl
-asleep_row y q r E4h v mine is other = refl
 asleep_row y q r T v mine is other = asleep_next y.apics (told r.outcome r)
 asleep_row y q r E5 v mine is other = pick Asleep (nat_lt 1 (length r.slots.bound)) (record r { label = E6; slot = 1 }) (at_label E7 r) refl refl
 asleep_row y q r E6 v mine is other = pick Asleep (nat_lt (r.slot + 1) (length r.slots.bound)) (record r { label = E6; slot = r.slot + 1 }) (at_label E7 r) refl refl
 asleep_row y q r E7 v mine is other = rw is refl
+asleep_row y q r _ v mine is other = refl
 
 -- at N3 its SMI is latched, N4 leaves it so, and start-up ends its wait
 waits_started : (page : ℕ) (c : Cpu) → (is_waiting c.mode ≡ true → c.smi ≡ true) → is_waiting (hit (Start page) c).mode ≡ true → (hit (Start page) c).smi ≡ true
