@@ -40,7 +40,7 @@ use Rattle.hp_safety.proofs.Named.{Accounted}
 use Rattle.hp_safety.proofs.Runs.{IsHanded}
 use Rattle.hp_exact.proofs.Stood.{IsStood}
 use Rattle.hp_exact.proofs.Stepping.{AtMonarch, AtOther, Kinds, entry_by, ends, led_on, by_kind}
-use Rattle.hp_exact.proofs.Keeping.{none_outside, outside_in}
+use Rattle.hp_exact.proofs.InSmm.{none_outside, outside_in}
 use Rattle.hp_exact.proofs.AddingTrail.{own, before, trail_of, no_trail, trail_after, trail_none, trail_made, trail_still, own_more, own_ends, before_more, before_ends}
 use Rattle.hp_exact.proofs.AddingBytes.{IsShared, Keeps, zero_here, read_here, reach_flag, reach_arrived, bits_row, bits_outside, bits_enters, same_outside, same_enters}
 use Rattle.hp_exact.proofs.Monarchs.{is_among, adding, next_other}

@@ -45,7 +45,9 @@ use Rattle.hp_exact.proofs.Monarchs.{is_among}
 use Rattle.hp_exact.proofs.Naming.{Ids, own_is, one_cpu}
 use Rattle.hp_exact.proofs.Agreeing.{present_kept}
 use Rattle.hp_exact.proofs.Rows.{stays_row, is_one}
-use Rattle.hp_exact.proofs.Keeping.{present_set, present_go, was_quiet, not_broadcast, Unwritten, other_unwritten}
+use Rattle.hp_exact.proofs.Keeping.{present_set, was_quiet, not_broadcast}
+use Rattle.hp_exact.proofs.Rows.{Unwritten, other_unwritten}
+use Rattle.hp_exact.proofs.InSmm.{present_go}
 use Rattle.hp_exact.proofs.Invariant.{Invariant}
 
 -- a processor is there, at the tile of a slot, if the session is undisturbed

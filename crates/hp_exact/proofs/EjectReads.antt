@@ -1,7 +1,6 @@
 -- What is told of ejects shows in what the entries read, and an undisturbed session tells neither Foreign nor StillPending: over each kind of step.
 use Rattle.std.proofs.Common.{ℕ, zero, suc, ◌≡◌, ◌≢◌, ◌+◌, ◌-◌, ◌*◌, ◌<◌, ◌≤◌, ◌==◌, ◌⊎◌, inl, inr, Bool, true, false, cond, not, ◌&&◌, ◌||◌, nat_lt, nat_le, List, [], ◌∷◌, length, replicate, Option, Some, None, bit_and, refl, sym, ap, subst, ◌∙◌, arith}
 use Rattle.std.specs.Prelude.{slice_index_or}
-use Rattle.std.specs.List.{list_any}
 use Rattle.std.specs.Str.{bytes_eq}
 use Rattle.std.proofs.lemmas.Bool.{and_parts}
 use Rattle.std.proofs.lemmas.Bool.Decides.{nat_tests}
@@ -11,7 +10,7 @@ use Rattle.hp_model.specs.declared.accesses.Access.TheVariants.{Load}
 use Rattle.hp_model.specs.declared.accesses.Want.{Want}
 use Rattle.hp_model.specs.declared.accesses.Want.TheVariants as want
 use Rattle.hp_model.specs.declared.labels.Label.{Label}
-use Rattle.hp_model.specs.declared.labels.Label.TheVariants.{F1, F2, F3, F4, F5, F6, R1, R2, R3, R4, R5, R6, S2, C1, C2, C3, C4, C5, C6, E0, E1, E2, E3, E4a, E4b, E4c, E4d, E4e, E4f, E4g, E4h, T, E7}
+use Rattle.hp_model.specs.declared.labels.Label.TheVariants.{F1, F2, F3, F4, F5, F6, R1, R2, R3, R4, R5, R6, S2, E0, E1, E2, E3, E4g, E4h, T, E7}
 use Rattle.hp_model.specs.declared.outcomes.Outcome.{Outcome}
 use Rattle.hp_model.specs.declared.outcomes.Outcome.TheVariants.{Added, Ejected, Refused}
 use Rattle.hp_model.specs.declared.outcomes.Refusal.TheVariants.{Disabled, Both, AlreadyKnown, GateHeld, NotAtGate, NotCheckedIn, NoUnplug, NotKnown, NotArrived, NotParked, Foreign, StillPending}
@@ -29,7 +28,7 @@ use Rattle.hp_model.specs.Monarch.{Monarch, restarted}
 use Rattle.hp_model.specs.Handlers.{Seat, want_at, runs_at}
 use Rattle.hp_model.specs.Step.{State, at, set_cpu, seat, access_effect, answer_to, insert, request_removal, enter_smm, leave_smm, with_session, is_after_broadcast, writes_block, same_outcome}
 use Rattle.hp_model.specs.Runs.{run_on}
-use Rattle.hp_model.specs.Transitions.{Transition, entries_of, since}
+use Rattle.hp_model.specs.Transitions.{Transition, entries_of}
 use Rattle.hp_model.specs.Account.{is_at}
 use Rattle.hp_model.specs.Sessions.{bounds_session, tells, ends_outcome}
 use Rattle.hp_model.specs.Outcomes.{own_of, values_at}
@@ -41,67 +40,19 @@ use Rattle.hp_sealed.proofs.Places.{Base, base_based, tseg_locked}
 use Rattle.hp_safety.proofs.Marked.{at_none, at_monarch, at_other}
 use Rattle.hp_safety.proofs.Saves.{in_reach, left_other}
 use Rattle.hp_exact.proofs.Stood.{IsStood}
-use Rattle.hp_exact.proofs.Stepping.{AtMonarch, AtOther, Kinds, entry_by, ends, led_on, by_kind}
+use Rattle.hp_exact.proofs.Stepping.{AtMonarch, AtOther, Kinds, entry_by, ends, led_on, by_kind, is_other}
 use Rattle.hp_exact.proofs.Monarchs.{is_among, ejecting, next_other}
 use Rattle.hp_exact.proofs.Releasing.{slot_small}
 use Rattle.hp_exact.proofs.Rows.{access_of, at_want}
-use Rattle.hp_exact.proofs.Keeping.{none_outside, outside_in}
+use Rattle.hp_exact.proofs.InSmm.{none_outside, outside_in}
 use Rattle.hp_exact.proofs.Ejecting.{shows_reads, IsBit, SaidAt, Owns, Says, said_row}
-
--- the entries of an outcome, with one more
-pub own_more : (p : Platform) (x : Transition) (past : List Transition) → ends_outcome p x.entry ≡ false → own_of p (x ∷ past) ≡ x ∷ own_of p past
-unfolding since
-own_more p x past is = subst (λ b. (elim b as (λ _. List Transition) [ true ↦ [] | false ↦ x ∷ since (λ y. ends_outcome p y.entry) past ]) ≡ x ∷ since (λ y. ends_outcome p y.entry) past) (sym is) refl
-
-pub own_none : (p : Platform) (x : Transition) (past : List Transition) → ends_outcome p x.entry ≡ true → own_of p (x ∷ past) ≡ []
-unfolding since
-own_none p x past is = subst (λ b. (elim b as (λ _. List Transition) [ true ↦ [] | false ↦ x ∷ since (λ y. ends_outcome p y.entry) past ]) ≡ []) (sym is) refl
-
--- an entry elsewhere is none of the collection's
-pub elsewhere : (p : Platform) (e : Entry) → ((m : Label) → part_of m ≡ Monarchs → is_at p m e ≡ false) → tells e ≡ false → bounds_session e ≡ false → ends_outcome p e ≡ false
-elsewhere p e unseen silent within = rw (silent, unseen C1 refl, unseen C2 refl, unseen C3 refl, unseen C4 refl, unseen C5 refl, unseen C6 refl, within) refl
-
--- and one of the monarch's is by its label
-abbrev pub is_collects : Label → Bool
-is_collects l = list_any (λ m. index_of l == index_of m) (C1 ∷ C2 ∷ C3 ∷ C4 ∷ C5 ∷ C6 ∷ [])
-
-pub by_label : (p : Platform) (e : Entry) (l : Label) → ((m : Label) → part_of m ≡ Monarchs → is_at p m e ≡ (index_of l == index_of m)) → tells e ≡ false → bounds_session e ≡ false → ends_outcome p e ≡ (is_collects l || false)
-by_label p e l seen silent within = rw (silent, seen C1 refl, seen C2 refl, seen C3 refl, seen C4 refl, seen C5 refl, seen C6 refl, within) refl
-
-anew_row : (p : Platform) (s : State) (l : Label) (a : Access) → want_at (layout_of p) (seat p s 0) s.monarch l ≡ Some (want.Do a) → is_among l (C3 ∷ C4 ∷ C6 ∷ T ∷ []) ≡ true → (is_collects l || false) ≡ true
-anew_row p s C3 a wants e = refl
-anew_row p s C4 a wants e = refl
-anew_row p s C6 a wants e = refl
-anew_row p s _ a wants e = absurd cc
-
--- at an eject's labels
-pub ejecting_goes : (l : Label) → is_among l ejecting ≡ true → (is_collects l || false) ≡ false
-ejecting_goes E0 e = refl
-ejecting_goes E1 e = refl
-ejecting_goes E2 e = refl
-ejecting_goes E3 e = refl
-ejecting_goes E4a e = refl
-ejecting_goes E4b e = refl
-ejecting_goes E4c e = refl
-ejecting_goes E4d e = refl
-ejecting_goes E4e e = refl
-ejecting_goes E4f e = refl
-ejecting_goes E4g e = refl
-ejecting_goes E4h e = refl
-ejecting_goes _ e = absurd cc
+use Rattle.hp_exact.proofs.OwnEntries.{own_more, own_none, elsewhere, is_collects, by_label, anew_row, ejecting_goes, values_here, values_past}
 
 looks_elsewhere : (l : Label) → is_among l (E0 ∷ E1 ∷ E3 ∷ []) ≡ true → (is_among l ejecting ≡ true) × ((index_of l == index_of E2) ≡ false)
 looks_elsewhere E0 e = (refl, refl)
 looks_elsewhere E1 e = (refl, refl)
 looks_elsewhere E3 e = (refl, refl)
 looks_elsewhere _ e = absurd cc
-
--- values that are read
-values_past : (p : Platform) (l : Label) (e : Entry) (es : List Entry) → is_at p l e ≡ false → values_at p l (e ∷ es) ≡ values_at p l es
-values_past p l e es is = rw is refl
-
-values_here : (p : Platform) (l : Label) (e : Entry) (es : List Entry) → is_at p l e ≡ true → values_at p l (e ∷ es) ≡ value_in e.answer ∷ values_at p l es
-values_here p l e es is = rw is refl
 
 -- where nothing is read, all stays
 shows_same : (p : Platform) (own own2 : List Entry) → values_at p E2 own2 ≡ values_at p E2 own → values_at p E4g own2 ≡ values_at p E4g own → (o : Outcome) → shows_reads p own o ≡ true → shows_reads p own2 o ≡ true
@@ -274,9 +225,6 @@ leaves_bit : (n m : ℕ) → (n ≡ m) ⊎ (n ≡ 0) → m ≤ 1 → n ≤ 1
 leaves_bit n m (inl e) h = omega (arith, e, h)
 leaves_bit n m (inr e) h = omega (arith, e)
 
-is_0 : (k : ℕ) → k ≢ 0 → (k == 0) ≡ false
-is_0 k n = grind (arith, nat_tests)
-
 module _ (p : Platform) (fit : Sound p) (past : List Transition) (s : State) (standing : IsStood p s) (polled : 1 ≤ p.polls)
     (small : is_among s.monarch.label ejecting ≡ true → s.monarch.eject.slot < 0x1000)
     (never : is_after_broadcast s.monarch.label ≡ true → s.disturbed ≡ false → is_among s.monarch.label (E4h ∷ []) ≡ false)
@@ -340,7 +288,7 @@ module _ (p : Platform) (fit : Sound p) (past : List Transition) (s : State) (st
 
   returns : (k : ℕ) (l : Label) (g : Stage) → AtOther p s k l → (l ≡ F6) ⊎ (l ≡ R5) → Follows (entry_by s (Resume k)) (ends (leave_smm k s) g s.disturbed)
   returns k l g here where_is owns =
-      same_said (entry_by s (Resume k)) (ends (leave_smm k s) g s.disturbed) (λ m part. at_other p l m (entry_by s (Resume k)) k (at s k).smbase fit here.runs here.part here.place part) refl (is_0 k here.other) refl (λ e. e) (λ e b. b)
+      same_said (entry_by s (Resume k)) (ends (leave_smm k s) g s.disturbed) (λ m part. at_other p l m (entry_by s (Resume k)) k (at s k).smbase fit here.runs here.part here.place part) refl (is_other k here.other) refl (λ e. e) (λ e b. b)
 
   rests : (g : Stage) → AtMonarch p s E7 → Follows (entry_by s (Resume 0)) (ends (leave_smm 0 s) g s.disturbed)
   rests g here owns = said_fresh p (entries_of (own_of p (made s (entry_by s (Resume 0)) (ends (leave_smm 0 s) g s.disturbed) ∷ past))) s.disturbed s.writes s.monarch s.monarch.label (let label = here.label in rw label refl)

@@ -1,22 +1,18 @@
 -- Each kind of step keeps all parts.
-use Rattle.std.proofs.Common.{ℕ, ◌≡◌, ◌≢◌, ◌<◌, ◌==◌, ◌⊎◌, inl, inr, Bool, true, false, cond, not, ◌&&◌, ◌||◌, List, [], ◌∷◌, slice_set, Option, Some, None, refl, sym, ap, subst, ◌∙◌, arith, if◌then◌else◌, get_or-set_other}
+use Rattle.std.proofs.Common.{ℕ, ◌≡◌, ◌≢◌, ◌<◌, ◌==◌, ◌⊎◌, inl, inr, Bool, true, false, cond, not, ◌&&◌, ◌||◌, List, [], ◌∷◌, slice_set, Some, None, refl, sym, ap, subst, ◌∙◌, if◌then◌else◌, get_or-set_other}
 use Rattle.std.proofs.lemmas.Bool.{and_parts, and_from, or_right, eqb-true, cases_eq}
-use Rattle.std.proofs.lemmas.Bool.Decides.{nat_tests}
 use Rattle.hp_model.specs.declared.platforms.Platform.{Platform}
-use Rattle.hp_model.specs.declared.processors.Mode.{Mode}
-use Rattle.hp_model.specs.declared.processors.Mode.TheVariants.{Wait, Running, Halted, Smm}
 use Rattle.hp_model.specs.declared.processors.Cpu.{Cpu}
 use Rattle.hp_model.specs.declared.accesses.Access.{Access}
-use Rattle.hp_model.specs.declared.accesses.Want.{Want}
 use Rattle.hp_model.specs.declared.accesses.Want.TheVariants as want
 use Rattle.hp_model.specs.declared.outcomes.Outcome.{Outcome}
 use Rattle.hp_model.specs.declared.labels.Label.{Label}
-use Rattle.hp_model.specs.declared.labels.Label.TheVariants.{F1, F2, F3, F4, F5, F6, R1, R2, R3, R4, R5, R6, S2, C4, N3, N4, N5, N6, E4b, T, E7}
+use Rattle.hp_model.specs.declared.labels.Label.TheVariants.{F6, R5, S2, C4, N3, N4, N5, N6, E4b, T, E7}
 use Rattle.hp_model.specs.declared.entries.Event.TheVariants.{Insert, Remove, Do, TakeSmi, TakeInit, Resume, Tell}
 use Rattle.hp_model.specs.declared.entries.Entry.{Entry}
 use Rattle.hp_model.specs.Platform.{count_of, tile, is_late}
 use Rattle.hp_model.specs.Memory.{Write}
-use Rattle.hp_model.specs.Cpu.{absent, inserted, cpu_at, is_running, is_waiting, is_outside, is_in_smm, is_unlatched, is_free, address_in, smm_address, may_take_smi, take_smi, may_take_init, take_init, resumed, moved}
+use Rattle.hp_model.specs.Cpu.{absent, inserted, cpu_at, is_running, is_waiting, is_outside, is_in_smm, is_unlatched, is_free, smm_address, may_take_smi, take_smi, may_take_init, take_init, resumed, moved}
 use Rattle.hp_model.specs.Block.{Block}
 use Rattle.hp_model.specs.Boot.{Stage, value_in}
 use Rattle.hp_model.specs.Labels.{Monarch as Monarchs, part_of, index_of, mark_of, same_label}
@@ -38,7 +34,7 @@ use Rattle.hp_sealed.proofs.Labels.{same_label as marked_label}
 use Rattle.hp_safety.proofs.Keeps.{smm_present}
 use Rattle.hp_safety.proofs.Marked.{at_none, at_monarch, at_other}
 use Rattle.hp_exact.proofs.Stood.{IsStood}
-use Rattle.hp_exact.proofs.Stepping.{AtMonarch, AtOther, Kinds, entry_by, ends, led_on, by_kind}
+use Rattle.hp_exact.proofs.Stepping.{AtMonarch, AtOther, Kinds, entry_by, ends, led_on, by_kind, is_other}
 use Rattle.hp_exact.proofs.Account.{Account, account, account_more, account_bound}
 use Rattle.hp_exact.proofs.Monarchs.{is_among, adding, next_other, adds_on}
 use Rattle.hp_exact.proofs.Naming.{Ids, Own, own_is}
@@ -50,106 +46,13 @@ use Rattle.hp_exact.proofs.Latching.{must_leave}
 use Rattle.hp_exact.proofs.Calling.{after_row, Woken, aside, latched_row, latched_told, latched_other, latched_insert, latched_enters, latched_init, latched_returns, latched_rests, latched_outside}
 use Rattle.hp_exact.proofs.Agreeing.{agrees_set, agrees_acted, modern_acted, agrees_insert, agrees_removal, block_kept, present_kept}
 use Rattle.hp_exact.proofs.Reporting.{no_more, clear_row}
-use Rattle.hp_exact.proofs.Rows.{newest_past, reads_row, stays_row, reported_still}
-use Rattle.hp_exact.proofs.Waking.{waking, IsWoken, asleep_row, wakes_row}
+use Rattle.hp_exact.proofs.Rows.{newest_past, reads_row, stays_row, reported_still, Unwritten, other_unwritten}
+use Rattle.hp_exact.proofs.Waking.{waking, IsWoken, asleep_row, wakes_row, waking_adds, waking_called, waking_from}
 use Rattle.hp_exact.proofs.Invariant.{Released, Latched, is_calling, must_latch, Agrees, Chosen, Reported, last_read, Undisturbed, Wakes, Parts, Invariant}
-
--- in SMM by address, and by mode
-stands_of : (c : Cpu) (a : ℕ) → smm_address c ≡ Some a → stands_in_smm c ≡ true
-stands_of c a is = by_presence c.present c.mode is
-  where
-    by_mode : (m : Mode) → address_in m ≡ Some a → is_in_smm m ≡ true
-    by_mode Wait e = absurd cc
-    by_mode (Running g) e = absurd cc
-    by_mode (Halted g) e = absurd cc
-    by_mode (Smm x) e = refl
-
-    by_presence : (b : Bool) (m : Mode) → (cond b (address_in m) None) ≡ Some a → (b && is_in_smm m) ≡ true
-    by_presence true m e = by_mode m e
-    by_presence false m e = absurd cc
-
-pub none_outside : (c : Cpu) → is_in_smm c.mode ≡ false → smm_address c ≡ None
-none_outside c out = by_presence c.present c.mode out
-  where
-    by_mode : (m : Mode) → is_in_smm m ≡ false → address_in m ≡ None
-    by_mode Wait e = refl
-    by_mode (Running g) e = refl
-    by_mode (Halted g) e = refl
-    by_mode (Smm x) e = absurd cc
-
-    by_presence : (b : Bool) (m : Mode) → is_in_smm m ≡ false → cond b (address_in m) None ≡ None
-    by_presence true m e = by_mode m e
-    by_presence false m e = refl
-
-pub outside_in : (m : Mode) → is_outside m ≡ true → is_in_smm m ≡ false
-outside_in Wait e = absurd cc
-outside_in (Running g) e = refl
-outside_in (Halted g) e = refl
-outside_in (Smm x) e = absurd cc
-
-running_outside : (m : Mode) → is_running m ≡ true → is_outside m ≡ true
-running_outside Wait e = absurd cc
-running_outside (Running g) e = refl
-running_outside (Halted g) e = absurd cc
-running_outside (Smm x) e = absurd cc
-
-pub present_go : (smbase : ℕ) (n : Next) (c : Cpu) → (go_on smbase n c).present ≡ c.present
-present_go smbase n c = pick (λ (d : Cpu). d.present ≡ c.present) (stands_in_smm c) (moved (address_of_label smbase n.label) n.base c) c refl refl
-
-is_other : (k : ℕ) → k ≢ 0 → (k == 0) ≡ false
-is_other k n = grind (arith, nat_tests)
+use Rattle.hp_exact.proofs.InSmm.{address_alike, none_outside, outside_in, present_go, running_outside, set_first, stands_of}
 
 one_label : (l m : Label) → same_label l m ≡ true → l ≡ m
 one_label l m e = marked_label l m (eqb-true (mark_of l) (mark_of m) e)
-
-waking_called : (l : Label) → is_among l waking ≡ true → is_after_broadcast l ≡ true
-waking_called N4 e = refl
-waking_called N5 e = refl
-waking_called N6 e = refl
-waking_called _ e = absurd cc
-
-waking_adds : (l : Label) → is_among l waking ≡ true → is_among l adding ≡ true
-waking_adds N4 e = refl
-waking_adds N5 e = refl
-waking_adds N6 e = refl
-waking_adds _ e = absurd cc
-
--- other handlers don't write the register block
-abbrev pub Unwritten : Option Want → Type 0
-Unwritten None = Unit {0}
-Unwritten (Some (want.Do a)) = writes_block a ≡ false
-Unwritten (Some (want.Tell o)) = Unit {0}
-Unwritten (Some want.Resume) = Unit {0}
-
-pub other_unwritten : (p : Platform) (s : State) (k : ℕ) (l : Label) → part_of l ≢ Monarchs → Unwritten (want_at (layout_of p) (seat p s k) s.monarch l)
-other_unwritten p s k F1 other = refl
-other_unwritten p s k F2 other = refl
-other_unwritten p s k F3 other = refl
-other_unwritten p s k F4 other = refl
-other_unwritten p s k F5 other = refl
-other_unwritten p s k F6 other = tt
-other_unwritten p s k R1 other = refl
-other_unwritten p s k R2 other = refl
-other_unwritten p s k R3 other = refl
-other_unwritten p s k R4 other = refl
-other_unwritten p s k R5 other = tt
-other_unwritten p s k R6 other = refl
-other_unwritten p s k _ other = absurd (other refl)
-
--- the labels that lead to N4, N5 and N6
-waking_from : (l : Label) → is_among l (N3 ∷ N4 ∷ N5 ∷ []) ≡ true → (is_after_broadcast l ≡ true) × (is_among l adding ≡ true)
-waking_from N3 e = (refl, refl)
-waking_from N4 e = (refl, refl)
-waking_from N5 e = (refl, refl)
-waking_from _ e = absurd cc
-
--- the new item is at the first place
-pub set_first : (cs : List Cpu) (d : Cpu) → (cpu_at cs 0).present ≡ true → cpu_at (slice_set cs 0 d) 0 ≡ d
-set_first [] d e = absurd cc
-set_first (c ∷ cs) d e = refl
-
-address_alike : (c d : Cpu) → Alike c d → smm_address d ≡ smm_address c
-address_alike c d a = rw (a.present, a.mode) refl
 
 module _ (p : Platform) (sound : Sound p) (ids : Ids p) (past : List Transition) (s : State) (stood : IsStood p s) (h : Invariant p past s) where
   abbrev Follows : Entry → State → Type 0

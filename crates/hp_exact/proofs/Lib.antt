@@ -1,6 +1,7 @@
 pub mod Stood
 pub mod Stepping
 pub mod Account
+pub mod Refusals
 pub mod Monarchs
 pub mod Invariant
 pub mod Reports
@@ -17,13 +18,15 @@ pub mod Reading
 pub mod Reporting
 pub mod Rows
 pub mod Waking
+pub mod InSmm
 pub mod Keeping
 pub mod Beginning
 pub mod Quiet
 pub mod Truth
 pub mod Losing
+pub mod OwnEntries
+pub mod EjectedSlots
 pub mod Lost
-pub mod Pending
 pub mod AddingTrail
 pub mod AddingRows
 pub mod AddingBytes
@@ -34,6 +37,7 @@ pub mod Ejecting
 pub mod EjectReads
 pub mod EjectTold
 pub mod Parting
+pub mod Departures
 pub mod PartSteps
 pub mod EjectsLaw
 pub mod Exactness

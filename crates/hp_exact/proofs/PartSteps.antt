@@ -1,12 +1,9 @@
 -- An eject's processor has parked in its tile before it is ejected, and it alone leaves: over each kind of step.
 use Rattle.std.proofs.Common.{ℕ, zero, suc, ◌≡◌, ◌≢◌, ◌<◌, ◌≤◌, ◌==◌, ◌⊎◌, inl, inr, Bool, true, false, cond, not, ◌&&◌, ◌||◌, nat_lt, List, [], ◌∷◌, length, slice_set, Some, None, refl, sym, ap, subst, ◌∙◌, arith, get_or-set_other}
-use Rattle.std.specs.Prelude.{slice_index_or, filter}
 use Rattle.std.proofs.lemmas.Bool.{and_parts, and_from, eqb-true}
 use Rattle.std.proofs.lemmas.Bool.Decides.{nat_tests}
 use Rattle.std.proofs.lemmas.Option.{same_Some}
 use Rattle.hp_model.specs.declared.platforms.Platform.{Platform}
-use Rattle.hp_model.specs.declared.processors.Mode.{Mode}
-use Rattle.hp_model.specs.declared.processors.Mode.TheVariants.{Wait, Running, Halted, Smm}
 use Rattle.hp_model.specs.declared.processors.Cpu.{Cpu}
 use Rattle.hp_model.specs.declared.accesses.Access.{Access}
 use Rattle.hp_model.specs.declared.accesses.Access.TheVariants.{Load}
@@ -20,8 +17,8 @@ use Rattle.hp_model.specs.declared.entries.Entry.{Entry}
 use Rattle.hp_model.specs.Platform.{count_of, apic_of, tile, is_late}
 use Rattle.hp_model.specs.Memory.{Write, byte_at, value_from}
 use Rattle.hp_model.specs.View.{is_hole, ones}
-use Rattle.hp_model.specs.Cpu.{absent, inserted, cpu_at, is_outside, is_in_smm, address_in, is_free, smm_address, may_take_smi, take_smi, may_take_init, take_init, resumed, moved}
-use Rattle.hp_model.specs.Block.{Block, Slot, slot_at, no_slot, controlled, write_control, block_write, ejected_by}
+use Rattle.hp_model.specs.Cpu.{absent, inserted, cpu_at, is_outside, is_in_smm, is_free, smm_address, may_take_smi, take_smi, may_take_init, take_init, resumed, moved}
+use Rattle.hp_model.specs.Block.{slot_at}
 use Rattle.hp_model.specs.Boot.{Stage, value_in}
 use Rattle.hp_model.specs.Labels.{Part, First, Relocated, Monarch as Monarchs, part_of, index_of, same_label}
 use Rattle.hp_model.specs.SharedBytes.{layout_of, tile_in, parked_byte, release_byte}
@@ -31,10 +28,10 @@ use Rattle.hp_model.specs.Monarch.{Monarch, restarted}
 use Rattle.hp_model.specs.Handlers.{Seat, Next, want_at, next_at, runs_at, is_tile, address_of_label, slot_at as slot_of_tile}
 use Rattle.hp_model.specs.Step.{State, at, set_cpu, seat, access_effect, answer_to, insert, request_removal, enter_smm, leave_smm, go_on, stands_in_smm, with_session, is_after_broadcast, writes_block, same_outcome}
 use Rattle.hp_model.specs.Runs.{run_on}
-use Rattle.hp_model.specs.Transitions.{Transition, places, has_left, left_in}
+use Rattle.hp_model.specs.Transitions.{Transition, has_left, left_in}
 use Rattle.hp_model.specs.Account.{is_at}
 use Rattle.hp_model.specs.Sessions.{bounds_session, tells, ends_outcome}
-use Rattle.hp_model.specs.Outcomes.{Departure, own_of, departures, is_eject_of, is_only, is_none}
+use Rattle.hp_model.specs.Outcomes.{own_of, departures, is_eject_of, is_only}
 use Rattle.hp_model.proofs.AtEach.{made}
 use Rattle.hp_sealed.specs.Left.{Sound}
 use Rattle.hp_sealed.specs.Sealed.{Placed, IsAtSlot, is_other_tile}
@@ -44,110 +41,29 @@ use Rattle.hp_sealed.proofs.Stay.{at_set}
 use Rattle.hp_safety.proofs.Marked.{at_none, at_monarch, at_other, same_index}
 use Rattle.hp_safety.proofs.Placing.{place_same}
 use Rattle.hp_exact.proofs.Stood.{IsStood}
-use Rattle.hp_exact.proofs.Stepping.{AtMonarch, AtOther, Kinds, entry_by, ends, led_on, by_kind}
+use Rattle.hp_exact.proofs.Stepping.{AtMonarch, AtOther, Kinds, entry_by, ends, led_on, by_kind, is_other}
 use Rattle.hp_exact.proofs.Monarchs.{is_among, ejecting, next_other}
 use Rattle.hp_exact.proofs.Naming.{Ids, one_cpu}
 use Rattle.hp_exact.proofs.Hits.{Alike, AllAlike, row_alike, keeps_acted}
 use Rattle.hp_exact.proofs.Calling.{aside}
-use Rattle.hp_exact.proofs.Agreeing.{present_kept}
+use Rattle.hp_exact.proofs.Agreeing.{present_kept, gone_at}
 use Rattle.hp_exact.proofs.Releasing.{slot_small, kept_called}
 use Rattle.hp_exact.proofs.Rows.{access_of, at_want, stays_row}
-use Rattle.hp_exact.proofs.Keeping.{none_outside, outside_in, was_quiet, present_set, present_go, Unwritten, other_unwritten}
+use Rattle.hp_exact.proofs.Keeping.{was_quiet, present_set}
+use Rattle.hp_exact.proofs.Rows.{Unwritten, other_unwritten}
+use Rattle.hp_exact.proofs.InSmm.{none_outside, outside_in, present_go, smm_there}
 use Rattle.hp_exact.proofs.Losing.{pending, Losses}
 use Rattle.hp_exact.proofs.Invariant.{Invariant}
-use Rattle.hp_exact.proofs.EjectReads.{own_more, elsewhere, is_collects, by_label, ejecting_goes, marks_other, left_outside, left_entering, loads_parked, cleared, map_leaves}
+use Rattle.hp_exact.proofs.EjectReads.{marks_other, left_outside, left_entering, loads_parked, cleared, map_leaves}
+use Rattle.hp_exact.proofs.OwnEntries.{ejecting_goes, own_more, elsewhere, is_collects, by_label}
 use Rattle.hp_exact.proofs.Parting.{looping, Parked, Seated, Waits, Alone, Gone, PartsAt, Does, parts_row}
-
--- who leaves in a transition
-filter_below : (f : ℕ → Bool) (k : ℕ) → ((j : ℕ) → j ≢ k → f j ≡ false) → (n : ℕ) → n ≤ k → filter f (places n) ≡ []
-unfolding places
-filter_below f k other zero less = refl
-filter_below f k other (suc n) less = let here : f n ≡ false = other n (λ e. omega (arith, e, less)) in rw here (filter_below f k other n (omega (arith, less)))
-
-filter_one : (f : ℕ → Bool) (k : ℕ) → ((j : ℕ) → j ≢ k → f j ≡ false) → f k ≡ true → (n : ℕ) → k < n → filter f (places n) ≡ k ∷ []
-unfolding places
-filter_one f k other there zero less = absurd (omega (arith, less))
-filter_one f k other there (suc n) less = by_test (n == k) refl (λ more. filter_one f k other there n more)
-  where
-    same : (i j : ℕ) → (i == j) ≡ true → i ≡ j
-    same i j e = grind (arith, nat_tests)
-
-    unlike : (i j : ℕ) → (i == j) ≡ false → i ≢ j
-    unlike i j e f = grind (arith, nat_tests)
-
-    by_test : (b : Bool) → (n == k) ≡ b → (k < n → filter f (places n) ≡ k ∷ []) → filter f (n ∷ places n) ≡ k ∷ []
-    by_test true is more =
-        let e = same n k is in
-        let here : f n ≡ true = subst (λ j. f j ≡ true) (sym e) there in
-        let rest = filter_below f k other n (omega (arith, e)) in
-        rw (here, rest) (ap (λ j. j ∷ []) e)
-    by_test false is more = let n_other = unlike n k is in let here : f n ≡ false = other n n_other in rw here (more (omega (arith, less, n_other)))
-
-filter_none : (f : ℕ → Bool) → ((k : ℕ) → f k ≡ false) → (xs : List ℕ) → filter f xs ≡ []
-filter_none f none [] = refl
-filter_none f none (x ∷ xs) = rw (none x) (filter_none f none xs)
-
-stays_there : (a b : Bool) → (a ≡ true → b ≡ true) → (a && not b) ≡ false
-stays_there true b h = rw (h refl) refl
-stays_there false b h = refl
-
-departures_same : (p : Platform) (x : Transition) (own : List Transition) → ((k : ℕ) → (at x.before k).present ≡ true → (at x.after k).present ≡ true) → departures p (x ∷ own) ≡ departures p own
-departures_same p x own stays =
-    let left : left_in p x ≡ [] = filter_none (has_left x) (λ k. stays_there (at x.before k).present (at x.after k).present (stays k)) (places (count_of p)) in
-    rw left refl
-
-none_is : (ds : List Departure) → is_none ds ≡ true → ds ≡ []
-none_is [] e = refl
-none_is (d ∷ ds) e = absurd cc
-
--- control 8 ejects the selected processor
-slot_there : (ss : List Slot) (k : ℕ) (t : Slot) → k < length ss → slice_index_or (slice_set ss k t) k no_slot ≡ t
-slot_there [] k t less = absurd (omega (arith, less))
-slot_there (s ∷ ss) zero t less = refl
-slot_there (s ∷ ss) (suc k) t less = slot_there ss k t (omega (arith, less))
-
-is_0 : (k : ℕ) → k ≢ 0 → (k == 0) ≡ false
-is_0 k n = grind (arith, nat_tests)
-
-ejected_from : (b d : Block) → (slot_at b b.selector).enabled ≡ true → (slot_at d b.selector).enabled ≡ false → ejected_by b d ≡ Some b.selector
-ejected_from b d on off = rw (on, off) refl
-
-eject_gone : (b : Block) → b.modern ≡ true → b.selector < length b.slots → b.selector ≢ 0 → (slot_at b b.selector).enabled ≡ true → ejected_by b (block_write b 4 1 8) ≡ Some b.selector
-eject_gone b modern less other enabled =
-    let chosen = selected b.selector (length b.slots) less in
-    let first = is_0 b.selector other in
-    let slot = slot_there b.slots b.selector (controlled (slot_at b b.selector) (b.selector == 0) 8) less in
-    let gone : (controlled (slot_at b b.selector) (b.selector == 0) 8).enabled ≡ false = rw (first, enabled) refl in
-    let written : block_write b 4 1 8 ≡ write_control b 8 = rw (modern, chosen) refl in
-    let off : (slot_at (block_write b 4 1 8) b.selector).enabled ≡ false = ap (λ (c : Block). (slot_at c b.selector).enabled) written ∙ (ap (λ (t : Slot). t.enabled) slot ∙ gone) in
-    ejected_from b (block_write b 4 1 8) enabled off
-  where
-    selected : (a n : ℕ) → a < n → nat_lt a n ≡ true
-    selected a n less = grind (arith, nat_tests)
-
-gone_at : (cs : List Cpu) (k : ℕ) → (cpu_at (slice_set cs k absent) k).present ≡ false
-gone_at [] k = refl
-gone_at (c ∷ cs) zero = refl
-gone_at (c ∷ cs) (suc k) = gone_at cs k
+use Rattle.hp_exact.proofs.Departures.{departures_same, filter_one, none_is, stays_there}
+use Rattle.hp_exact.proofs.EjectedSlots.{eject_gone}
 
 set_there : (cs : List Cpu) (k : ℕ) (d : Cpu) → (cpu_at cs k).present ≡ true → cpu_at (slice_set cs k d) k ≡ d
 set_there [] k d e = absurd cc
 set_there (c ∷ cs) zero d e = refl
 set_there (c ∷ cs) (suc k) d e = set_there cs k d e
-
--- whoever has an address in SMM
-smm_there : (c : Cpu) (a : ℕ) → smm_address c ≡ Some a → (c.present ≡ true) × (is_in_smm c.mode ≡ true)
-smm_there c a e = by_presence c.present c.mode e
-  where
-    by_mode : (m : Mode) → address_in m ≡ Some a → is_in_smm m ≡ true
-    by_mode Wait f = absurd cc
-    by_mode (Running g) f = absurd cc
-    by_mode (Halted g) f = absurd cc
-    by_mode (Smm x) f = refl
-
-    by_presence : (b : Bool) (m : Mode) → (cond b (address_in m) None) ≡ Some a → (b ≡ true) × (is_in_smm m ≡ true)
-    by_presence true m f = (refl, by_mode m f)
-    by_presence false m f = absurd cc
 
 -- a parked processor
 parked_stays : (p : Platform) (slot : ℕ) (c d : Cpu) → d.present ≡ c.present → d.smbase ≡ c.smbase → smm_address d ≡ smm_address c → Parked p slot c → Parked p slot d
@@ -406,7 +322,7 @@ module _ (p : Platform) (fit : Sound p) (ids : Ids p) (past : List Transition) (
 
   returns : (k : ℕ) (l : Label) (g : Stage) → AtOther p s k l → (l ≡ F6) ⊎ (l ≡ R5) → Follows (entry_by s (Resume k)) (ends (leave_smm k s) g s.disturbed)
   returns k l g here where_is placed =
-      same_parts (entry_by s (Resume k)) (ends (leave_smm k s) g s.disturbed) (λ m part. at_other p l m (entry_by s (Resume k)) k (at s k).smbase fit here.runs here.part here.place part) refl (is_0 k here.other) refl (λ e. e)
+      same_parts (entry_by s (Resume k)) (ends (leave_smm k s) g s.disturbed) (λ m part. at_other p l m (entry_by s (Resume k)) k (at s k).smbase fit here.runs here.part here.place part) refl (is_other k here.other) refl (λ e. e)
       (λ calm. present_set p fit ids past s standing h k d refl)
       (λ there calm parked. set_aside k d (λ z. leaves where_is (loops_of k l here (subst (λ i. Parked p slot (at s i)) z parked))) parked) (λ there calm seated one. inl one)
     where

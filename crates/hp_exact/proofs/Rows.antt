@@ -11,18 +11,18 @@ use Rattle.hp_model.specs.declared.accesses.Access.TheVariants.{Nop}
 use Rattle.hp_model.specs.declared.accesses.Want.{Want}
 use Rattle.hp_model.specs.declared.accesses.Want.TheVariants as want
 use Rattle.hp_model.specs.declared.labels.Label.{Label}
-use Rattle.hp_model.specs.declared.labels.Label.TheVariants.{F1, F2, F3, F4, F5, F6, R1, R2, R3, R4, R5, R6, S0, S1, S2, S3, S4, C1, C2, C3, C4, C5, C6, NB, N0, N1, N2, N3, N4, N5, N6, N7, N8a, N8b, N9, N10, N11, E0, E1, E2, E3, E4a, E4b, E4c, E4d, E4e, E4f, E4g, E4h, T, E5, E6, E7}
+use Rattle.hp_model.specs.declared.labels.Label.TheVariants.{F1, F2, F3, F4, F5, F6, R1, R2, R3, R4, R5, R6, C1, C2, C3, C4, C5, C6, N5, N6, E4a, E4b, T, E7}
 use Rattle.hp_model.specs.Platform.{count_of, apic_of, high_half}
 use Rattle.hp_model.specs.Cpu.{absent, cpu_at}
 use Rattle.hp_model.specs.Block.{Block, slot_at, status, block_write, ejected_by}
 use Rattle.hp_model.specs.Interrupts.{decoded}
 use Rattle.hp_model.specs.Boot.{value_in}
-use Rattle.hp_model.specs.Labels.{index_of, mark_of, same_label}
+use Rattle.hp_model.specs.Labels.{index_of, mark_of, same_label, Monarch as Monarchs, part_of}
 use Rattle.hp_model.specs.SharedBytes.{layout_of}
 use Rattle.hp_model.specs.Collection.{Report}
 use Rattle.hp_model.specs.Monarch.{Monarch}
 use Rattle.hp_model.specs.Handlers.{Seat, want_at}
-use Rattle.hp_model.specs.Step.{State, at, seat, answer_to, access_effect, without_ejected, is_after_broadcast}
+use Rattle.hp_model.specs.Step.{State, at, seat, answer_to, access_effect, without_ejected, is_after_broadcast, writes_block}
 use Rattle.hp_model.specs.Transitions.{Transition, newest}
 use Rattle.hp_model.specs.Account.{is_at}
 use Rattle.hp_sealed.specs.Left.{Sound}
@@ -203,3 +203,25 @@ reported_still p cs ds r here h = record {
     by_label : (b : Bool) → is_among r.label (E4b ∷ []) ≡ b → is_reporting r.label ≡ true → list_all (is_there ds) (drop r.taken r.collection.reports) ≡ true
     by_label true is e = all_two (is_there cs) (λ t. nat_lt r.eject.cpu t.cpu) (is_there ds) (λ t a b. still t (λ _. above r.eject.cpu t.cpu b) a) (drop r.taken r.collection.reports) (h.there e) (h.ejects (ejects is))
     by_label false is e = all_same (is_there cs) (is_there ds) (λ t a. still t (λ f. no_more _ is f) a) (drop r.taken r.collection.reports) (h.there e)
+
+-- other handlers don't write the register block
+abbrev pub Unwritten : Option Want → Type 0
+Unwritten None = Unit {0}
+Unwritten (Some (want.Do a)) = writes_block a ≡ false
+Unwritten (Some (want.Tell o)) = Unit {0}
+Unwritten (Some want.Resume) = Unit {0}
+
+pub other_unwritten : (p : Platform) (s : State) (k : ℕ) (l : Label) → part_of l ≢ Monarchs → Unwritten (want_at (layout_of p) (seat p s k) s.monarch l)
+other_unwritten p s k F1 other = refl
+other_unwritten p s k F2 other = refl
+other_unwritten p s k F3 other = refl
+other_unwritten p s k F4 other = refl
+other_unwritten p s k F5 other = refl
+other_unwritten p s k F6 other = tt
+other_unwritten p s k R1 other = refl
+other_unwritten p s k R2 other = refl
+other_unwritten p s k R3 other = refl
+other_unwritten p s k R4 other = refl
+other_unwritten p s k R5 other = tt
+other_unwritten p s k R6 other = refl
+other_unwritten p s k _ other = absurd (other refl)

@@ -115,7 +115,7 @@ pub record Kinds (p : Platform) (s : State) (P : Entry → State → Type 0) : T
 abbrev Same : ℕ → ℕ → Type 0
 Same i j = i ≡ j
 
-is_other : (k : ℕ) → k ≢ 0 → (k == 0) ≡ false
+pub is_other : (k : ℕ) → k ≢ 0 → (k == 0) ≡ false
 is_other k n = grind (arith, nat_tests)
 
 module _ (p : Platform) (s : State) (P : Entry → State → Type 0) (h : IsStood p s) (m : Kinds p s P) where

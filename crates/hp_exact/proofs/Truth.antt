@@ -34,7 +34,7 @@ use Rattle.hp_exact.proofs.Naming.{ids_of, is_own-is}
 use Rattle.hp_exact.proofs.Reports.{rises_last, drop_last}
 use Rattle.hp_exact.proofs.Tying.{row_account, account_row, one_more}
 use Rattle.hp_exact.proofs.Rows.{reads_row}
-use Rattle.hp_exact.proofs.Keeping.{none_outside, outside_in}
+use Rattle.hp_exact.proofs.InSmm.{none_outside, outside_in}
 use Rattle.hp_exact.proofs.Invariant.{last_read, Invariant}
 use Rattle.hp_exact.proofs.Beginning.{Whole, whole_begins, whole_goes, outside_before}
 use Rattle.hp_exact.proofs.Quiet.{handed_of}

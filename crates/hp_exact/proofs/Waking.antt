@@ -11,7 +11,7 @@ use Rattle.hp_model.specs.declared.accesses.Access.{Access}
 use Rattle.hp_model.specs.declared.accesses.Want.{Want}
 use Rattle.hp_model.specs.declared.accesses.Want.TheVariants as want
 use Rattle.hp_model.specs.declared.labels.Label.{Label}
-use Rattle.hp_model.specs.declared.labels.Label.TheVariants.{F1, F2, F3, F4, F5, F6, R1, R2, R3, R4, R5, R6, S0, S1, S2, S3, S4, C1, C2, C3, C4, C5, C6, NB, N0, N1, N2, N3, N4, N5, N6, N7, N8a, N8b, N9, N10, N11, E0, E1, E2, E3, E4a, E4b, E4c, E4d, E4e, E4f, E4g, E4h, T, E5, E6, E7}
+use Rattle.hp_model.specs.declared.labels.Label.TheVariants.{F1, F2, F3, F4, F5, F6, R1, R2, R3, R4, R5, R6, S0, S1, S2, S3, S4, C1, C3, C4, C5, C6, N3, N4, N5, N6, N8a, N8b, N9, N11, E2, E4b, E4c, E4f, E4g, T, E5, E6, E7}
 use Rattle.hp_model.specs.Platform.{apic_of, high_half}
 use Rattle.hp_model.specs.Cpu.{is_waiting, hit, started}
 use Rattle.hp_model.specs.Interrupts.{destination, is_target}
@@ -22,9 +22,9 @@ use Rattle.hp_model.specs.Collection.{Collection, CollectsAt, CollectedAll, coll
 use Rattle.hp_model.specs.Monarch.{Monarch, at_label, look_at, noted, next_report, collected, told, eject_led, led}
 use Rattle.hp_model.specs.Add.{is_last_look}
 use Rattle.hp_model.specs.Handlers.{Seat, want_at, next_at}
-use Rattle.hp_model.specs.Step.{State, at, access_effect}
+use Rattle.hp_model.specs.Step.{State, at, access_effect, is_after_broadcast}
 use Rattle.hp_sealed.proofs.Left.{pick}
-use Rattle.hp_exact.proofs.Monarchs.{is_among, next_by}
+use Rattle.hp_exact.proofs.Monarchs.{is_among, next_by, adding}
 use Rattle.hp_exact.proofs.Naming.{Ids, aimed, Own}
 use Rattle.hp_exact.proofs.Hits.{Alike, struck, strikes, alike_each}
 
@@ -134,3 +134,22 @@ module _ (p : Platform) (s : State) (q : Seat) (ids : Ids p) (own : Own p (recor
       by_label N4 e g = wakes_init (g refl)
       by_label N5 e g = wakes_start (g refl)
       by_label _ e g = absurd cc
+
+pub waking_called : (l : Label) → is_among l waking ≡ true → is_after_broadcast l ≡ true
+waking_called N4 e = refl
+waking_called N5 e = refl
+waking_called N6 e = refl
+waking_called _ e = absurd cc
+
+pub waking_adds : (l : Label) → is_among l waking ≡ true → is_among l adding ≡ true
+waking_adds N4 e = refl
+waking_adds N5 e = refl
+waking_adds N6 e = refl
+waking_adds _ e = absurd cc
+
+-- the labels that lead to N4, N5 and N6
+pub waking_from : (l : Label) → is_among l (N3 ∷ N4 ∷ N5 ∷ []) ≡ true → (is_after_broadcast l ≡ true) × (is_among l adding ≡ true)
+waking_from N3 e = (refl, refl)
+waking_from N4 e = (refl, refl)
+waking_from N5 e = (refl, refl)
+waking_from _ e = absurd cc
