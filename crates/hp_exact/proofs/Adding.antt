@@ -14,7 +14,7 @@ use Rattle.hp_model.specs.declared.entries.Event.TheVariants.{Insert, Remove, Do
 use Rattle.hp_model.specs.declared.entries.Entry.{Entry}
 use Rattle.hp_model.specs.Platform.{count_of, tile, apic_of, is_late}
 use Rattle.hp_model.specs.Memory.{Write, byte_at}
-use Rattle.hp_model.specs.Cpu.{is_in_smm, is_outside, is_free, smm_address, may_take_smi, may_take_init, take_init}
+use Rattle.hp_model.specs.Cpu.{is_in_smm, is_outside, is_free, smm_address, may_take_smi, take_init}
 use Rattle.hp_model.specs.Boot.{Stage, value_in}
 use Rattle.hp_model.specs.Labels.{Monarch as Monarchs, part_of, index_of, same_label}
 use Rattle.hp_model.specs.View.{is_hole}
@@ -40,15 +40,17 @@ use Rattle.hp_safety.proofs.Named.{Accounted}
 use Rattle.hp_safety.proofs.Runs.{IsHanded}
 use Rattle.hp_exact.proofs.Stood.{IsStood}
 use Rattle.hp_exact.proofs.Stepping.{AtMonarch, AtOther, Kinds, entry_by, ends, led_on, by_kind}
-use Rattle.hp_exact.proofs.InSmm.{none_outside, outside_in}
+use Rattle.hp_exact.proofs.InSmm.{none_outside, init_outside}
 use Rattle.hp_exact.proofs.AddingTrail.{own, before, trail_of, no_trail, trail_after, trail_none, trail_made, trail_still, own_more, own_ends, before_more, before_ends}
-use Rattle.hp_exact.proofs.AddingBytes.{IsShared, Keeps, zero_here, read_here, reach_flag, reach_arrived, bits_row, bits_outside, bits_enters, same_outside, same_enters}
+use Rattle.hp_exact.proofs.AddingBytes.{IsShared, Keeps, read_here, reach_flag, reach_arrived, bits_row, bits_outside, bits_enters, same_outside, same_enters}
+use Rattle.hp_exact.proofs.ByteStores.{zero_here}
 use Rattle.hp_exact.proofs.Monarchs.{is_among, adding, next_other}
 use Rattle.hp_exact.proofs.Naming.{Ids}
 use Rattle.hp_exact.proofs.Rows.{is_one}
 use Rattle.hp_exact.proofs.Invariant.{Invariant}
 use Rattle.hp_exact.proofs.AddingHome.{IsHome, stays_home, lands}
 use Rattle.hp_exact.proofs.AddingRows.{IsBit, RunsBy, AddAt, AddTied, is_ending, Deeds, row_add, add_resting, add_still, apic_stays, ending_bound, adding_slot, adding_needs}
+use Rattle.hp_safety.proofs.Entering.{may_outside}
 
 -- the running add and what its outcome's entries show
 abbrev pub Shown : Platform → List Entry → List Write → (ℕ → ℕ → Type 0) → Monarch → Type 0
@@ -254,12 +256,6 @@ module _ (p : Platform) (sound : Sound p) (polled : 1 ≤ p.polls) (past : List 
   is_first : (k : ℕ) → k ≢ 0 → (k == 0) ≡ false
   is_first k n = grind (arith, nat_tests)
 
-  out_of : (k : ℕ) → may_take_smi (at s k) ≡ true → smm_address (at s k) ≡ None
-  out_of k may = none_outside (at s k) (outside_in (at s k).mode (and_parts (at s k).smi (is_outside (at s k).mode) (and_parts (at s k).present ((at s k).smi && is_outside (at s k).mode) may).1).1)
-
-  out_init : (k : ℕ) → may_take_init (at s k) ≡ true → smm_address (at s k) ≡ None
-  out_init k may = none_outside (at s k) (outside_in (at s k).mode (and_parts (at s k).init (is_outside (at s k).mode) (and_parts (not (at s k).smi) ((at s k).init && is_outside (at s k).mode) (and_parts (at s k).present (not (at s k).smi && ((at s k).init && is_outside (at s k).mode)) may).1).1).1)
-
   still : (x : ℕ) → IsShared p x → Keeps x s.writes s.writes
   still x here = inl refl
 
@@ -294,10 +290,10 @@ module _ (p : Platform) (sound : Sound p) (polled : 1 ≤ p.polls) (past : List 
       to b = ends (cond b (record (enter_smm k s) { monarch = restarted s.monarch }) (enter_smm k s)) g s.disturbed
 
       begins : (k == 0) ≡ true → Goes e (to true)
-      begins is carries = ended e (enter_smm k s).writes (IsHome p (to true)) (restarted r) (let none : (m : Label) → is_at p m e ≡ false = λ m. at_none p m e (out_of k may) in rw (none C1, none C2, none C3, none C4, none C5, none C6, is) refl) tt
+      begins is carries = ended e (enter_smm k s).writes (IsHome p (to true)) (restarted r) (let none : (m : Label) → is_at p m e ≡ false = λ m. at_none p m e (may_outside (at s k) may) in rw (none C1, none C2, none C3, none C4, none C5, none C6, is) refl) tt
 
       comes : (k == 0) ≡ false → Goes e (to false)
-      comes is = unseen e (enter_smm k s).writes (IsHome p (to false)) (λ m part. at_none p m e (out_of k may)) refl (rw is refl) refl (λ x here. bits_enters p s k x sound stood present here)
+      comes is = unseen e (enter_smm k s).writes (IsHome p (to false)) (λ m part. at_none p m e (may_outside (at s k) may)) refl (rw is refl) refl (λ x here. bits_enters p s k x sound stood present here)
           (λ looks one. inl (sym (same_enters p s k y_add sound stood present (arrived_shared (adds_there r.label looks))) ∙ one))
 
       by_first : (b : Bool) → (k == 0) ≡ b → Goes e (ends (with_session k (enter_smm k s)) g s.disturbed)
@@ -331,7 +327,7 @@ module _ (p : Platform) (sound : Sound p) (polled : 1 ≤ p.polls) (past : List 
     monarchs = shows_row;
     others = shows_other;
     enters = shows_enters;
-    inits = λ k g may. unseen (entry_by s (TakeInit k)) s.writes (IsHome p (ends (set_cpu k (take_init (at s k)) s) g s.disturbed)) (λ m part. at_none p m (entry_by s (TakeInit k)) (out_init k may)) refl refl refl still same_lands;
+    inits = λ k g may. unseen (entry_by s (TakeInit k)) s.writes (IsHome p (ends (set_cpu k (take_init (at s k)) s) g s.disturbed)) (λ m part. at_none p m (entry_by s (TakeInit k)) (init_outside (at s k) may)) refl refl refl still same_lands;
     rests = λ g here carries. ended (entry_by s (Resume 0)) s.writes (IsHome p (ends (leave_smm 0 s) g s.disturbed)) r
         (let none : (m : Label) → part_of m ≡ Monarchs → is_at p m (entry_by s (Resume 0)) ≡ (37 == index_of m) = λ m part. at_monarch p E7 m (entry_by s (Resume 0)) (tile p 0) refl here.place part in rw (none C1 refl, none C2 refl, none C3 refl, none C4 refl, none C5 refl, none C6 refl) refl)
         (subst (AddAt (layout_of p) no_trail (bound p (entry_by s (Resume 0) ∷ es)) s.writes (IsHome p (ends (leave_smm 0 s) g s.disturbed)) r) (sym here.label) tt);

@@ -16,7 +16,7 @@ use Rattle.hp_model.specs.Monarch.{Monarch}
 use Rattle.hp_model.specs.Handlers.{Seat, want_at}
 use Rattle.hp_model.specs.Step.{State, at, access_effect, enter_smm}
 use Rattle.hp_sealed.specs.Left.{Sound, Locked}
-use Rattle.hp_sealed.proofs.Left.{pick, length-bytes_of, left_store}
+use Rattle.hp_sealed.proofs.Left.{pick, left_store}
 use Rattle.hp_sealed.proofs.Outside.{left_acted}
 use Rattle.hp_sealed.proofs.Places.{Base, base_based, default_locked, tseg_locked}
 use Rattle.hp_safety.proofs.Saves.{in_reach, left_saved}
@@ -45,18 +45,6 @@ bit_written a x v ws bit = by_cover (covers (write_of a 1 v) x) refl
 
 bit_stored : (l : Locks) (a x v : ℕ) (ws : List Write) → (v ≡ 0) ⊎ (v ≡ 1) → Keeps x ws (stored l true a 1 v ws)
 bit_stored l a x v ws bit = pick (Keeps x ws) (is_hole l true a 1) ws (write_of a 1 v ∷ ws) (inl refl) (bit_written a x v ws bit)
-
--- and at the byte itself
-zero_first : slice_index_or (bytes_of 1 0) 0 0 ≡ 0
-unfolding bytes_of
-zero_first = refl
-
-pub zero_here : (l : Locks) (a : ℕ) (ws : List Write) → is_hole l true a 1 ≡ false → byte_at (stored l true a 1 0 ws) a ≡ 0
-zero_here l a ws reach =
-    let n = length-bytes_of 1 0 in
-    let here : covers (write_of a 1 0) a ≡ true = rw n (grind (arith, nat_tests)) in
-    let place : a - a ≡ 0 = omega arith in
-    rw (reach, here, place) zero_first
 
 -- what is read of it
 read_one : (bytes : ℕ → ℕ) (a : ℕ) → value_from bytes a 1 ≡ bytes a

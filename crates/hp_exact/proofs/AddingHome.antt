@@ -1,19 +1,17 @@
 -- A processor that is at home in a slot: present, at the slot's tile. While the session is undisturbed it stays so, and the add's processor is whoever tells its arrival.
-use Rattle.std.proofs.Common.{ℕ, zero, suc, ◌++◌, ◌≡◌, ◌≢◌, ◌+◌, ◌-◌, ◌*◌, ◌/◌, ◌<◌, ◌≤◌, ◌==◌, ◌⊎◌, inl, inr, Bool, true, false, not, ◌&&◌, ◌||◌, nat_lt, nat_le, List, [], ◌∷◌, slice_set, Option, Some, None, refl, sym, ap, subst, ◌∙◌, arith}
-use Rattle.std.specs.Prelude.{slice_index_or}
+use Rattle.std.proofs.Common.{ℕ, ◌++◌, ◌≡◌, ◌≢◌, ◌+◌, ◌-◌, ◌*◌, ◌/◌, ◌<◌, ◌≤◌, ◌==◌, ◌⊎◌, inl, inr, Bool, true, false, not, ◌&&◌, ◌||◌, nat_lt, nat_le, List, [], ◌∷◌, slice_set, Some, refl, sym, ap, subst, ◌∙◌, arith}
 use Rattle.std.proofs.lemmas.Bool.{and_parts, eqb-true}
 use Rattle.std.proofs.lemmas.Bool.Decides.{nat_tests}
 use Rattle.hp_model.specs.declared.platforms.Platform.{Platform}
 use Rattle.hp_model.specs.declared.processors.Cpu.{Cpu}
 use Rattle.hp_model.specs.declared.accesses.Access.{Access}
-use Rattle.hp_model.specs.declared.accesses.Want.{Want}
 use Rattle.hp_model.specs.declared.accesses.Want.TheVariants as want
 use Rattle.hp_model.specs.declared.labels.Label.{Label}
 use Rattle.hp_model.specs.declared.labels.Label.TheVariants.{F1, F2, F3, F4, F5, F6, R1, R2, R3, R4, R5, R6, N11, E4b, T}
 use Rattle.hp_model.specs.declared.entries.Entry.{Entry}
 use Rattle.hp_model.specs.Platform.{tseg, count_of, tile, apic_of}
-use Rattle.hp_model.specs.Memory.{Write, covers, byte_at, bytes_of, write_of}
-use Rattle.hp_model.specs.View.{Locks, is_hole, loaded, stored}
+use Rattle.hp_model.specs.Memory.{byte_at}
+use Rattle.hp_model.specs.View.{loaded}
 use Rattle.hp_model.specs.Cpu.{inserted, cpu_at, take_smi, take_init, resumed}
 use Rattle.hp_model.specs.Block.{is_in}
 use Rattle.hp_model.specs.Boot.{value_in}
@@ -29,7 +27,7 @@ use Rattle.hp_model.specs.Runs.{run_on}
 use Rattle.hp_model.specs.Transitions.{Transition}
 use Rattle.hp_sealed.specs.Left.{Sound}
 use Rattle.hp_sealed.specs.Sealed.{is_other_tile}
-use Rattle.hp_sealed.proofs.Left.{pick, pick_by, left_store}
+use Rattle.hp_sealed.proofs.Left.{pick, pick_by}
 use Rattle.hp_sealed.proofs.Stay.{at_set}
 use Rattle.hp_sealed.proofs.Places.{slot_of}
 use Rattle.hp_sealed.proofs.Runs.{made as made_by}
@@ -44,11 +42,11 @@ use Rattle.hp_exact.proofs.Stepping.{AtOther, Kinds, by_kind}
 use Rattle.hp_exact.proofs.Monarchs.{is_among}
 use Rattle.hp_exact.proofs.Naming.{Ids, own_is, one_cpu}
 use Rattle.hp_exact.proofs.Agreeing.{present_kept}
-use Rattle.hp_exact.proofs.Rows.{stays_row, is_one}
+use Rattle.hp_exact.proofs.Rows.{stays_row, is_one, Unwritten, other_unwritten}
 use Rattle.hp_exact.proofs.Keeping.{present_set, was_quiet, not_broadcast}
-use Rattle.hp_exact.proofs.Rows.{Unwritten, other_unwritten}
 use Rattle.hp_exact.proofs.InSmm.{present_go}
 use Rattle.hp_exact.proofs.Invariant.{Invariant}
+use Rattle.hp_exact.proofs.ByteStores.{Leaves, zero_stored, elsewhere, other_misses, Bytes}
 
 -- a processor is there, at the tile of a slot, if the session is undisturbed
 abbrev pub IsHome : Platform → State → ℕ → ℕ → Type 0
@@ -125,45 +123,14 @@ module _ (p : Platform) (sound : Sound p) (ids : Ids p) (past : List Transition)
       other F1 e f = cc
       other _ e f = cc
 
--- an arrived byte: rows of other processors leave it, or make it 0, but for R1 in its own slot
-abbrev Loses : ℕ → List Write → List Write → Type 0
-Loses x ws vs = (byte_at vs x ≡ byte_at ws x) ⊎ (byte_at vs x ≡ 0)
-
-zero_at : (i : ℕ) → slice_index_or (bytes_of 1 0) i 0 ≡ 0
-unfolding bytes_of
-zero_at zero = refl
-zero_at (suc i) = refl
-
-zero_written : (a x : ℕ) (ws : List Write) → Loses x ws (write_of a 1 0 ∷ ws)
-zero_written a x ws = by_cover (covers (write_of a 1 0) x) refl
-  where
-    by_cover : (b : Bool) → covers (write_of a 1 0) x ≡ b → Loses x ws (write_of a 1 0 ∷ ws)
-    by_cover true is = inr (rw is (zero_at (x - a)))
-    by_cover false is = inl (rw is refl)
-
-zero_stored : (l : Locks) (a x : ℕ) (ws : List Write) → Loses x ws (stored l true a 1 0 ws)
-zero_stored l a x ws = pick (Loses x ws) (is_hole l true a 1) ws (write_of a 1 0 ∷ ws) (inl refl) (zero_written a x ws)
-
-elsewhere : (l : Locks) (a n v x : ℕ) (ws : List Write) → (nat_le a x && nat_lt x (a + n)) ≡ false → Loses x ws (stored l true a n v ws)
-elsewhere l a n v x ws e = inl ((left_store l true a n v ws x (λ _. e)).byte)
-
 low_misses : (base a n x : ℕ) → 0x800000 ≤ base → a + n ≤ 0x800000 → base ≤ x → (nat_le a x && nat_lt x (a + n)) ≡ false
 low_misses base a n x above low from = grind (arith, nat_tests)
 
 later_misses : (base a x : ℕ) → base + 0x1000 ≤ a → x < base + 0x1000 → (nat_le a x && nat_lt x (a + 1)) ≡ false
 later_misses base a x from to = grind (arith, nat_tests)
 
-other_misses : (a x : ℕ) → x ≢ a → (nat_le a x && nat_lt x (a + 1)) ≡ false
-other_misses a x other = grind (arith, nat_tests)
-
-abbrev Bytes : Platform → ℕ → State → ℕ → Option Want → Type 0
-Bytes p k s x None = Unit {0}
-Bytes p k s x (Some (want.Do a)) = Loses x s.writes (access_effect p k true a s).writes
-Bytes p k s x (Some (want.Tell o)) = Unit {0}
-Bytes p k s x (Some want.Resume) = Unit {0}
-
 row_arrived : (p : Platform) (k : ℕ) (s : State) (q : Seat) (r : Monarch) (x : ℕ) (l : Label) → Sound p → tseg p ≤ x → x < tseg p + 0x1000 → part_of l ≢ Monarchs → (l ≡ R1 → x ≢ arrived_byte (layout_of p) q.slot) → Bytes p k s x (want_at (layout_of p) q r l)
-row_arrived p k s q r x F1 sound from to other own = pick (Loses x s.writes) (loaded s.locks true (byte_at s.writes) gate 8 == q.apic) _ _ (elsewhere s.locks gate 8 closed x s.writes (low_misses (tseg p) gate 8 x sound.above (omega arith) from)) (inl refl)
+row_arrived p k s q r x F1 sound from to other own = pick (Leaves x s.writes) (loaded s.locks true (byte_at s.writes) gate 8 == q.apic) _ _ (elsewhere s.locks gate 8 closed x s.writes (low_misses (tseg p) gate 8 x sound.above (omega arith) from)) (inl refl)
 row_arrived p k s q r x F2 sound from to other own = inl refl
 row_arrived p k s q r x F3 sound from to other own = elsewhere s.locks default_smbase_field 4 q.base x s.writes (low_misses (tseg p) default_smbase_field 4 x sound.above (omega arith) from)
 row_arrived p k s q r x F4 sound from to other own = elsewhere s.locks flag 1 1 x s.writes (low_misses (tseg p) flag 1 x sound.above (omega arith) from)
@@ -229,7 +196,7 @@ module _ (p : Platform) (sound : Sound p) (past : List Transition) (s : State) (
 
       misses : (l ≡ R1 → x ≢ arrived_byte (layout_of p) (seat p s k).slot) → (byte_at s.writes x ≡ 1) ⊎ IsHome p s r.add.cpu r.add.slot
       misses own =
-          let bytes : Loses x s.writes (access_effect p k true a s).writes = subst (Bytes p k s x) wants (row_arrived p k s (seat p s k) r x l sound (omega arith) (let few = sound.few in omega (arith, less, few)) here.part own) in
+          let bytes : Leaves x s.writes (access_effect p k true a s).writes = subst (Bytes p k s x) wants (row_arrived p k s (seat p s k) r x l sound (omega arith) (let few = sound.few in omega (arith, less, few)) here.part own) in
           elim bytes [ inl same ↦ inl (sym same ∙ one) | inr none ↦ absurd (let both = sym none ∙ one in cc) ]
 
       same_place : (base i j : ℕ) → base + i ≡ base + j → (i == j) ≡ true

@@ -37,7 +37,7 @@ use Rattle.hp_safety.proofs.Held.{Knows, knows_first, knows_on, boot_event}
 use Rattle.hp_exact.specs.Adds.{refusals_in, shows_looks, entry_in, shows_entry, slot_in, shows_slot, presence_in, shows_presence, add_in, shows_add}
 use Rattle.hp_exact.proofs.Naming.{ids_of}
 use Rattle.hp_exact.proofs.Invariant.{Invariant}
-use Rattle.hp_exact.proofs.Beginning.{Whole, whole_begins, whole_goes}
+use Rattle.hp_exact.proofs.Wholes.{Whole, whole_begins, whole_goes}
 use Rattle.hp_exact.proofs.AddingHome.{IsHome, in_end}
 use Rattle.hp_exact.proofs.Stood.{stood}
 use Rattle.hp_exact.proofs.Stepping.{AtMonarch, Kinds, by_kind}

@@ -34,7 +34,7 @@ use Rattle.hp_exact.proofs.Invariant.{is_reporting}
 use Rattle.hp_exact.proofs.Losing.{Losses}
 use Rattle.hp_exact.proofs.Lost.{losses_go}
 use Rattle.hp_exact.proofs.Reporting.{no_more}
-use Rattle.hp_exact.proofs.Beginning.{Whole, whole_begins, whole_goes, fresh_at_hand_over}
+use Rattle.hp_exact.proofs.Wholes.{Whole, whole_begins, whole_goes, fresh_at_hand_over}
 use Rattle.hp_exact.proofs.Quiet.{handed_of}
 use Rattle.hp_exact.proofs.Ejecting.{shows_reads, may_tell, SaidAt, Owns}
 use Rattle.hp_exact.proofs.EjectReads.{said_fresh, said_goes}

@@ -28,7 +28,7 @@ use Rattle.hp_exact.proofs.Stood.{IsStood, stood}
 use Rattle.hp_exact.proofs.Stepping.{AtMonarch, Kinds, by_kind}
 use Rattle.hp_exact.proofs.Naming.{ids_of}
 use Rattle.hp_exact.proofs.Invariant.{Invariant}
-use Rattle.hp_exact.proofs.Beginning.{access_before, fresh_at_hand_over}
+use Rattle.hp_exact.proofs.Wholes.{access_before, fresh_at_hand_over}
 use Rattle.hp_exact.proofs.Quiet.{handed_of}
 use Rattle.hp_exact.proofs.Ejecting.{shows_reads, may_tell, SaidAt}
 use Rattle.hp_exact.proofs.EjectTold.{polls_some, eject_slot, Refusing, refusing_begins, refusing_goes, refused_by}

@@ -1,9 +1,10 @@
 -- A processor in SMM and outside it, by its instruction address and by its mode; and one that its handler leads on.
-use Rattle.std.proofs.Common.{ℕ, ◌≡◌, Bool, true, false, cond, List, [], ◌∷◌, slice_set, Some, None, refl}
+use Rattle.std.proofs.Common.{ℕ, ◌≡◌, Bool, true, false, cond, List, [], ◌∷◌, slice_set, Some, None, refl, not, ◌&&◌}
+use Rattle.std.proofs.lemmas.Bool.{and_parts}
 use Rattle.hp_model.specs.declared.processors.Mode.{Mode}
 use Rattle.hp_model.specs.declared.processors.Mode.TheVariants.{Wait, Running, Halted, Smm}
 use Rattle.hp_model.specs.declared.processors.Cpu.{Cpu}
-use Rattle.hp_model.specs.Cpu.{cpu_at, is_running, is_outside, is_in_smm, address_in, smm_address, moved}
+use Rattle.hp_model.specs.Cpu.{cpu_at, may_take_init, is_running, is_outside, is_in_smm, address_in, smm_address, moved}
 use Rattle.hp_model.specs.Handlers.{Next, address_of_label}
 use Rattle.hp_model.specs.Step.{stands_in_smm, go_on}
 use Rattle.hp_sealed.proofs.Left.{pick}
@@ -50,6 +51,13 @@ running_outside Wait e = absurd cc
 running_outside (Running g) e = refl
 running_outside (Halted g) e = absurd cc
 running_outside (Smm x) e = absurd cc
+
+-- so too whoever may take INIT; whoever may take an SMI: may_outside
+pub init_outside : (c : Cpu) → may_take_init c ≡ true → smm_address c ≡ None
+init_outside c may =
+    let a = and_parts c.present (not c.smi && (c.init && is_outside c.mode)) may in
+    let b = and_parts (not c.smi) (c.init && is_outside c.mode) a.1 in
+    none_outside c (outside_in c.mode (and_parts c.init (is_outside c.mode) b.1).1)
 
 pub present_go : (smbase : ℕ) (n : Next) (c : Cpu) → (go_on smbase n c).present ≡ c.present
 present_go smbase n c = pick (λ (d : Cpu). d.present ≡ c.present) (stands_in_smm c) (moved (address_of_label smbase n.label) n.base c) c refl refl

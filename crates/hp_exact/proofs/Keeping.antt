@@ -49,7 +49,8 @@ use Rattle.hp_exact.proofs.Reporting.{no_more, clear_row}
 use Rattle.hp_exact.proofs.Rows.{newest_past, reads_row, stays_row, reported_still, Unwritten, other_unwritten}
 use Rattle.hp_exact.proofs.Waking.{waking, IsWoken, asleep_row, wakes_row, waking_adds, waking_called, waking_from}
 use Rattle.hp_exact.proofs.Invariant.{Released, Latched, is_calling, must_latch, Agrees, Chosen, Reported, last_read, Undisturbed, Wakes, Parts, Invariant}
-use Rattle.hp_exact.proofs.InSmm.{address_alike, none_outside, outside_in, present_go, running_outside, set_first, stands_of}
+use Rattle.hp_exact.proofs.InSmm.{address_alike, none_outside, outside_in, present_go, running_outside, set_first, stands_of, init_outside}
+use Rattle.hp_safety.proofs.Entering.{may_outside}
 
 one_label : (l m : Label) → same_label l m ≡ true → l ≡ m
 one_label l m e = marked_label l m (eqb-true (mark_of l) (mark_of m) e)
@@ -179,11 +180,7 @@ module _ (p : Platform) (sound : Sound p) (ids : Ids p) (past : List Transition)
       (λ prompt e. absurd (no_init k (waking_calls prompt e) may)))
     where
       out : smm_address (at s k) ≡ None
-      out =
-          let a = and_parts (at s k).present (not (at s k).smi && ((at s k).init && is_outside (at s k).mode)) may in
-          let b = and_parts (not (at s k).smi) ((at s k).init && is_outside (at s k).mode) a.1 in
-          let c = and_parts (at s k).init (is_outside (at s k).mode) b.1 in
-          none_outside (at s k) (outside_in (at s k).mode c.1)
+      out = init_outside (at s k) may
 
       rests : smm_address (cpu_at (slice_set s.cpus k (take_init (at s k))) 0) ≡ None → is_after_broadcast s.monarch.label ≡ false
       rests e = elim (cases_eq k 0) [
@@ -361,7 +358,7 @@ module _ (p : Platform) (sound : Sound p) (ids : Ids p) (past : List Transition)
       present = (and_parts (at s k).present ((at s k).smi && is_outside (at s k).mode) may).0
 
       out : smm_address (at s k) ≡ None
-      out = none_outside (at s k) (outside_in (at s k).mode (and_parts (at s k).smi (is_outside (at s k).mode) (and_parts (at s k).present ((at s k).smi && is_outside (at s k).mode) may).1).1)
+      out = may_outside (at s k) may
 
       to : Bool → State
       to b = ends (cond b (record (enter_smm k s) { monarch = restarted s.monarch }) (enter_smm k s)) g s.disturbed

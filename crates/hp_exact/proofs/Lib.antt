@@ -8,6 +8,7 @@ pub mod Reports
 pub mod Stages
 pub mod Ordering
 pub mod Tying
+pub mod ByteStores
 pub mod Releasing
 pub mod Hits
 pub mod Naming
@@ -20,6 +21,8 @@ pub mod Rows
 pub mod Waking
 pub mod InSmm
 pub mod Keeping
+pub mod BootReleases
+pub mod Wholes
 pub mod Beginning
 pub mod Quiet
 pub mod Truth
@@ -34,6 +37,7 @@ pub mod AddingHome
 pub mod Adding
 pub mod AddingLaw
 pub mod Ejecting
+pub mod ParkedByte
 pub mod EjectReads
 pub mod EjectTold
 pub mod Parting

@@ -1,6 +1,6 @@
 -- The law: nobody leaves in the entries of an outcome but by an eject, while the session is undisturbed.
 use Rattle.std.proofs.Common.{ℕ, ◌≡◌, ◌<◌, ◌==◌, ◌⊎◌, Bool, true, false, cond, not, ◌&&◌, ◌||◌, List, [], ◌∷◌, length, Some, None, refl, sym, ap, subst, ◌∙◌, arith, ◌++◌}
-use Rattle.std.proofs.lemmas.Bool.{and_parts, or_right, eqb-true}
+use Rattle.std.proofs.lemmas.Bool.{or_right, eqb-true}
 use Rattle.hp_model.specs.declared.platforms.Platform.{Platform}
 use Rattle.hp_model.specs.declared.processors.Cpu.{Cpu}
 use Rattle.hp_model.specs.declared.accesses.Access.{Access}
@@ -11,7 +11,7 @@ use Rattle.hp_model.specs.declared.labels.Label.TheVariants.{F6, R5, S2, C3, C4,
 use Rattle.hp_model.specs.declared.entries.Event.TheVariants.{Insert, Remove, Do, TakeSmi, TakeInit, Resume, Tell}
 use Rattle.hp_model.specs.declared.entries.Entry.{Entry}
 use Rattle.hp_model.specs.Platform.{count_of, tile, is_late, apic_of, IsFit}
-use Rattle.hp_model.specs.Cpu.{inserted, cpu_at, is_outside, is_in_smm, is_free, smm_address, may_take_smi, take_smi, may_take_init, take_init, resumed}
+use Rattle.hp_model.specs.Cpu.{inserted, cpu_at, is_in_smm, is_free, smm_address, may_take_smi, take_smi, may_take_init, take_init, resumed}
 use Rattle.hp_model.specs.Block.{Block, slot_at, Slot, status, block_write}
 use Rattle.hp_model.specs.Boot.{Stage, value_in, is_handed}
 use Rattle.hp_model.specs.Labels.{Monarch as Monarchs, part_of, index_of, same_label}
@@ -39,10 +39,10 @@ use Rattle.hp_exact.proofs.Monarchs.{is_among, adding, ejecting, next_other}
 use Rattle.hp_exact.proofs.Agreeing.{block_kept, present_kept}
 use Rattle.hp_exact.proofs.Reporting.{no_more, all_drop_last}
 use Rattle.hp_exact.proofs.Keeping.{was_quiet, not_broadcast, present_set}
-use Rattle.hp_exact.proofs.InSmm.{none_outside, outside_in, present_go}
+use Rattle.hp_exact.proofs.InSmm.{none_outside, present_go, init_outside}
 use Rattle.hp_exact.proofs.Reading.{select_is, read_status}
 use Rattle.hp_exact.proofs.Losing.{pending, handed, is_keeping, Losses, Deeds, losses_row}
-use Rattle.hp_exact.proofs.Beginning.{Whole, whole_begins, whole_goes, access_before, fresh_at_hand_over}
+use Rattle.hp_exact.proofs.Wholes.{Whole, whole_begins, whole_goes, access_before, fresh_at_hand_over}
 use Rattle.hp_exact.proofs.Quiet.{handed_of}
 use Rattle.hp_sealed.proofs.Same.{same_outcome-is}
 use Rattle.hp_sealed.proofs.Starts.{sound}
@@ -53,6 +53,7 @@ use Rattle.hp_exact.proofs.Invariant.{is_reporting, is_there, Reported, last_rea
 use Rattle.hp_exact.proofs.OwnEntries.{adding_goes, anew_row, by_label, elsewhere, is_collects, own_more, own_none, waiting_goes}
 use Rattle.hp_exact.proofs.Departures.{kept_more}
 use Rattle.hp_exact.proofs.EjectedSlots.{eject_is, slot_same, status_calm}
+use Rattle.hp_safety.proofs.Entering.{may_outside}
 
 waiting_pending : (l : Label) → is_among l (E0 ∷ E1 ∷ E2 ∷ E3 ∷ E4a ∷ []) ≡ true → (is_after_broadcast l ≡ true) × (is_among l pending ≡ true) × (is_among l (E4b ∷ []) ≡ false)
 waiting_pending E0 e = (refl, refl, refl)
@@ -104,9 +105,6 @@ module _ (p : Platform) (fit : Sound p) (ids : Ids p) (past : List Transition) (
         tame = x.tame;
         kept = λ f. subst (λ own. is_none (departures p own) ≡ true) (sym (own_more p (made s e t) past goes)) (kept_more p (made s e t) (own_of p past) stays (x.kept f));
       }
-
-  out_of : (k : ℕ) → is_outside (at s k).mode ≡ true → smm_address (at s k) ≡ None
-  out_of k e = none_outside (at s k) (outside_in (at s k).mode e)
 
   inserts : (k : ℕ) (g : Stage) → k < count_of p → (at s k).present ≡ false → Follows (entry_by s (Insert k)) (ends (insert k s) g s.disturbed)
   inserts k g less gone =
@@ -168,7 +166,7 @@ module _ (p : Platform) (fit : Sound p) (ids : Ids p) (past : List Transition) (
 
   inits : (k : ℕ) (g : Stage) → may_take_init (at s k) ≡ true → Follows (entry_by s (TakeInit k)) (ends (set_cpu k (take_init (at s k)) s) g s.disturbed)
   inits k g may =
-      same_losses (entry_by s (TakeInit k)) (ends (set_cpu k (take_init (at s k)) s) g s.disturbed) (elsewhere p (entry_by s (TakeInit k)) (λ m part. at_none p m (entry_by s (TakeInit k)) (out_of k (and_parts (at s k).init (is_outside (at s k).mode) (and_parts (not (at s k).smi) ((at s k).init && is_outside (at s k).mode) (and_parts (at s k).present (not (at s k).smi && ((at s k).init && is_outside (at s k).mode)) may).1).1).1)) refl refl)
+      same_losses (entry_by s (TakeInit k)) (ends (set_cpu k (take_init (at s k)) s) g s.disturbed) (elsewhere p (entry_by s (TakeInit k)) (λ m part. at_none p m (entry_by s (TakeInit k)) (init_outside (at s k) may)) refl refl)
       (present_set p fit ids past s standing h k (take_init (at s k)) refl) (λ j. refl) refl
 
   returns : (k : ℕ) (l : Label) (g : Stage) → AtOther p s k l → (l ≡ F6) ⊎ (l ≡ R5) → Follows (entry_by s (Resume k)) (ends (leave_smm k s) g s.disturbed)
@@ -189,7 +187,7 @@ module _ (p : Platform) (fit : Sound p) (ids : Ids p) (past : List Transition) (
       to b = ends (cond b (record (enter_smm k s) { monarch = restarted s.monarch }) (enter_smm k s)) g s.disturbed
 
       out : smm_address (at s k) ≡ None
-      out = out_of k (and_parts (at s k).smi (is_outside (at s k).mode) (and_parts (at s k).present ((at s k).smi && is_outside (at s k).mode) may).1).1
+      out = may_outside (at s k) may
 
       begins : Follows e (to true)
       begins after quiet = absurd cc

@@ -48,17 +48,17 @@ use Rattle.hp_exact.proofs.Hits.{Alike, AllAlike, row_alike, keeps_acted}
 use Rattle.hp_exact.proofs.Calling.{aside}
 use Rattle.hp_exact.proofs.Agreeing.{present_kept, gone_at}
 use Rattle.hp_exact.proofs.Releasing.{slot_small, kept_called}
-use Rattle.hp_exact.proofs.Rows.{access_of, at_want, stays_row}
+use Rattle.hp_exact.proofs.Rows.{access_of, at_want, stays_row, Unwritten, other_unwritten}
 use Rattle.hp_exact.proofs.Keeping.{was_quiet, present_set}
-use Rattle.hp_exact.proofs.Rows.{Unwritten, other_unwritten}
-use Rattle.hp_exact.proofs.InSmm.{none_outside, outside_in, present_go, smm_there}
+use Rattle.hp_exact.proofs.InSmm.{none_outside, present_go, smm_there, init_outside}
 use Rattle.hp_exact.proofs.Losing.{pending, Losses}
 use Rattle.hp_exact.proofs.Invariant.{Invariant}
-use Rattle.hp_exact.proofs.EjectReads.{marks_other, left_outside, left_entering, loads_parked, cleared, map_leaves}
+use Rattle.hp_exact.proofs.ParkedByte.{marks_other, left_outside, left_entering, loads_parked, cleared, map_leaves}
 use Rattle.hp_exact.proofs.OwnEntries.{ejecting_goes, own_more, elsewhere, is_collects, by_label}
 use Rattle.hp_exact.proofs.Parting.{looping, Parked, Seated, Waits, Alone, Gone, PartsAt, Does, parts_row}
 use Rattle.hp_exact.proofs.Departures.{departures_same, filter_one, none_is, stays_there}
 use Rattle.hp_exact.proofs.EjectedSlots.{eject_gone}
+use Rattle.hp_safety.proofs.Entering.{may_outside}
 
 set_there : (cs : List Cpu) (k : ℕ) (d : Cpu) → (cpu_at cs k).present ≡ true → cpu_at (slice_set cs k d) k ≡ d
 set_there [] k d e = absurd cc
@@ -204,9 +204,6 @@ module _ (p : Platform) (fit : Sound p) (ids : Ids p) (past : List Transition) (
       (parts_same p (own_of p past) (own_of p (made s e t ∷ past)) s.disturbed t.disturbed s.cpus t.cpus s.writes t.writes s.monarch quiet
       (λ calm. ap (departures p) own ∙ departures_same p (made s e t) (own_of p past) (stays calm)) s.monarch.label still byte parts)
 
-  out_of : (k : ℕ) → is_outside (at s k).mode ≡ true → smm_address (at s k) ≡ None
-  out_of k e = none_outside (at s k) (outside_in (at s k).mode e)
-
   -- a processor outside SMM isn't the parked one
   aside_of : (k : ℕ) → smm_address (at s k) ≡ None → Parked p slot (at s c) → c ≢ k
   aside_of k out parked z = parked_inside p slot (at s c) parked (subst (λ i. smm_address (at s i) ≡ None) (sym z) out)
@@ -263,7 +260,7 @@ module _ (p : Platform) (fit : Sound p) (ids : Ids p) (past : List Transition) (
       (λ calm. present_set p fit ids past s standing h k (take_init (at s k)) refl) (λ there calm parked. set_aside k (take_init (at s k)) (aside_of k out parked) parked) (λ there calm seated one. inl one)
     where
       out : smm_address (at s k) ≡ None
-      out = out_of k (and_parts (at s k).init (is_outside (at s k).mode) (and_parts (not (at s k).smi) ((at s k).init && is_outside (at s k).mode) (and_parts (at s k).present (not (at s k).smi && ((at s k).init && is_outside (at s k).mode)) may).1).1).1
+      out = init_outside (at s k) may
 
   rests : (g : Stage) → AtMonarch p s E7 → Follows (entry_by s (Resume 0)) (ends (leave_smm 0 s) g s.disturbed)
   rests g here placed = let t = ends (leave_smm 0 s) g s.disturbed in parts_fresh p (own_of p (made s (entry_by s (Resume 0)) t ∷ past)) s.disturbed t.cpus s.writes s.monarch s.monarch.label (let label = here.label in rw label refl)
@@ -281,7 +278,7 @@ module _ (p : Platform) (fit : Sound p) (ids : Ids p) (past : List Transition) (
       there = and_parts (at s k).present ((at s k).smi && is_outside (at s k).mode) may
 
       out : smm_address (at s k) ≡ None
-      out = out_of k (and_parts (at s k).smi (is_outside (at s k).mode) there.1).1
+      out = may_outside (at s k) may
 
       begins : Follows e (to true)
       begins placed = tt
