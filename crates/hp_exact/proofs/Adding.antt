@@ -49,7 +49,8 @@ use Rattle.hp_exact.proofs.Naming.{Ids}
 use Rattle.hp_exact.proofs.Rows.{is_one}
 use Rattle.hp_exact.proofs.Invariant.{Invariant}
 use Rattle.hp_exact.proofs.AddingHome.{IsHome, stays_home, lands}
-use Rattle.hp_exact.proofs.AddingRows.{IsBit, RunsBy, AddAt, AddTied, is_ending, Deeds, row_add, add_resting, add_still, apic_stays, ending_bound, adding_slot, adding_needs}
+use Rattle.hp_exact.proofs.AddingRows.{Deeds, row_add, add_resting, add_still, apic_stays, ending_bound, adding_slot, adding_needs}
+use Rattle.hp_exact.proofs.AddingTie.{IsBit, RunsBy, AddAt, AddTied, is_ending}
 use Rattle.hp_safety.proofs.Entering.{may_outside}
 
 -- the running add and what its outcome's entries show

@@ -42,7 +42,7 @@ use Rattle.hp_exact.proofs.AddingHome.{IsHome, in_end}
 use Rattle.hp_exact.proofs.Stood.{stood}
 use Rattle.hp_exact.proofs.Stepping.{AtMonarch, Kinds, by_kind}
 use Rattle.hp_exact.proofs.AddingTrail.{own, before, trail_of, own_entries, own_size}
-use Rattle.hp_exact.proofs.AddingRows.{Told, ToldNot, AddAt}
+use Rattle.hp_exact.proofs.AddingTie.{Told, ToldNot, AddAt}
 use Rattle.hp_exact.proofs.Adding.{Shown, shown_on}
 
 -- lists are equal to themselves

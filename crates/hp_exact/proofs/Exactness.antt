@@ -23,7 +23,7 @@ use Rattle.hp_exact.specs.Adds.{shows_add, shows_refused}
 use Rattle.hp_exact.specs.Ejects.{eject_shows, refusal_shows}
 use Rattle.hp_exact.proofs.Quiet.{law as quiet_law}
 use Rattle.hp_exact.proofs.Truth.{law as reports_law}
-use Rattle.hp_exact.proofs.Lost.{law as lost_law}
+use Rattle.hp_exact.proofs.LostLaw.{law as lost_law}
 use Rattle.hp_exact.proofs.AddingLaw.{adds_law}
 use Rattle.hp_exact.proofs.EjectsLaw.{law as ejects_law}
 

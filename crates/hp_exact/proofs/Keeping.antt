@@ -43,7 +43,8 @@ use Rattle.hp_exact.proofs.Tying.{row_account, account_row, account_other, tied_
 use Rattle.hp_exact.proofs.Releasing.{released_monarch, released_other, released_outside, released_enters, released_told}
 use Rattle.hp_exact.proofs.Hits.{Alike, AllAlike, row_alike}
 use Rattle.hp_exact.proofs.Latching.{must_leave}
-use Rattle.hp_exact.proofs.Calling.{after_row, Woken, aside, latched_row, latched_told, latched_other, latched_insert, latched_enters, latched_init, latched_returns, latched_rests, latched_outside}
+use Rattle.hp_exact.proofs.Calling.{after_row, Woken, latched_row, latched_told}
+use Rattle.hp_exact.proofs.OthersLatched.{aside, latched_other, latched_insert, latched_enters, latched_init, latched_returns, latched_rests, latched_outside}
 use Rattle.hp_exact.proofs.Agreeing.{agrees_set, agrees_acted, modern_acted, agrees_insert, agrees_removal, block_kept, present_kept}
 use Rattle.hp_exact.proofs.Reporting.{no_more, clear_row}
 use Rattle.hp_exact.proofs.Rows.{newest_past, reads_row, stays_row, reported_still, Unwritten, other_unwritten}

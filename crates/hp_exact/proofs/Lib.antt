@@ -13,6 +13,7 @@ pub mod Releasing
 pub mod Hits
 pub mod Naming
 pub mod Latching
+pub mod OthersLatched
 pub mod Calling
 pub mod Agreeing
 pub mod Reading
@@ -29,8 +30,10 @@ pub mod Truth
 pub mod Losing
 pub mod OwnEntries
 pub mod EjectedSlots
+pub mod LostLaw
 pub mod Lost
 pub mod AddingTrail
+pub mod AddingTie
 pub mod AddingRows
 pub mod AddingBytes
 pub mod AddingHome

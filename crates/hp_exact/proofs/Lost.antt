@@ -10,30 +10,30 @@ use Rattle.hp_model.specs.declared.labels.Label.{Label}
 use Rattle.hp_model.specs.declared.labels.Label.TheVariants.{F6, R5, S2, C3, C4, C6, NB, N0, N1, N2, N3, N4, N5, N6, N7, N8a, N8b, N9, N10, N11, E0, E1, E2, E3, E4a, E4b, E4f, E4g, T, E7}
 use Rattle.hp_model.specs.declared.entries.Event.TheVariants.{Insert, Remove, Do, TakeSmi, TakeInit, Resume, Tell}
 use Rattle.hp_model.specs.declared.entries.Entry.{Entry}
-use Rattle.hp_model.specs.Platform.{count_of, tile, is_late, apic_of, IsFit}
+use Rattle.hp_model.specs.Platform.{count_of, tile, is_late, apic_of}
 use Rattle.hp_model.specs.Cpu.{inserted, cpu_at, is_in_smm, is_free, smm_address, may_take_smi, take_smi, may_take_init, take_init, resumed}
 use Rattle.hp_model.specs.Block.{Block, slot_at, Slot, status, block_write}
-use Rattle.hp_model.specs.Boot.{Stage, value_in, is_handed}
+use Rattle.hp_model.specs.Boot.{Stage, value_in}
 use Rattle.hp_model.specs.Labels.{Monarch as Monarchs, part_of, index_of, same_label}
 use Rattle.hp_model.specs.SharedBytes.{layout_of}
 use Rattle.hp_model.specs.SaveArea.{saved_smbase, saved_rip}
 use Rattle.hp_model.specs.Monarch.{Monarch, restarted, is_own}
 use Rattle.hp_model.specs.Handlers.{Next, want_at, next_at}
-use Rattle.hp_model.specs.Step.{State, at, set_cpu, seat, access_effect, answer_to, insert, request_removal, enter_smm, leave_smm, go_on, with_session, is_after_broadcast, writes_block, same_outcome, start}
+use Rattle.hp_model.specs.Step.{State, at, set_cpu, seat, access_effect, answer_to, insert, request_removal, enter_smm, leave_smm, go_on, with_session, is_after_broadcast, writes_block, same_outcome}
 use Rattle.hp_model.specs.Runs.{run_on}
-use Rattle.hp_model.specs.Transitions.{Transition, entries_of, transitions}
+use Rattle.hp_model.specs.Transitions.{Transition, entries_of}
 use Rattle.hp_model.specs.Account.{is_at}
 use Rattle.hp_model.specs.Sessions.{tells, ends_outcome, is_disturbed}
-use Rattle.hp_model.proofs.AtEach.{made, each_passes}
+use Rattle.hp_model.proofs.AtEach.{made}
 use Rattle.hp_sealed.specs.Left.{Sound}
 use Rattle.hp_sealed.proofs.Stay.{at_set}
 use Rattle.hp_sealed.proofs.Outside.{acts}
 use Rattle.hp_safety.proofs.Marked.{at_none, at_monarch, at_other}
 use Rattle.hp_exact.proofs.Reports.{all_drop, all_last}
-use Rattle.hp_exact.proofs.Naming.{is_own-is, Ids, ids_of}
+use Rattle.hp_exact.proofs.Naming.{is_own-is, Ids}
 use Rattle.hp_exact.proofs.Rows.{reads_row, stays_row, reported_still, access_of, at_want, Unwritten, other_unwritten}
 use Rattle.hp_model.specs.Collection.{Report}
-use Rattle.hp_exact.proofs.Stood.{IsStood, stood}
+use Rattle.hp_exact.proofs.Stood.{IsStood}
 use Rattle.hp_exact.proofs.Stepping.{AtMonarch, AtOther, Kinds, entry_by, ends, led_on, by_kind, is_other}
 use Rattle.hp_exact.proofs.Monarchs.{is_among, adding, ejecting, next_other}
 use Rattle.hp_exact.proofs.Agreeing.{block_kept, present_kept}
@@ -41,12 +41,9 @@ use Rattle.hp_exact.proofs.Reporting.{no_more, all_drop_last}
 use Rattle.hp_exact.proofs.Keeping.{was_quiet, not_broadcast, present_set}
 use Rattle.hp_exact.proofs.InSmm.{none_outside, present_go, init_outside}
 use Rattle.hp_exact.proofs.Reading.{select_is, read_status}
-use Rattle.hp_exact.proofs.Losing.{pending, handed, is_keeping, Losses, Deeds, losses_row}
-use Rattle.hp_exact.proofs.Wholes.{Whole, whole_begins, whole_goes, access_before, fresh_at_hand_over}
-use Rattle.hp_exact.proofs.Quiet.{handed_of}
+use Rattle.hp_exact.proofs.Losing.{pending, is_keeping, Losses, Deeds, losses_row}
 use Rattle.hp_sealed.proofs.Same.{same_outcome-is}
-use Rattle.hp_sealed.proofs.Starts.{sound}
-use Rattle.hp_model.specs.Outcomes.{own_of, when_told, each_told, departures, may_lose, is_none, loses_none}
+use Rattle.hp_model.specs.Outcomes.{own_of, when_told, departures, may_lose, is_none, loses_none}
 use Rattle.hp_model.specs.Events.{outcome_in}
 use Rattle.std.specs.Prelude.{bit_and}
 use Rattle.hp_exact.proofs.Invariant.{is_reporting, is_there, Reported, last_read, Undisturbed, Invariant}
@@ -390,34 +387,3 @@ module _ (p : Platform) (fit : Sound p) (ids : Ids p) (past : List Transition) (
 
   pub lost_after : (e : Entry) (t : State) → run_on p s e ≡ Some t → Test e t
   lost_after e t is = by_kind p s Test standing tests e t is
-
--- over runs
-record Lossless (p : Platform) (past : List Transition) (s : State) : Type 0 where
-  whole : Whole p past s
-  losses : is_handed s.stage ≡ true → is_after_broadcast s.monarch.label ≡ true → s.disturbed ≡ false → Losses p (own_of p past) s.block s.cpus s.monarch
-
-begins : (p : Platform) → IsFit p → Lossless p [] (start p)
-begins p fits = record { whole = whole_begins p fits; losses = λ e after quiet. absurd cc }
-
--- handed over at S0
-fresh_label : (p : Platform) (past : List Transition) (s t : State) (e : Entry) → Sound p → Whole p past s → run_on p s e ≡ Some t → is_handed s.stage ≡ false → is_handed t.stage ≡ true → is_after_broadcast t.monarch.label ≡ false
-fresh_label p past s t e fit h is before handed = fresh_at_hand_over p s t e fit h.good before is handed
-
-lossless_goes : (p : Platform) → Sound p → Ids p → (past : List Transition) (s t : State) (e : Entry) → Lossless p past s → run_on p s e ≡ Some t → Lossless p (made s e t ∷ past) t
-lossless_goes p fit ids past s t e h is = record { whole = whole_goes p fit ids past s t e h.whole is; losses = by_stage (is_handed s.stage) refl }
-  where
-    by_stage : (b : Bool) → is_handed s.stage ≡ b → is_handed t.stage ≡ true → is_after_broadcast t.monarch.label ≡ true → t.disturbed ≡ false → Losses p (own_of p (made s e t ∷ past)) t.block t.cpus t.monarch
-    by_stage true on over after quiet = losses_go p fit ids past s (stood p s fit (handed_of p s h.whole.good on)) (h.whole.handed on) (h.losses on) e t is after quiet
-    by_stage false on over after quiet = no_more (is_after_broadcast t.monarch.label) (fresh_label p past s t e fit h.whole is on over) after
-
-test_passes : (p : Platform) → Sound p → Ids p → (past : List Transition) (s t : State) (e : Entry) → Lossless p past s → run_on p s e ≡ Some t → when_told p (loses_none p) past s (outcome_in e.event) ≡ true
-test_passes p fit ids past s t e h is = by_stage (is_handed s.stage) refl
-  where
-    by_stage : (b : Bool) → is_handed s.stage ≡ b → when_told p (loses_none p) past s (outcome_in e.event) ≡ true
-    by_stage true on = lost_after p fit ids past s (stood p s fit (handed_of p s h.whole.good on)) (h.whole.handed on) (h.losses on) e t is
-    by_stage false on = let boots = access_before p s t e h.whole.good on is in subst (λ v. when_told p (loses_none p) past s (outcome_in v) ≡ true) (sym boots.1) refl
-
-pub law : (p : Platform) (es : List Entry) → IsFit p → each_told p (loses_none p) (transitions p es) ≡ true
-law p es fits =
-    each_passes p (Lossless p) (λ past s t e h is. lossless_goes p (sound p fits) (ids_of p fits) past s t e h is) (λ older x. when_told p (loses_none p) older x.before (outcome_in x.entry.event))
-    (λ past s t e h is. test_passes p (sound p fits) (ids_of p fits) past s t e h is) (begins p fits) es

@@ -6,7 +6,6 @@ use Rattle.std.proofs.lemmas.Option.{same_Some}
 use Rattle.hp_model.specs.declared.platforms.Platform.{Platform}
 use Rattle.hp_model.specs.declared.processors.Cpu.{Cpu}
 use Rattle.hp_model.specs.declared.accesses.Access.{Access}
-use Rattle.hp_model.specs.declared.accesses.Access.TheVariants.{Load}
 use Rattle.hp_model.specs.declared.accesses.Want.TheVariants as want
 use Rattle.hp_model.specs.declared.labels.Label.{Label}
 use Rattle.hp_model.specs.declared.labels.Label.TheVariants.{F6, R1, R2, R3, R5, R6, S2, N5, N6, E0, E1, E2, E4a, E4b, E4c, E4d, E4e, E4f, E4g, T, E7}
@@ -15,13 +14,12 @@ use Rattle.hp_model.specs.declared.outcomes.Outcome.TheVariants.{Added, Ejected,
 use Rattle.hp_model.specs.declared.entries.Event.TheVariants.{Insert, Remove, Do, TakeSmi, TakeInit, Resume, Tell}
 use Rattle.hp_model.specs.declared.entries.Entry.{Entry}
 use Rattle.hp_model.specs.Platform.{count_of, apic_of, tile, is_late}
-use Rattle.hp_model.specs.Memory.{Write, byte_at, value_from}
-use Rattle.hp_model.specs.View.{is_hole, ones}
+use Rattle.hp_model.specs.Memory.{Write, byte_at}
 use Rattle.hp_model.specs.Cpu.{absent, inserted, cpu_at, is_outside, is_in_smm, is_free, smm_address, may_take_smi, take_smi, may_take_init, take_init, resumed, moved}
 use Rattle.hp_model.specs.Block.{slot_at}
 use Rattle.hp_model.specs.Boot.{Stage, value_in}
 use Rattle.hp_model.specs.Labels.{Part, First, Relocated, Monarch as Monarchs, part_of, index_of, same_label}
-use Rattle.hp_model.specs.SharedBytes.{layout_of, tile_in, parked_byte, release_byte}
+use Rattle.hp_model.specs.SharedBytes.{layout_of, tile_in, parked_byte}
 use Rattle.hp_model.specs.Slots.{place_of}
 use Rattle.hp_model.specs.SaveArea.{saved_smbase, saved_rip}
 use Rattle.hp_model.specs.Monarch.{Monarch, restarted}
@@ -45,7 +43,7 @@ use Rattle.hp_exact.proofs.Stepping.{AtMonarch, AtOther, Kinds, entry_by, ends, 
 use Rattle.hp_exact.proofs.Monarchs.{is_among, ejecting, next_other}
 use Rattle.hp_exact.proofs.Naming.{Ids, one_cpu}
 use Rattle.hp_exact.proofs.Hits.{Alike, AllAlike, row_alike, keeps_acted}
-use Rattle.hp_exact.proofs.Calling.{aside}
+use Rattle.hp_exact.proofs.OthersLatched.{aside, reads_none}
 use Rattle.hp_exact.proofs.Agreeing.{present_kept, gone_at}
 use Rattle.hp_exact.proofs.Releasing.{slot_small, kept_called}
 use Rattle.hp_exact.proofs.Rows.{access_of, at_want, stays_row, Unwritten, other_unwritten}
@@ -167,11 +165,6 @@ parts_fresh p own d cs ws r _ e = tt
 want_of : (p : Platform) (k : ℕ) (s : State) (F : Access → Type 0) (l m : Label) (a : Access) → l ≡ m → want_at (layout_of p) (seat p s k) s.monarch l ≡ Some (want.Do a) → F (access_of (want_at (layout_of p) (seat p s k) s.monarch m)) → F a
 unfolding access_of
 want_of p k s F l m a is wants h = subst F (ap access_of (subst (λ n. want_at (layout_of p) (seat p s k) s.monarch n ≡ Some (want.Do a)) is wants)) h
-
--- a release byte that is 0 isn't read as 1
-reads_none : (p : Platform) (s : State) (slot : ℕ) → byte_at s.writes (release_byte (layout_of p) slot) ≡ 0 → (value_in (answer_to true (Load (release_byte (layout_of p) slot) 1) s) == 1) ≡ false
-unfolding value_from
-reads_none p s slot is = pick (λ v. (v == 1) ≡ false) (is_hole s.locks true (release_byte (layout_of p) slot) 1) (ones 1) (value_from (byte_at s.writes) (release_byte (layout_of p) slot) 1) refl (rw is refl)
 
 module _ (p : Platform) (fit : Sound p) (ids : Ids p) (past : List Transition) (s : State) (standing : IsStood p s) (h : Invariant p past s)
     (lost : is_after_broadcast s.monarch.label ≡ true → s.disturbed ≡ false → Losses p (own_of p past) s.block s.cpus s.monarch)
