@@ -43,7 +43,7 @@ use Rattle.hp_exact.proofs.Monarchs.{is_among}
 use Rattle.hp_exact.proofs.Naming.{Ids, own_is, one_cpu}
 use Rattle.hp_exact.proofs.Agreeing.{present_kept}
 use Rattle.hp_exact.proofs.Rows.{stays_row, is_one, Unwritten, other_unwritten}
-use Rattle.hp_exact.proofs.Keeping.{present_set, was_quiet, not_broadcast}
+use Rattle.hp_exact.proofs.CalledIn.{present_set, was_quiet, not_broadcast}
 use Rattle.hp_exact.proofs.InSmm.{present_go}
 use Rattle.hp_exact.proofs.Invariant.{Invariant}
 use Rattle.hp_exact.proofs.ByteStores.{Leaves, zero_stored, elsewhere, other_misses, Bytes}

@@ -21,6 +21,8 @@ pub mod Reporting
 pub mod Rows
 pub mod Waking
 pub mod InSmm
+pub mod CalledIn
+pub mod KeepingOthers
 pub mod Keeping
 pub mod BootReleases
 pub mod Wholes

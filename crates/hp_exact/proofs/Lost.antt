@@ -38,7 +38,7 @@ use Rattle.hp_exact.proofs.Stepping.{AtMonarch, AtOther, Kinds, entry_by, ends, 
 use Rattle.hp_exact.proofs.Monarchs.{is_among, adding, ejecting, next_other}
 use Rattle.hp_exact.proofs.Agreeing.{block_kept, present_kept}
 use Rattle.hp_exact.proofs.Reporting.{no_more, all_drop_last}
-use Rattle.hp_exact.proofs.Keeping.{was_quiet, not_broadcast, present_set}
+use Rattle.hp_exact.proofs.CalledIn.{was_quiet, not_broadcast, present_set}
 use Rattle.hp_exact.proofs.InSmm.{none_outside, present_go, init_outside}
 use Rattle.hp_exact.proofs.Reading.{select_is, read_status}
 use Rattle.hp_exact.proofs.Losing.{pending, is_keeping, Losses, Deeds, losses_row}

@@ -47,7 +47,7 @@ use Rattle.hp_exact.proofs.OthersLatched.{aside, reads_none}
 use Rattle.hp_exact.proofs.Agreeing.{present_kept, gone_at}
 use Rattle.hp_exact.proofs.Releasing.{slot_small, kept_called}
 use Rattle.hp_exact.proofs.Rows.{access_of, at_want, stays_row, Unwritten, other_unwritten}
-use Rattle.hp_exact.proofs.Keeping.{was_quiet, present_set}
+use Rattle.hp_exact.proofs.CalledIn.{was_quiet, present_set}
 use Rattle.hp_exact.proofs.InSmm.{none_outside, present_go, smm_there, init_outside}
 use Rattle.hp_exact.proofs.Losing.{pending, Losses}
 use Rattle.hp_exact.proofs.Invariant.{Invariant}

@@ -20,7 +20,7 @@ use Rattle.hp_exact.proofs.Account.{Account}
 use Rattle.hp_exact.proofs.Stood.{IsStood, stood}
 use Rattle.hp_exact.proofs.Stepping.{Kinds, by_kind}
 use Rattle.hp_exact.proofs.Naming.{Ids, ids_of}
-use Rattle.hp_exact.proofs.Keeping.{no_access, no_init}
+use Rattle.hp_exact.proofs.CalledIn.{no_access, no_init}
 use Rattle.hp_exact.proofs.Invariant.{is_calling, Invariant}
 use Rattle.hp_exact.proofs.Wholes.{Whole, whole_begins, whole_goes}
 
