@@ -1,6 +1,5 @@
 -- A slot that control 8 ejects, and its firmware eject bit.
-use Rattle.std.proofs.Common.{ℕ, zero, suc, ◌≡◌, ◌≢◌, ◌+◌, ◌*◌, ◌<◌, ◌==◌, Bool, true, false, List, [], ◌∷◌, length, slice_set, refl, ap, ◌∙◌, arith, nat_lt, Some}
-use Rattle.std.proofs.lemmas.Bool.Decides.{nat_tests}
+use Rattle.std.proofs.Common.{ℕ, zero, suc, ◌≡◌, ◌≢◌, ◌+◌, ◌*◌, ◌<◌, ◌==◌, Bool, true, false, List, [], ◌∷◌, length, slice_set, refl, ap, ◌∙◌, arith, Some}
 use Rattle.hp_model.specs.Block.{Block, slot_at, Slot, no_slot, controlled, bit, status, write_control, block_write, ejected_by}
 use Rattle.hp_exact.proofs.Stepping.{is_other}
 use Rattle.hp_exact.proofs.Reading.{selected_is}

@@ -47,6 +47,8 @@ pub mod EjectReads
 pub mod EjectTold
 pub mod Parting
 pub mod Departures
+pub mod Parked
+pub mod ParkedSteps
 pub mod PartSteps
 pub mod EjectsLaw
 pub mod Exactness

@@ -12,7 +12,7 @@ use Rattle.hp_model.specs.declared.entries.Event.TheVariants.{Insert, Remove, Do
 use Rattle.hp_model.specs.declared.entries.Entry.{Entry}
 use Rattle.hp_model.specs.Platform.{count_of, tile, is_late, apic_of}
 use Rattle.hp_model.specs.Cpu.{inserted, cpu_at, is_in_smm, is_free, smm_address, may_take_smi, take_smi, may_take_init, take_init, resumed}
-use Rattle.hp_model.specs.Block.{Block, slot_at, Slot, status, block_write}
+use Rattle.hp_model.specs.Block.{Block, slot_at, Slot, block_write}
 use Rattle.hp_model.specs.Boot.{Stage, value_in}
 use Rattle.hp_model.specs.Labels.{Monarch as Monarchs, part_of, index_of, same_label}
 use Rattle.hp_model.specs.SharedBytes.{layout_of}
@@ -23,7 +23,7 @@ use Rattle.hp_model.specs.Step.{State, at, set_cpu, seat, access_effect, answer_
 use Rattle.hp_model.specs.Runs.{run_on}
 use Rattle.hp_model.specs.Transitions.{Transition, entries_of}
 use Rattle.hp_model.specs.Account.{is_at}
-use Rattle.hp_model.specs.Sessions.{tells, ends_outcome, is_disturbed}
+use Rattle.hp_model.specs.Sessions.{ends_outcome, is_disturbed}
 use Rattle.hp_model.proofs.AtEach.{made}
 use Rattle.hp_sealed.specs.Left.{Sound}
 use Rattle.hp_sealed.proofs.Stay.{at_set}

@@ -12,7 +12,7 @@ use Rattle.hp_model.specs.declared.accesses.Want.{Want}
 use Rattle.hp_model.specs.declared.accesses.Want.TheVariants as want
 use Rattle.hp_model.specs.declared.labels.Label.{Label}
 use Rattle.hp_model.specs.declared.labels.Label.TheVariants.{F1, F2, F3, F4, F5, F6, R1, R2, R3, R4, R5, R6, S2, N5, N6, E4b}
-use Rattle.hp_model.specs.Platform.{tseg, tile, apic_of, is_late, high_half}
+use Rattle.hp_model.specs.Platform.{tseg, apic_of, is_late, high_half}
 use Rattle.hp_model.specs.Memory.{byte_at, value_from}
 use Rattle.hp_model.specs.View.{is_hole, ones}
 use Rattle.hp_model.specs.Cpu.{inserted, is_outside, is_in_smm, smm_address, take_smi, take_init, resumed, moved}
