@@ -1,11 +1,10 @@
 -- Each kind of step keeps what ties the running add to the entries of its outcome.
-use Rattle.std.proofs.Common.{ℕ, ◌≡◌, ◌≢◌, ◌≤◌, ◌==◌, ◌⊎◌, inl, inr, Bool, true, false, cond, not, ◌&&◌, ◌||◌, List, [], ◌∷◌, Option, Some, None, refl, sym, ap, subst, ◌∙◌, arith}
+use Rattle.std.proofs.Common.{ℕ, ◌≡◌, ◌≢◌, ◌≤◌, ◌==◌, ◌⊎◌, inl, inr, Bool, true, false, cond, not, ◌&&◌, ◌||◌, List, [], ◌∷◌, Some, None, refl, sym, ap, subst, ◌∙◌, arith}
 use Rattle.std.proofs.lemmas.Bool.{and_parts, eqb-true}
 use Rattle.std.proofs.lemmas.Bool.Decides.{nat_tests}
 use Rattle.hp_model.specs.declared.platforms.Platform.{Platform}
 use Rattle.hp_model.specs.declared.accesses.Access.{Access}
-use Rattle.hp_model.specs.declared.accesses.Access.TheVariants.{Store, Nop}
-use Rattle.hp_model.specs.declared.accesses.Want.{Want}
+use Rattle.hp_model.specs.declared.accesses.Access.TheVariants.{Store}
 use Rattle.hp_model.specs.declared.accesses.Want.TheVariants as want
 use Rattle.hp_model.specs.declared.outcomes.Outcome.{Outcome}
 use Rattle.hp_model.specs.declared.labels.Label.{Label}
@@ -46,7 +45,7 @@ use Rattle.hp_exact.proofs.AddingBytes.{IsShared, Keeps, read_here, reach_flag, 
 use Rattle.hp_exact.proofs.ByteStores.{zero_here}
 use Rattle.hp_exact.proofs.Monarchs.{is_among, adding, next_other}
 use Rattle.hp_exact.proofs.Naming.{Ids}
-use Rattle.hp_exact.proofs.Rows.{is_one}
+use Rattle.hp_exact.proofs.Rows.{is_one, access_of}
 use Rattle.hp_exact.proofs.Invariant.{Invariant}
 use Rattle.hp_exact.proofs.AddingHome.{IsHome, stays_home, lands}
 use Rattle.hp_exact.proofs.AddingRows.{Deeds, row_add, add_resting, add_still, apic_stays, ending_bound, adding_slot, adding_needs}
@@ -61,13 +60,6 @@ kept_bit : (ws vs : List Write) (x : ℕ) → Keeps x ws vs → IsBit ws x → I
 kept_bit ws vs x (inl same) (inl e) = inl (same ∙ e)
 kept_bit ws vs x (inl same) (inr e) = inr (same ∙ e)
 kept_bit ws vs x (inr now) h = now
-
--- what is wanted
-abbrev access_of : Option Want → Access
-access_of None = Nop
-access_of (Some (want.Do a)) = a
-access_of (Some (want.Tell o)) = Nop
-access_of (Some want.Resume) = Nop
 
 itself : (n : ℕ) → (n == n) ≡ true
 itself n = grind (arith, nat_tests)
@@ -168,6 +160,7 @@ module _ (p : Platform) (sound : Sound p) (polled : 1 ≤ p.polls) (past : List 
 
   shows_row : (l : Label) (a : Access) (g : Stage) → AtMonarch p s l → want_at (layout_of p) (seat p s 0) r l ≡ Some (want.Do a)
       → Goes (record { event = Do 0 a; answer = answer_to true a s; at = smm_address (at s 0) }) (ends (led_on p s 0 l (value_in (answer_to true a s)) (access_effect p 0 true a s)) g (not (same_label l S2) && s.disturbed))
+  unfolding access_of
   shows_row l a g here wants carries = row_on l e (access_effect p 0 true a s).writes (IsHome p t) (next_at (layout_of p) (seat p s 0) r l (value_in (answer_to true a s))).monarch here on (λ _. refl) seen opened deeds refl
     where
       e : Entry

@@ -13,6 +13,7 @@ use Rattle.hp_sealed.specs.Booting.{memory_after, more_if}
 use Rattle.hp_sealed.proofs.Left.{left_more, length-bytes_of}
 use Rattle.hp_sealed.proofs.Labels.{index_small}
 use Rattle.hp_sealed.proofs.Starts.{sound}
+use Rattle.hp_exact.proofs.Releasing.{from_1000, to_2000}
 
 -- the image has nothing in these bytes
 misses : (a n v x : ℕ) → (a + n ≤ x) ⊎ (x < a) → covers (write_of a n v) x ≡ false
@@ -52,12 +53,6 @@ releases_leave p (suc n) slot ws less =
     (left_more (release_byte (layout_of p) slot) (write_of (release_byte (layout_of p) (suc n)) 1 1) (with_releases p n ws)
     (misses (release_byte (layout_of p) (suc n)) 1 1 (release_byte (layout_of p) slot) (inl (omega (arith, less))))).byte
     ∙ releases_leave p n slot ws (omega (arith, less))
-
-from_1000 : (base slot : ℕ) → base + 0x1000 ≤ base + 0x1000 + slot
-from_1000 base slot = omega arith
-
-to_2000 : (base slot : ℕ) → slot < 0x1000 → base + 0x1000 + slot < base + 0x2000
-to_2000 base slot small = omega (arith, small)
 
 pub image_none : (p : Platform) (slot : ℕ) → Sound p → 1 ≤ slot → length p.boot ≤ slot → slot < 0x1000 → byte_at (image p) (release_byte (layout_of p) slot) ≡ 0
 unfolding image

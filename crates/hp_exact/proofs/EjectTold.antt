@@ -1,7 +1,6 @@
 -- Every state of a run: what its entries tell of an eject so far; and so refusals of ejects show.
-use Rattle.std.proofs.Common.{ℕ, ◌≡◌, ◌<◌, ◌≤◌, Bool, true, false, cond, not, nat_le, List, [], ◌∷◌, Option, Some, None, refl, sym, ap, subst, ◌∙◌, arith}
-use Rattle.std.proofs.lemmas.Bool.{and_parts, eqb-true, ltb-true}
-use Rattle.std.proofs.lemmas.Bool.Decides.{nat_tests}
+use Rattle.std.proofs.Common.{ℕ, ◌≡◌, ◌<◌, ◌≤◌, Bool, true, false, List, [], ◌∷◌, Option, Some, None, refl, sym, ap, subst, ◌∙◌, arith}
+use Rattle.std.proofs.lemmas.Bool.{eqb-true, ltb-true}
 use Rattle.hp_model.specs.declared.platforms.Platform.{Platform}
 use Rattle.hp_model.specs.declared.labels.Label.{Label}
 use Rattle.hp_model.specs.declared.labels.Label.TheVariants.{E0, E1, E2, E3, E4a, E4b, E4c, E4d, E4e, E4f, E4g, E4h, T}
@@ -10,7 +9,7 @@ use Rattle.hp_model.specs.declared.outcomes.Outcome.TheVariants.{Refused}
 use Rattle.hp_model.specs.declared.outcomes.Refusal.{Refusal}
 use Rattle.hp_model.specs.declared.outcomes.Refusal.TheVariants.{Disabled, Both, AlreadyKnown, GateHeld, NotAtGate, NotCheckedIn, NoUnplug, NotKnown, NotArrived, NotParked, Foreign, StillPending}
 use Rattle.hp_model.specs.declared.entries.Entry.{Entry}
-use Rattle.hp_model.specs.Platform.{IsFit, count_of, apic_of, polls_fit, counts_fit, ids_fit, boot_fits, memory_fits, tseg_fits, tiles_fit, features_fit}
+use Rattle.hp_model.specs.Platform.{IsFit, count_of, apic_of}
 use Rattle.hp_model.specs.Cpu.{smm_address}
 use Rattle.hp_model.specs.Boot.{is_handed}
 use Rattle.hp_model.specs.Labels.{Part, First, Relocated, Monarch as Monarchs, part_of, mark_of}
@@ -29,7 +28,7 @@ use Rattle.hp_safety.proofs.Invariant.{Stands, AtCell, facts_of}
 use Rattle.hp_safety.proofs.Runs.{IsHanded}
 use Rattle.hp_exact.proofs.Stood.{stood}
 use Rattle.hp_exact.proofs.Monarchs.{is_among, ejecting}
-use Rattle.hp_exact.proofs.Naming.{Ids}
+use Rattle.hp_exact.proofs.Naming.{Ids, polled}
 use Rattle.hp_exact.proofs.Invariant.{is_reporting}
 use Rattle.hp_exact.proofs.Losing.{Losses}
 use Rattle.hp_exact.proofs.Lost.{losses_go}
@@ -58,25 +57,6 @@ ejecting_needs _ e = absurd cc
 telling_reports : (l : Label) → is_among l (T ∷ []) ≡ true → (is_after_broadcast l ≡ true) × (is_reporting l ≡ true)
 telling_reports T e = (refl, refl)
 telling_reports _ e = absurd cc
-
-passed : (b : Bool) (n : ℕ) (rest : Option ℕ) → cond (not b) (Some n) rest ≡ None → (b ≡ true) × (rest ≡ None)
-passed true n rest e = (refl, e)
-passed false n rest e = absurd cc
-
-pub polls_some : (p : Platform) → IsFit p → 1 ≤ p.polls
-polls_some p e =
-    let a = passed (counts_fit p) 2 _ e in
-    let b = passed (ids_fit p) 3 _ a.1 in
-    let c = passed (boot_fits p) 4 _ b.1 in
-    let d = passed (memory_fits p) 5 _ c.1 in
-    let f = passed (tseg_fits p) 6 _ d.1 in
-    let g = passed (tiles_fit p) 7 _ f.1 in
-    let h = passed (features_fit p) 8 _ g.1 in
-    let i = passed (polls_fit p) 9 _ h.1 in
-    one p.polls (and_parts (nat_le 1 p.polls) (nat_le p.polls 4096) i.0).0
-  where
-    one : (n : ℕ) → nat_le 1 n ≡ true → 1 ≤ n
-    one n e = grind (arith, nat_tests)
 
 -- the slot of a running eject is one that a processor may get
 pub eject_slot : (p : Platform) (s : State) → IsHanded p s → is_among s.monarch.label ejecting ≡ true → s.monarch.eject.slot < count_of p

@@ -30,7 +30,7 @@ use Rattle.hp_sealed.proofs.Stay.{at_set}
 use Rattle.hp_sealed.proofs.Outside.{acts}
 use Rattle.hp_safety.proofs.Marked.{at_none, at_other}
 use Rattle.hp_exact.proofs.Stood.{IsStood}
-use Rattle.hp_exact.proofs.Stepping.{AtMonarch, AtOther, entry_by, ends, led_on, is_other}
+use Rattle.hp_exact.proofs.Stepping.{AtMonarch, AtOther, entry_by, ends, led_on, is_other, still_clear}
 use Rattle.hp_exact.proofs.Account.{Account, account, account_more, account_bound}
 use Rattle.hp_exact.proofs.Monarchs.{is_among, next_other}
 use Rattle.hp_exact.proofs.Naming.{Ids}
@@ -176,16 +176,10 @@ module _ (p : Platform) (sound : Sound p) (ids : Ids p) (past : List Transition)
         released = released_outside p s k a sound stood h.released;
         latched = latched_outside p s k a none h.latched;
         calm = λ f. no_more _ none f;
-        undisturbed = λ after quiet. clear (flags s.disturbed (writes_block a) (is_after_broadcast s.monarch.label) after quiet) after;
+        undisturbed = λ after quiet. clear (still_clear s.disturbed (writes_block a) (is_after_broadcast s.monarch.label) after quiet) after;
         wakes = λ prompt f. absurd (let calling = waking_calls p sound ids past s stood h prompt f in let both : true ≡ false = sym calling ∙ none in cc);
       })
         where
-          flags : (d w after : Bool) → after ≡ true → (d || (w && after)) ≡ false → (d ≡ false) × (w ≡ false)
-          flags true w after f q = absurd cc
-          flags false true true f q = absurd cc
-          flags false true false f q = absurd cc
-          flags false false after f q = (refl, refl)
-
           clear : (s.disturbed ≡ false) × (writes_block a ≡ false) → is_after_broadcast s.monarch.label ≡ true → Undisturbed p t.block t.cpus (last_read p past) s.monarch
           clear both after =
               let u = h.undisturbed after both.0 in

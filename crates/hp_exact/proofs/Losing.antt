@@ -6,8 +6,6 @@ use Rattle.hp_model.specs.declared.platforms.Platform.{Platform}
 use Rattle.hp_model.specs.declared.processors.Cpu.{Cpu}
 use Rattle.hp_model.specs.declared.labels.Label.{Label}
 use Rattle.hp_model.specs.declared.labels.Label.TheVariants.{S0, S1, S2, S3, S4, C1, C2, C3, C4, C5, C6, NB, N0, N1, N2, N3, N4, N5, N6, N7, N8a, N8b, N9, N10, N11, E0, E1, E2, E3, E4a, E4b, E4c, E4d, E4e, E4f, E4g, E4h, T, E5, E6, E7}
-use Rattle.hp_model.specs.declared.outcomes.Outcome.{Outcome}
-use Rattle.hp_model.specs.declared.outcomes.Outcome.TheVariants.{Added, Ejected, Refused}
 use Rattle.hp_model.specs.Platform.{count_of, is_late}
 use Rattle.hp_model.specs.Cpu.{cpu_at}
 use Rattle.hp_model.specs.Block.{Block, slot_at}
@@ -26,7 +24,7 @@ use Rattle.hp_exact.proofs.Refusals.{is_blaming}
 use Rattle.hp_exact.proofs.Monarchs.{is_among, adding, ejecting, AddsOn, adds_on, next_by_class, class_tame}
 use Rattle.hp_exact.proofs.Stages.{adding_alone}
 use Rattle.hp_exact.proofs.Naming.{own_is}
-use Rattle.hp_exact.proofs.Reporting.{no_more}
+use Rattle.hp_exact.proofs.Reporting.{no_more, told_same}
 use Rattle.hp_exact.proofs.Invariant.{is_there}
 
 -- an eject whose processor is still there, and one that is handed to the register block
@@ -110,11 +108,6 @@ module _ (p : Platform) (own : List Transition) (b : Block) (cs : List Cpu) wher
       part E4g e = absurd cc
       part E4h e = absurd cc
       part _ e = (refl, refl, refl, refl)
-
-told_same : (o : Outcome) (r : Monarch) → ((told o r).collection ≡ r.collection) × ((told o r).taken ≡ r.taken)
-told_same (Added cpu apic slot) r = (refl, refl)
-told_same (Ejected cpu apic slot) r = (refl, refl)
-told_same (Refused why) r = (refl, refl)
 
 -- what a row does where the session is undisturbed: with own2, b2 and cs2 after it
 pub record Deeds (p : Platform) (own own2 : List Transition) (b2 : Block) (cs2 : List Cpu) (r : Monarch) (l : Label) (v : ℕ) : Type 0 where

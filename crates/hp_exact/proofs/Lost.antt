@@ -34,7 +34,7 @@ use Rattle.hp_exact.proofs.Naming.{is_own-is, Ids}
 use Rattle.hp_exact.proofs.Rows.{reads_row, stays_row, reported_still, access_of, at_want, Unwritten, other_unwritten}
 use Rattle.hp_model.specs.Collection.{Report}
 use Rattle.hp_exact.proofs.Stood.{IsStood}
-use Rattle.hp_exact.proofs.Stepping.{AtMonarch, AtOther, Kinds, entry_by, ends, led_on, by_kind, is_other}
+use Rattle.hp_exact.proofs.Stepping.{AtMonarch, AtOther, Kinds, entry_by, ends, led_on, by_kind, is_other, still_clear, told_by}
 use Rattle.hp_exact.proofs.Monarchs.{is_among, adding, ejecting, next_other}
 use Rattle.hp_exact.proofs.Agreeing.{block_kept, present_kept}
 use Rattle.hp_exact.proofs.Reporting.{no_more, all_drop_last}
@@ -42,7 +42,7 @@ use Rattle.hp_exact.proofs.CalledIn.{was_quiet, not_broadcast, present_set}
 use Rattle.hp_exact.proofs.InSmm.{none_outside, present_go, init_outside}
 use Rattle.hp_exact.proofs.Reading.{select_is, read_status}
 use Rattle.hp_exact.proofs.Losing.{pending, is_keeping, Losses, Deeds, losses_row}
-use Rattle.hp_sealed.proofs.Same.{same_outcome-is}
+use Rattle.hp_model.proofs.Same.{same_outcome-equal}
 use Rattle.hp_model.specs.Outcomes.{own_of, when_told, departures, may_lose, is_none, loses_none}
 use Rattle.hp_model.specs.Events.{outcome_in}
 use Rattle.std.specs.Prelude.{bit_and}
@@ -118,7 +118,7 @@ module _ (p : Platform) (fit : Sound p) (ids : Ids p) (past : List Transition) (
   outside k a g free out after quiet =
       let same : (access_effect p k false a s).monarch ≡ s.monarch = (acts p k false a s).monarch in
       let after_s : is_after_broadcast s.monarch.label ≡ true = subst (λ (r : Monarch). is_after_broadcast r.label ≡ true) same after in
-      let both = flags s.disturbed (writes_block a) (is_after_broadcast s.monarch.label) after_s quiet in
+      let both = still_clear s.disturbed (writes_block a) (is_after_broadcast s.monarch.label) after_s quiet in
       let block = block_kept p k false a s both.1 in
       subst (λ r. Losses p (own_of p (made s e t ∷ past)) t.block t.cpus r) (sym same)
       (same_losses e t (elsewhere p e (λ m part. at_none p m e (none_outside (at s k) out)) refl refl) (λ j f. present_kept p k false a s j both.1 ∙ f) (λ j. ap (λ (b : Block). (slot_at b j).ejecting) block) (ap (λ (b : Block). b.selector) block) after_s both.0)
@@ -128,12 +128,6 @@ module _ (p : Platform) (fit : Sound p) (ids : Ids p) (past : List Transition) (
 
       t : State
       t = ends (access_effect p k false a s) g (s.disturbed || (writes_block a && is_after_broadcast s.monarch.label))
-
-      flags : (d w after : Bool) → after ≡ true → (d || (w && after)) ≡ false → (d ≡ false) × (w ≡ false)
-      flags true w after f q = absurd cc
-      flags false true true f q = absurd cc
-      flags false true false f q = absurd cc
-      flags false false after f q = (refl, refl)
 
   others : (k : ℕ) (l : Label) (a : Access) (g : Stage) → AtOther p s k l → want_at (layout_of p) (seat p s k) s.monarch l ≡ Some (want.Do a)
       → Follows (record { event = Do k a; answer = answer_to true a s; at = smm_address (at s k) }) (ends (led_on p s k l (value_in (answer_to true a s)) (access_effect p k true a s)) g s.disturbed)
@@ -348,11 +342,9 @@ module _ (p : Platform) (fit : Sound p) (ids : Ids p) (past : List Transition) (
   losses_go e t is = by_kind p s Follows standing kinds e t is
 
   -- what is told
-  abbrev Test : Entry → State → Type 0
-  Test e t = when_told p (loses_none p) past s (outcome_in e.event) ≡ true
 
   told_test : (o : Outcome) → AtMonarch p s T → same_outcome o s.monarch.outcome ≡ true → (may_lose o || (is_disturbed p (entries_of past) || is_none (departures p (own_of p past)))) ≡ true
-  told_test o here same = subst (λ w. (may_lose w || (is_disturbed p (entries_of past) || is_none (departures p (own_of p past)))) ≡ true) (sym (same_outcome-is o s.monarch.outcome same)) (by_flag s.disturbed refl)
+  told_test o here same = subst (λ w. (may_lose w || (is_disturbed p (entries_of past) || is_none (departures p (own_of p past)))) ≡ true) (sym (same_outcome-equal o s.monarch.outcome same)) (by_flag s.disturbed refl)
     where
       after : is_after_broadcast s.monarch.label ≡ true
       after = let label = here.label in rw label refl
@@ -371,19 +363,5 @@ module _ (p : Platform) (fit : Sound p) (ids : Ids p) (past : List Transition) (
               keeping : is_keeping s.monarch ≡ true → is_keeping s.monarch ≡ true
               keeping f = f
 
-  tests : Kinds p s Test
-  tests = record {
-    inserts = λ k g less gone. refl;
-    removes = λ k g. refl;
-    outside = λ k a g free out. refl;
-    monarchs = λ l a g here wants. refl;
-    others = λ k l a g here wants. refl;
-    enters = λ k g may. refl;
-    inits = λ k g may. refl;
-    rests = λ g here. refl;
-    returns = λ k l g here where_is. refl;
-    tells = λ o g here same. told_test o here same;
-  }
-
-  pub lost_after : (e : Entry) (t : State) → run_on p s e ≡ Some t → Test e t
-  lost_after e t is = by_kind p s Test standing tests e t is
+  pub lost_after : (e : Entry) (t : State) → run_on p s e ≡ Some t → when_told p (loses_none p) past s (outcome_in e.event) ≡ true
+  lost_after e t is = told_by p (loses_none p) past s standing told_test e t is

@@ -1,5 +1,5 @@
 -- Over every run: nobody is lost in the entries of an outcome, unless it tells an eject.
-use Rattle.std.proofs.Common.{◌≡◌, Bool, true, false, List, [], ◌∷◌, Some, refl, sym, subst}
+use Rattle.std.proofs.Common.{◌≡◌, Bool, true, false, List, [], ◌∷◌, Some, refl}
 use Rattle.hp_model.specs.declared.platforms.Platform.{Platform}
 use Rattle.hp_model.specs.declared.entries.Entry.{Entry}
 use Rattle.hp_model.specs.Platform.{IsFit}
@@ -13,7 +13,7 @@ use Rattle.hp_exact.proofs.Naming.{Ids, ids_of}
 use Rattle.hp_exact.proofs.Stood.{stood}
 use Rattle.hp_exact.proofs.Reporting.{no_more}
 use Rattle.hp_exact.proofs.Losing.{handed, Losses}
-use Rattle.hp_exact.proofs.Wholes.{Whole, whole_begins, whole_goes, access_before, fresh_at_hand_over}
+use Rattle.hp_exact.proofs.Wholes.{Whole, whole_begins, whole_goes, fresh_at_hand_over, silent_before}
 use Rattle.hp_exact.proofs.Quiet.{handed_of}
 use Rattle.hp_sealed.proofs.Starts.{sound}
 use Rattle.hp_model.specs.Outcomes.{own_of, when_told, each_told, loses_none}
@@ -44,7 +44,7 @@ test_passes p fit ids past s t e h is = by_stage (is_handed s.stage) refl
   where
     by_stage : (b : Bool) → is_handed s.stage ≡ b → when_told p (loses_none p) past s (outcome_in e.event) ≡ true
     by_stage true on = lost_after p fit ids past s (stood p s fit (handed_of p s h.whole.good on)) (h.whole.handed on) (h.losses on) e t is
-    by_stage false on = let boots = access_before p s t e h.whole.good on is in subst (λ v. when_told p (loses_none p) past s (outcome_in v) ≡ true) (sym boots.1) refl
+    by_stage false on = silent_before p (loses_none p) past s t e h.whole.good on is
 
 pub law : (p : Platform) (es : List Entry) → IsFit p → each_told p (loses_none p) (transitions p es) ≡ true
 law p es fits =

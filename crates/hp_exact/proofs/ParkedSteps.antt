@@ -34,7 +34,7 @@ use Rattle.hp_sealed.proofs.Stay.{at_set}
 use Rattle.hp_safety.proofs.Marked.{at_none, at_other, same_index}
 use Rattle.hp_safety.proofs.Placing.{place_same}
 use Rattle.hp_exact.proofs.Stood.{IsStood}
-use Rattle.hp_exact.proofs.Stepping.{AtMonarch, AtOther, entry_by, ends, led_on, is_other}
+use Rattle.hp_exact.proofs.Stepping.{AtMonarch, AtOther, entry_by, ends, led_on, is_other, still_clear}
 use Rattle.hp_exact.proofs.Monarchs.{is_among, ejecting, next_other}
 use Rattle.hp_exact.proofs.Naming.{Ids, one_cpu}
 use Rattle.hp_exact.proofs.Hits.{Alike, AllAlike, row_alike, keeps_acted}
@@ -123,12 +123,6 @@ module _ (p : Platform) (fit : Sound p) (ids : Ids p) (past : List Transition) (
       same : (access_effect p k false a s).monarch ≡ s.monarch
       same = (acts p k false a s).monarch
 
-      flags : (d w after : Bool) → after ≡ true → (d || (w && after)) ≡ false → (d ≡ false) × (w ≡ false)
-      flags true w after f q = absurd cc
-      flags false true true f q = absurd cc
-      flags false true false f q = absurd cc
-      flags false false after f q = (refl, refl)
-
       parked_on : writes_block a ≡ false → Parked p slot (at s c) → Parked p slot (at (access_effect p k false a s) c)
       parked_on calm parked = elim (keeps_acted p k false a s c) [
         | inl both ↦ parked_stays p slot (at s c) (at (access_effect p k false a s) c) both.1.present both.1.smbase both.1.address parked
@@ -138,9 +132,9 @@ module _ (p : Platform) (fit : Sound p) (ids : Ids p) (past : List Transition) (
       by_after : (b : Bool) → is_after_broadcast s.monarch.label ≡ b → Now e t
       by_after false f = parts_fresh p (own_of p (made s e t ∷ past)) t.disturbed t.cpus t.writes t.monarch t.monarch.label (subst (λ (r : Monarch). is_after_broadcast r.label ≡ false) (sym same) f)
       by_after true f =
-          same_parts e t (λ m part. at_none p m e (none_outside (at s k) out)) refl refl same (λ calm. (flags s.disturbed (writes_block a) (is_after_broadcast s.monarch.label) f calm).0)
-          (λ calm j there. present_kept p k false a s j (flags s.disturbed (writes_block a) (is_after_broadcast s.monarch.label) f calm).1 ∙ there)
-          (λ there calm. parked_on (flags s.disturbed (writes_block a) (is_after_broadcast s.monarch.label) f calm).1)
+          same_parts e t (λ m part. at_none p m e (none_outside (at s k) out)) refl refl same (λ calm. (still_clear s.disturbed (writes_block a) (is_after_broadcast s.monarch.label) f calm).0)
+          (λ calm j there. present_kept p k false a s j (still_clear s.disturbed (writes_block a) (is_after_broadcast s.monarch.label) f calm).1 ∙ there)
+          (λ there calm. parked_on (still_clear s.disturbed (writes_block a) (is_after_broadcast s.monarch.label) f calm).1)
           (λ there calm seated one. inl (sym (left_outside p s slot fit standing (small (waiting_rows s.monarch.label (early_rows s.monarch.label there)).1) k a) ∙ one))
 
   pub inits : (k : ℕ) (g : Stage) → may_take_init (at s k) ≡ true → Follows (entry_by s (TakeInit k)) (ends (set_cpu k (take_init (at s k)) s) g s.disturbed)

@@ -166,10 +166,10 @@ kept_row y q r E7 v slot mine is some = λ e. inl e
 kept_row y q r _ v slot mine is some = λ e. inl (kept_called r slot (rw is refl))
 
 -- the bytes are in the first 8 KiB of TSEG
-from_1000 : (base slot : ℕ) → base + 0x1000 ≤ base + 0x1000 + slot
+pub from_1000 : (base slot : ℕ) → base + 0x1000 ≤ base + 0x1000 + slot
 from_1000 base slot = omega arith
 
-to_2000 : (base slot : ℕ) → slot < 0x1000 → base + 0x1000 + slot < base + 0x2000
+pub to_2000 : (base slot : ℕ) → slot < 0x1000 → base + 0x1000 + slot < base + 0x2000
 to_2000 base slot small = omega (arith, small)
 
 abbrev Zeroes : Platform → State → ℕ → Option Want → Type 0

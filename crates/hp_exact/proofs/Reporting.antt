@@ -181,7 +181,7 @@ all_drop_last f (suc zero) [] t h last = refl
 all_drop_last f (suc (suc n)) [] t h last = refl
 all_drop_last f (suc n) (x ∷ xs) t h last = all_drop_last f n xs t h last
 
-told_same : (o : Outcome) (r : Monarch) → ((told o r).collection ≡ r.collection) × ((told o r).taken ≡ r.taken)
+pub told_same : (o : Outcome) (r : Monarch) → ((told o r).collection ≡ r.collection) × ((told o r).taken ≡ r.taken)
 told_same (Added cpu apic slot) r = (refl, refl)
 told_same (Ejected cpu apic slot) r = (refl, refl)
 told_same (Refused why) r = (refl, refl)

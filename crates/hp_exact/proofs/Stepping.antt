@@ -1,5 +1,5 @@
 -- The kinds of steps after the hand-over: what each is of, and the state that it leads to.
-use Rattle.std.proofs.Common.{ℕ, ◌≡◌, ◌≢◌, ◌<◌, ◌==◌, ◌⊎◌, inl, inr, arith, Bool, true, false, cond, not, ◌&&◌, ◌||◌, nat_lt, Option, Some, None, refl, sym, ap, subst, ◌∙◌}
+use Rattle.std.proofs.Common.{ℕ, ◌≡◌, ◌≢◌, ◌<◌, ◌==◌, ◌⊎◌, inl, inr, arith, Bool, true, false, cond, not, ◌&&◌, ◌||◌, nat_lt, Option, Some, None, refl, sym, ap, subst, ◌∙◌, List}
 use Rattle.std.proofs.lemmas.Bool.{and_parts, eqb-true, ltb-true}
 use Rattle.std.proofs.lemmas.Bool.Decides.{nat_tests}
 use Rattle.hp_model.specs.declared.platforms.Platform.{Platform}
@@ -26,8 +26,11 @@ use Rattle.hp_sealed.specs.Sealed.{is_other_tile}
 use Rattle.hp_sealed.proofs.Labels.{same_label as one_label}
 use Rattle.hp_sealed.proofs.Runs.{made}
 use Rattle.hp_sealed.proofs.Goes.{stepped}
-use Rattle.hp_sealed.proofs.Same.{same_access-is}
+use Rattle.hp_model.proofs.Same.{same_access-equal}
 use Rattle.hp_exact.proofs.Stood.{IsStood, AtRow, row_stands}
+use Rattle.hp_model.specs.Outcomes.{Telling, when_told, telling}
+use Rattle.hp_model.specs.Events.{outcome_in}
+use Rattle.hp_model.specs.Transitions.{Transition}
 
 -- a step's entry
 abbrev pub entry_by : State → Event → Entry
@@ -150,8 +153,8 @@ module _ (p : Platform) (s : State) (P : Entry → State → Type 0) (h : IsStoo
       by_side (inr here) (inr (inl e)) = m.returns k l g here (inr e)
       by_side (inr here) (inr (inr e)) = absurd (here.part (ap part_of e))
 
-  telling : (l : Label) (o t : Outcome) (g : Stage) → AtRow p s 0 l → want_at (layout_of p) (seat p s 0) s.monarch l ≡ Some (want.Tell t) → same_outcome o t ≡ true → P (entry_by s (Tell o)) (ends (led_on p s 0 l 0 s) g s.disturbed)
-  telling l o t g here wants same = by_side (sides p s 0 l here) (row_tells (layout_of p) (seat p s 0) s.monarch l t wants)
+  told_row : (l : Label) (o t : Outcome) (g : Stage) → AtRow p s 0 l → want_at (layout_of p) (seat p s 0) s.monarch l ≡ Some (want.Tell t) → same_outcome o t ≡ true → P (entry_by s (Tell o)) (ends (led_on p s 0 l 0 s) g s.disturbed)
+  told_row l o t g here wants same = by_side (sides p s 0 l here) (row_tells (layout_of p) (seat p s 0) s.monarch l t wants)
     where
       by_side : (Same 0 0 × AtMonarch p s l) ⊎ AtOther p s 0 l → (l ≡ T) × (t ≡ s.monarch.outcome) → P (entry_by s (Tell o)) (ends (led_on p s 0 l 0 s) g s.disturbed)
       by_side (inl here) e = subst (λ x. P (entry_by s (Tell o)) (ends (led_on p s 0 x 0 s) g s.disturbed)) (sym e.0) (m.tells o g (subst (AtMonarch p s) e.0 here.1) (subst (λ u. same_outcome o u ≡ true) e.1 same))
@@ -181,7 +184,7 @@ module _ (p : Platform) (s : State) (P : Entry → State → Type 0) (h : IsStoo
           → P (record { event = Do k a; answer = answer_to true a s; at = smm_address (at s k) }) (ends (led_on p s k x (value_in (answer_to true a s)) (access_effect p k true a s)) g (not ((k == 0) && same_label s.monarch.label S2) && s.disturbed))
       in_row x None is smm w f = absurd cc
       in_row x (Some (want.Do b)) is smm w f =
-          let same : a ≡ b = same_access-is a b f in
+          let same : a ≡ b = same_access-equal a b f in
           rows k x a g (row_stands p s k x h is) (w ∙ ap (λ c. Some (want.Do c)) (sym same))
       in_row x (Some (want.Tell t)) is smm w f = absurd cc
       in_row x (Some want.Resume) is smm w f = absurd cc
@@ -214,7 +217,7 @@ module _ (p : Platform) (s : State) (P : Entry → State → Type 0) (h : IsStoo
       in_row : (x : Label) (w : Option Want) → row_at p s 0 ≡ Some x → want_at (layout_of p) (seat p s 0) s.monarch x ≡ w → is_that_outcome w o ≡ true → P (entry_by s (Tell o)) (ends (led_on p s 0 x 0 s) g s.disturbed)
       in_row x None is w f = absurd cc
       in_row x (Some (want.Do b)) is w f = absurd cc
-      in_row x (Some (want.Tell t)) is w f = telling x o t g (row_stands p s 0 x h is) w f
+      in_row x (Some (want.Tell t)) is w f = told_row x o t g (row_stands p s 0 x h is) w f
       in_row x (Some want.Resume) is w f = absurd cc
 
       by_row : (l : Option Label) → row_at p s 0 ≡ l → is_that_outcome (wanted_at (layout_of p) s.monarch (seat p s 0) l) o ≡ true → P (entry_by s (Tell o)) (ends (row_led p s 0 Quiet l s) g s.disturbed)
@@ -235,3 +238,26 @@ module _ (p : Platform) (s : State) (P : Entry → State → Type 0) (h : IsStoo
       rw (answer, mk.place) refl in
       let state : (after p s e.event).state ≡ t = ap (λ (a : After). a.state) st.is ∙ mk.state in
       subst (λ u. P e u) state (subst (λ x. P x (after p s e.event).state) entry (by_stage s.stage refl h.handed e.event st.enabled st.wanted))
+
+-- a test of what is told, if it passes at T
+pub told_by : (p : Platform) (test : Telling → Bool) (past : List Transition) (s : State) → IsStood p s → ((o : Outcome) → AtMonarch p s T → same_outcome o s.monarch.outcome ≡ true → test (telling p past s o) ≡ true) → (e : Entry) (t : State) → run_on p s e ≡ Some t
+    → when_told p test past s (outcome_in e.event) ≡ true
+told_by p test past s h told e t is = by_kind p s (λ e t. when_told p test past s (outcome_in e.event) ≡ true) h (record {
+  inserts = λ k g less gone. refl;
+  removes = λ k g. refl;
+  outside = λ k a g free out. refl;
+  monarchs = λ l a g here wants. refl;
+  others = λ k l a g here wants. refl;
+  enters = λ k g may. refl;
+  inits = λ k g may. refl;
+  rests = λ g here. refl;
+  returns = λ k l g here where_is. refl;
+  tells = λ o g here same. told o here same;
+}) e t is
+
+-- where the flag is clear after an access from outside SMM while others are called in, it was clear before, and the access writes no block
+pub still_clear : (d w after : Bool) → after ≡ true → (d || (w && after)) ≡ false → (d ≡ false) × (w ≡ false)
+still_clear true w after f q = absurd cc
+still_clear false true true f q = absurd cc
+still_clear false true false f q = absurd cc
+still_clear false false after f q = (refl, refl)

@@ -1,5 +1,5 @@
 -- Every state of a run keeps what it has to, before the hand-over and after it; and what is so at the hand-over.
-use Rattle.std.proofs.Common.{◌≡◌, inl, inr, true, false, List, [], ◌∷◌, Some, None, refl, sym, ap, subst, ◌∙◌}
+use Rattle.std.proofs.Common.{◌≡◌, inl, inr, true, false, List, [], ◌∷◌, Some, None, refl, sym, ap, subst, ◌∙◌, Bool}
 use Rattle.hp_model.specs.declared.platforms.Platform.{Platform}
 use Rattle.hp_model.specs.declared.accesses.Access.{Access}
 use Rattle.hp_model.specs.declared.entries.Event.TheVariants.{Do}
@@ -21,6 +21,8 @@ use Rattle.hp_exact.proofs.Naming.{Ids}
 use Rattle.hp_exact.proofs.Keeping.{keeps}
 use Rattle.hp_exact.proofs.Invariant.{Invariant}
 use Rattle.hp_exact.proofs.Beginning.{begins, Begun, begun_goes, hands_over, sealed_outside, boot_step}
+use Rattle.hp_model.specs.Outcomes.{Telling, when_told}
+use Rattle.hp_model.specs.Events.{outcome_in}
 
 -- every state of a run, with the transitions that led to it
 pub record Whole (p : Platform) (past : List Transition) (s : State) : Type 0 where
@@ -76,3 +78,7 @@ pub fresh_at_hand_over : (p : Platform) (s t : State) (e : Entry) → Sound p �
 fresh_at_hand_over p s t e fit (inl k) before is handed = let outside = sealed_outside p s t e fit k is handed in ap (λ (r : Monarch). is_after_broadcast r.label) outside.begun
 fresh_at_hand_over p s t e fit (inr (inl k)) before is handed = absurd (let mk = made_by p s e t is in refused_goes p s e.event mk.after k mk.step)
 fresh_at_hand_over p s t e fit (inr (inr k)) before is handed = absurd (let on = k.handed in let both : true ≡ false = sym on ∙ before in cc)
+
+-- so nothing is told
+pub silent_before : (p : Platform) (test : Telling → Bool) (past : List Transition) (s t : State) (e : Entry) → IsGood p s → is_handed s.stage ≡ false → run_on p s e ≡ Some t → when_told p test past s (outcome_in e.event) ≡ true
+silent_before p test past s t e good before is = let boots = access_before p s t e good before is in subst (λ v. when_told p test past s (outcome_in v) ≡ true) (sym boots.1) refl

@@ -34,7 +34,7 @@ use Rattle.hp_model.specs.Sessions.{bounds_session}
 use Rattle.hp_sealed.specs.Left.{Sound}
 use Rattle.hp_sealed.proofs.Left.{pick_by}
 use Rattle.hp_sealed.proofs.Outside.{acts}
-use Rattle.hp_sealed.proofs.Same.{same_access-is}
+use Rattle.hp_model.proofs.Same.{same_access-equal}
 use Rattle.hp_sealed.proofs.Goes.{stepped}
 use Rattle.hp_safety.proofs.Needs.{Nothing, need_of, is_aloft}
 use Rattle.hp_safety.proofs.Invariant.{facts_of, Invariant}
@@ -170,7 +170,7 @@ module _ (p : Platform) (m : List Write) (s : State) (k : ℕ) (l : Label) (soun
   tied_made : (B : List ℕ) (S : Session) (a : Access) (w : Option Want) → e.event ≡ Do k a → e.answer ≡ answer_to true a s → want_at (layout_of p) (seat p s k) s.monarch l ≡ w → LeadsOn p k s (seat p s k) s.monarch l w → is_that_access w a ≡ true → Tied B S s.monarch → Tied (bound_more p B e) (session_more p S e) (row_led p s k (answer_to true a s) (Some l) (access_effect p k true a s)).monarch
   tied_made B S a None event answer is leads f tied = absurd cc
   tied_made B S a (Some (want.Do b)) event answer is leads f tied =
-      let same = same_access-is a b f in
+      let same = same_access-equal a b f in
       row_tied B S (value_in (answer_to true a s)) (next_at (layout_of p) (seat p s k) s.monarch l (value_in (answer_to true a s))) refl
       (λ other. subst (λ c. (next_at (layout_of p) (seat p s k) s.monarch l (value_in (answer_to true c s))).monarch ≡ s.monarch) (sym same) (leads.others other))
       (λ seven. let w : Some (want.Do (Store gate 8 s.monarch.add.apic)) ≡ Some (want.Do b) = sym (ap (want_at (layout_of p) (seat p s k) s.monarch) seven) ∙ is in

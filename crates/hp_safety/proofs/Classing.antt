@@ -1,6 +1,5 @@
 -- What an outcome says follows from the class of its report.
 use Rattle.std.proofs.Common.{ℕ, ◌≡◌, ◌+◌, ◌-◌, ◌==◌, Bool, true, false, not, ◌&&◌, ◌||◌, nat_lt, nat_le, List, [], ◌∷◌, ◌++◌, length, drop, Option, Some, None, slice_get, bit_and, refl, sym, ap, subst, ◌∙◌, arith}
-use Rattle.std.specs.Str.{bytes_eq}
 use Rattle.std.proofs.lemmas.Bool.Decides.{nat_tests}
 use Rattle.hp_model.specs.declared.outcomes.Outcome.{Outcome}
 use Rattle.hp_model.specs.declared.outcomes.Outcome.TheVariants as outcome
@@ -15,13 +14,13 @@ use Rattle.hp_model.specs.Add.{AddsAt, Ends, failed, looks, is_last_look, saw_fl
 use Rattle.hp_model.specs.Eject.{EjectsAt, EjectEnds, awaits, saw_parked, handed_to_block, saw_status}
 use Rattle.hp_model.specs.Monarch.{Monarch, at_label, first_slot, next_slot, look_at, looked, noted, commanded, Class, Tells, Adds, Ejects, class, facts_of as facts_by, took, answered, taken_up, next_report, collected, led, eject_led}
 use Rattle.hp_model.specs.Handlers.{Seat, next_at}
-use Rattle.hp_model.specs.Step.{outcome_numbers, same_outcome}
 use Rattle.hp_model.specs.Outcomes.{ends_add, ends_eject, answers_by}
 use Rattle.hp_sealed.proofs.Left.{pick}
 use Rattle.hp_safety.proofs.Needs.{need_of, Facts, Needs}
 use Rattle.hp_safety.proofs.EachRow.{row_of_each}
 use Rattle.hp_safety.proofs.Tallies.{Turn, Waiting, Collecting, Beginning, Running, Parting, Telling, Ending, Over, turn_of}
 use Rattle.hp_safety.proofs.Tallying.{first_dropped}
+use Rattle.hp_model.proofs.Same.{same_outcome-refl}
 
 -- this class, of this report, is the one by which the record acts
 pub record Names (o : Option Report) (by_cpu by_apic : ℕ) : Type 0 where
@@ -50,17 +49,9 @@ itself n = grind (arith, nat_tests)
 abbrev IsFree : Turn → Type 0
 IsFree x = (c : Class) (o : Option Report) (r : Monarch) → ClassAt c o r x
 
-same_numbers : (ns : List ℕ) → bytes_eq ns ns ≡ true
-same_numbers [] = refl
-same_numbers (n ∷ ns) = rw (itself n) (same_numbers ns)
-
-told_same : (o : Outcome) → same_outcome o o ≡ true
-unfolding same_outcome
-told_same o = same_numbers (outcome_numbers o)
-
 -- the next report is taken up by its class
 class_answered : (c : Class) (t : Report) (r : Monarch) → Classed c (Some t) (answered c t (took r))
-class_answered (Tells o) t r = told_same o
+class_answered (Tells o) t r = same_outcome-refl o
 class_answered Adds t r = (refl, record { report = t; is = refl; cpu = refl; apic = refl })
 class_answered Ejects t r = (refl, record { report = t; is = refl; cpu = refl; apic = refl })
 

@@ -37,7 +37,7 @@ use Rattle.hp_sealed.proofs.Goes.{stepped}
 use Rattle.hp_sealed.proofs.Starts.{set_all}
 use Rattle.hp_sealed.proofs.Runs.{made}
 use Rattle.hp_safety.proofs.Invariant.{is_adding, facts_of, Met, Holding}
-use Rattle.hp_safety.proofs.Placing.{place_same, place_below}
+use Rattle.hp_safety.proofs.Placing.{place_same, place_below, length-set}
 use Rattle.hp_safety.proofs.Keeps.{that_is}
 use Rattle.hp_safety.proofs.Marked.{same_index}
 use Rattle.hp_safety.proofs.GateRows.{Moves}
@@ -117,12 +117,6 @@ pub told_size : (o : Outcome) (r : Monarch) → (told o r).slots.bound ≡ r.slo
 told_size (outcome.Added cpu apic slot) r = refl
 told_size (outcome.Ejected cpu apic slot) r = refl
 told_size (outcome.Refused why) r = refl
-
--- noting changes no length, and no bound APIC ID
-length-set : {A : Type 0} (xs : List A) (k : ℕ) (x : A) → length (slice_set xs k x) ≡ length xs
-length-set [] k x = refl
-length-set (y ∷ ys) zero x = refl
-length-set (y ∷ ys) (suc k) x = ap suc (length-set ys k x)
 
 noted_size : (p : Platform) (l : Label) (v : ℕ) (r : Monarch) → length r.last ≡ length r.slots.bound → length (noted_at p l v r).last ≡ length (noted_at p l v r).slots.bound
 noted_size p l v r e =

@@ -30,7 +30,7 @@ use Rattle.hp_sealed.specs.Left.{IsLeft, Sound}
 use Rattle.hp_sealed.proofs.Left.{pick, left_same}
 use Rattle.hp_sealed.proofs.Stay.{Stays, stays_same}
 use Rattle.hp_sealed.proofs.Outside.{Calm, acts, left_acted}
-use Rattle.hp_sealed.proofs.Same.{same_access-is}
+use Rattle.hp_model.proofs.Same.{same_access-equal}
 use Rattle.hp_sealed.proofs.Starts.{set_all}
 use Rattle.hp_sealed.proofs.Places.{Base, base_based, default_locked}
 use Rattle.hp_sealed.proofs.Goes.{stepped}
@@ -150,7 +150,7 @@ module _ (p : Platform) (m : List Write) (s : State) (k : ℕ) (l : Label) (soun
   moves_made : (a : Access) (w : Option Want) → want_at (layout_of p) (seat p s k) s.monarch l ≡ w → Spares p k s w → GatesOn p k s s.monarch l w → LeadsOn p k s (seat p s k) s.monarch l w → is_that_access w a ≡ true → Moves p s (Do k a) (row_led p s k (answer_to true a s) (Some l) (access_effect p k true a s))
   moves_made a None is spares gates leads e = absurd cc
   moves_made a (Some (want.Do b)) is spares gates leads e =
-      subst (λ c. Moves p s (Do k c) (row_led p s k (answer_to true c s) (Some l) (access_effect p k true c s))) (sym (same_access-is a b e))
+      subst (λ c. Moves p s (Do k c) (row_led p s k (answer_to true c s) (Some l) (access_effect p k true c s))) (sym (same_access-equal a b e))
       (moves_led p m s (access_effect p k true b s) (Do k b) k l (next_at (layout_of p) (seat p s k) s.monarch l (value_in (answer_to true b s))) sound h here spares (acts p k true b s).cpus leads.side
       (λ up. elim (leads.climbs up) [ inl higher ↦ inl higher | inr first ↦ inr (passes_at b is first.0 up) ])
       (elim gates [ inl shut ↦ inl shut | inr more ↦ elim more [ inl left ↦ inr (inl left) | inr seven ↦ inr (inr (opens_at b (access_effect p k true b s) is seven.0 seven.1 seven.2)) ] ]))

@@ -5,7 +5,6 @@ pub mod Outside
 pub mod Labels
 pub mod Values
 pub mod Places
-pub mod Same
 pub mod Image
 pub mod BootSlots
 pub mod Starts
