@@ -1,4 +1,4 @@
--- What the entries of a running add have shown, label by label: attempts, looks, the bytes that it reads, and its slot.
+-- What the entries of a running add have shown, label by label: attempts, looks, the bytes that are looked at, and its slot.
 use Rattle.std.proofs.Common.{ℕ, ◌≡◌, ◌+◌, ◌≤◌, ◌==◌, ◌⊎◌, Bool, true, false, ◌||◌, List, ◌∷◌, replicate, Some}
 use Rattle.hp_model.specs.declared.outcomes.Outcome.{Outcome}
 use Rattle.hp_model.specs.declared.outcomes.Outcome.TheVariants as outcome

@@ -30,14 +30,12 @@ use Rattle.hp_exact.proofs.Stood.{stood}
 use Rattle.hp_exact.proofs.Monarchs.{is_among, ejecting}
 use Rattle.hp_exact.proofs.Naming.{Ids, polled}
 use Rattle.hp_exact.proofs.Invariant.{is_reporting}
-use Rattle.hp_exact.proofs.Losing.{Losses}
-use Rattle.hp_exact.proofs.Lost.{losses_go}
-use Rattle.hp_exact.proofs.Reporting.{no_more}
-use Rattle.hp_exact.proofs.Wholes.{Whole, whole_begins, whole_goes, fresh_at_hand_over}
+use Rattle.hp_exact.proofs.Wholes.{fresh_at_hand_over}
 use Rattle.hp_exact.proofs.Quiet.{handed_of}
 use Rattle.hp_exact.proofs.Ejecting.{shows_reads, may_tell, SaidAt, Owns}
 use Rattle.hp_exact.proofs.EjectReads.{said_fresh, said_goes}
 use Rattle.hp_exact.specs.Ejects.{refusal_shows}
+use Rattle.hp_exact.proofs.LostLaw.{Lossless, lossless_begins, lossless_goes}
 
 ejecting_needs : (l : Label) → is_among l ejecting ≡ true → (part_of l ≡ Monarchs) × (need_of l ≡ Ejecting)
 ejecting_needs E0 e = (refl, refl)
@@ -84,34 +82,26 @@ eject_slot p s h mine = by_address (smm_address (at s 0)) refl
 
 -- every state of a run
 pub record Refusing (p : Platform) (past : List Transition) (s : State) : Type 0 where
-  pub whole : Whole p past s
-  pub losses : is_handed s.stage ≡ true → is_after_broadcast s.monarch.label ≡ true → s.disturbed ≡ false → Losses p (own_of p past) s.block s.cpus s.monarch
+  pub lossless : Lossless p past s
   pub said : is_handed s.stage ≡ true → SaidAt p (entries_of (own_of p past)) s.disturbed s.writes s.monarch s.monarch.label
 
 pub refusing_begins : (p : Platform) → IsFit p → Refusing p [] (start p)
-refusing_begins p fits = record { whole = whole_begins p fits; losses = λ e after quiet. absurd cc; said = λ e. absurd cc }
+refusing_begins p fits = record { lossless = lossless_begins p fits; said = λ e. absurd cc }
 
 pub refusing_goes : (p : Platform) → Sound p → Ids p → 1 ≤ p.polls → (past : List Transition) (s t : State) (e : Entry) → Refusing p past s → run_on p s e ≡ Some t → Refusing p (made s e t ∷ past) t
-refusing_goes p fit ids polled past s t e h is = record { whole = whole; losses = by_losses (is_handed s.stage) refl; said = by_said (is_handed s.stage) refl }
+refusing_goes p fit ids polled past s t e h is = record { lossless = next; said = by_said (is_handed s.stage) refl }
   where
-    whole : Whole p (made s e t ∷ past) t
-    whole = whole_goes p fit ids past s t e h.whole is
-
-    fresh : is_handed s.stage ≡ false → is_handed t.stage ≡ true → is_after_broadcast t.monarch.label ≡ false
-    fresh before handed = fresh_at_hand_over p s t e fit h.whole.good before is handed
-
-    by_losses : (b : Bool) → is_handed s.stage ≡ b → is_handed t.stage ≡ true → is_after_broadcast t.monarch.label ≡ true → t.disturbed ≡ false → Losses p (own_of p (made s e t ∷ past)) t.block t.cpus t.monarch
-    by_losses true on over after quiet = losses_go p fit ids past s (stood p s fit (handed_of p s h.whole.good on)) (h.whole.handed on) (h.losses on) e t is after quiet
-    by_losses false on over after quiet = no_more (is_after_broadcast t.monarch.label) (fresh on over) after
+    next : Lossless p (made s e t ∷ past) t
+    next = lossless_goes p fit ids past s t e h.lossless is
 
     owns : is_handed t.stage ≡ true → Owns p t.disturbed t.monarch
-    owns over there quiet = let c = telling_reports t.monarch.label there in ((whole.handed over).undisturbed c.0 quiet).reported.own c.1
+    owns over there quiet = let c = telling_reports t.monarch.label there in ((next.whole.handed over).undisturbed c.0 quiet).reported.own c.1
 
     by_said : (b : Bool) → is_handed s.stage ≡ b → is_handed t.stage ≡ true → SaidAt p (entries_of (own_of p (made s e t ∷ past))) t.disturbed t.writes t.monarch t.monarch.label
     by_said true on over =
-        let handed = handed_of p s h.whole.good on in
-        said_goes p fit past s (stood p s fit handed) polled (λ mine. let less = eject_slot p s handed mine in let few = fit.few in omega (arith, less, few)) (λ after quiet. (h.losses on after quiet).never) (h.said on) e t is (owns over)
-    by_said false on over = said_fresh p (entries_of (own_of p (made s e t ∷ past))) t.disturbed t.writes t.monarch t.monarch.label (fresh on over)
+        let handed = handed_of p s h.lossless.whole.good on in
+        said_goes p fit past s (stood p s fit handed) polled (λ mine. let less = eject_slot p s handed mine in let few = fit.few in omega (arith, less, few)) (λ after quiet. (h.lossless.losses on after quiet).never) (h.said on) e t is (owns over)
+    by_said false on over = said_fresh p (entries_of (own_of p (made s e t ∷ past))) t.disturbed t.writes t.monarch t.monarch.label (fresh_at_hand_over p s t e fit h.lossless.whole.good on is over)
 
 -- what is told
 pub refused_by : (p : Platform) (past : List Transition) (s : State) (d : Bool) → is_disturbed p (entries_of past) ≡ d → (why : Refusal) → shows_reads p (entries_of (own_of p past)) (Refused why) ≡ true → (d ≡ false → may_tell (Refused why) ≡ true) → (u : Outcome) → refusal_shows p (telling p past s u) why ≡ true

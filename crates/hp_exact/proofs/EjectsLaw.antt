@@ -63,11 +63,11 @@ goes p fits past s t e h is = record { refusing = next; knows = knows_on p fits 
 
     by_stage : (b : Bool) → is_handed s.stage ≡ b → is_handed t.stage ≡ true → PartsAt p (own_of p (made s e t ∷ past)) t.disturbed t.cpus t.writes t.monarch t.monarch.label
     by_stage true on over =
-        let whole = h.refusing.whole in
+        let whole = h.refusing.lossless.whole in
         let handed = handed_of p s whole.good on in
-        parts_go p fit (ids_of p fits) past s (stood p s fit handed) (whole.handed on) (h.refusing.losses on) (λ mine. let less = eject_slot p s handed mine in let few = fit.few in omega (arith, less, few)) handed.slots.slotted (h.parts on) e t is
-        (handed_of p t next.whole.good over).recorded.1
-    by_stage false on over = parts_fresh p (own_of p (made s e t ∷ past)) t.disturbed t.cpus t.writes t.monarch t.monarch.label (fresh_at_hand_over p s t e fit h.refusing.whole.good on is over)
+        parts_go p fit (ids_of p fits) past s (stood p s fit handed) (whole.handed on) (h.refusing.lossless.losses on) (λ mine. let less = eject_slot p s handed mine in let few = fit.few in omega (arith, less, few)) handed.slots.slotted (h.parts on) e t is
+        (handed_of p t next.lossless.whole.good over).recorded.1
+    by_stage false on over = parts_fresh p (own_of p (made s e t ∷ past)) t.disturbed t.cpus t.writes t.monarch t.monarch.label (fresh_at_hand_over p s t e fit h.refusing.lossless.whole.good on is over)
 
 -- what is told
 eject_by : (p : Platform) (past : List Transition) (s : State) (d : Bool) → is_disturbed p (entries_of past) ≡ d → s.monarch.slots.bound ≡ bound p (entries_of past) → (o u : Outcome) → Gone p (own_of p past) d s.monarch o → shows_reads p (entries_of (own_of p past)) o ≡ true → (d ≡ false → may_tell o ≡ true) → eject_shows_in p (telling p past s u) o ≡ true
@@ -99,8 +99,8 @@ test_passes : (p : Platform) → Sound p → (past : List Transition) (s t : Sta
 test_passes p fit past s t e h is = by_stage (is_handed s.stage) refl
   where
     by_stage : (b : Bool) → is_handed s.stage ≡ b → when_told p (eject_shows p) past s (outcome_in e.event) ≡ true
-    by_stage true on = let whole = h.refusing.whole in told_after p past s (stood p s fit (handed_of p s whole.good on)) (whole.handed on) (accounted_of p past s h.knows on) (h.refusing.said on) (h.parts on) e t is
-    by_stage false on = silent_before p (eject_shows p) past s t e h.refusing.whole.good on is
+    by_stage true on = let whole = h.refusing.lossless.whole in told_after p past s (stood p s fit (handed_of p s whole.good on)) (whole.handed on) (accounted_of p past s h.knows on) (h.refusing.said on) (h.parts on) e t is
+    by_stage false on = silent_before p (eject_shows p) past s t e h.refusing.lossless.whole.good on is
 
 pub law : (p : Platform) (es : List Entry) → IsFit p → each_told p (eject_shows p) (transitions p es) ≡ true
 law p es fits =

@@ -1,4 +1,4 @@
--- Each kind of step keeps all parts.
+-- Each row of the monarch's keeps all parts, and so each step does.
 use Rattle.std.proofs.Common.{ℕ, ◌≡◌, ◌≢◌, ◌==◌, Bool, true, false, not, ◌&&◌, List, [], ◌∷◌, slice_set, Some, None, refl, sym, ap, subst, ◌∙◌, get_or-set_other}
 use Rattle.std.proofs.lemmas.Bool.{and_parts, and_from, or_right}
 use Rattle.hp_model.specs.declared.platforms.Platform.{Platform}

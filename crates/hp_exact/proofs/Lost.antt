@@ -1,4 +1,4 @@
--- The law: nobody leaves in the entries of an outcome but by an eject, while the session is undisturbed.
+-- Over each kind of step: nobody leaves in the entries of an outcome but by an eject, while the session is undisturbed.
 use Rattle.std.proofs.Common.{ℕ, ◌≡◌, ◌<◌, ◌==◌, ◌⊎◌, Bool, true, false, cond, not, ◌&&◌, ◌||◌, List, [], ◌∷◌, length, Some, None, refl, sym, ap, subst, ◌∙◌, arith, ◌++◌}
 use Rattle.std.proofs.lemmas.Bool.{or_right, eqb-true}
 use Rattle.hp_model.specs.declared.platforms.Platform.{Platform}

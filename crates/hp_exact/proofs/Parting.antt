@@ -1,4 +1,4 @@
--- Ejects: the eject's processor has a slot, has parked in its tile before it is ejected, and it alone leaves. What each label's record says, and where rows lead.
+-- What is said of an eject's processor, label by label: it has a slot, has parked in its tile before it is ejected, and it alone leaves; and where rows lead.
 use Rattle.std.proofs.Common.{ℕ, ◌≡◌, ◌+◌, ◌-◌, ◌<◌, ◌==◌, Bool, true, false, not, ◌&&◌, ◌||◌, nat_lt, nat_le, List, [], ◌∷◌, ◌++◌, length, drop, Option, Some, None, bit_and, refl, sym, ap, subst, ◌∙◌, arith}
 use Rattle.std.proofs.lemmas.Bool.{and_from}
 use Rattle.std.proofs.lemmas.Bool.Decides.{nat_tests}
