@@ -32,7 +32,7 @@ use Rattle.hp_exact.proofs.Wholes.{fresh_at_hand_over, silent_before}
 use Rattle.hp_exact.proofs.Quiet.{handed_of}
 use Rattle.hp_exact.proofs.Ejecting.{shows_reads, may_tell, SaidAt}
 use Rattle.hp_exact.proofs.EjectTold.{eject_slot, Refusing, refusing_begins, refusing_goes, refused_by}
-use Rattle.hp_exact.proofs.Parting.{Gone, PartsAt}
+use Rattle.hp_exact.proofs.EjectTie.{Gone, PartsAt}
 use Rattle.hp_exact.proofs.PartSteps.{parts_go}
 use Rattle.hp_exact.proofs.Parked.{parts_fresh}
 use Rattle.hp_exact.specs.Ejects.{eject_shows_in, eject_shows}

@@ -29,6 +29,7 @@ pub mod Wholes
 pub mod Beginning
 pub mod Quiet
 pub mod Truth
+pub mod Losses
 pub mod Losing
 pub mod OwnEntries
 pub mod EjectedSlots
@@ -45,6 +46,7 @@ pub mod Ejecting
 pub mod ParkedByte
 pub mod EjectReads
 pub mod EjectTold
+pub mod EjectTie
 pub mod Parting
 pub mod Departures
 pub mod Parked

@@ -41,7 +41,8 @@ use Rattle.hp_exact.proofs.Reporting.{no_more, all_drop_last}
 use Rattle.hp_exact.proofs.CalledIn.{was_quiet, not_broadcast, present_set}
 use Rattle.hp_exact.proofs.InSmm.{none_outside, present_go, init_outside}
 use Rattle.hp_exact.proofs.Reading.{select_is, read_status}
-use Rattle.hp_exact.proofs.Losing.{pending, is_keeping, Losses, Deeds, losses_row}
+use Rattle.hp_exact.proofs.Losing.{Deeds, losses_row}
+use Rattle.hp_exact.proofs.Losses.{pending, is_keeping, Losses}
 use Rattle.hp_model.proofs.Same.{same_outcome-equal}
 use Rattle.hp_model.specs.Outcomes.{own_of, when_told, departures, may_lose, is_none, loses_none}
 use Rattle.hp_model.specs.Events.{outcome_in}

@@ -12,7 +12,7 @@ use Rattle.hp_sealed.specs.Left.{Sound}
 use Rattle.hp_exact.proofs.Naming.{Ids, ids_of}
 use Rattle.hp_exact.proofs.Stood.{stood}
 use Rattle.hp_exact.proofs.Reporting.{no_more}
-use Rattle.hp_exact.proofs.Losing.{Losses}
+use Rattle.hp_exact.proofs.Losses.{Losses}
 use Rattle.hp_exact.proofs.Wholes.{Whole, whole_begins, whole_goes, fresh_at_hand_over, silent_before}
 use Rattle.hp_exact.proofs.Quiet.{handed_of}
 use Rattle.hp_sealed.proofs.Starts.{sound}

@@ -19,8 +19,8 @@ use Rattle.hp_model.specs.Outcomes.{departures, is_eject_of, is_only}
 use Rattle.hp_sealed.proofs.Left.{pick}
 use Rattle.hp_exact.proofs.Monarchs.{is_among, ejecting}
 use Rattle.hp_exact.proofs.Hits.{Alike}
-use Rattle.hp_exact.proofs.Losing.{pending}
-use Rattle.hp_exact.proofs.Parting.{looping, Parked, Seated, Waits, Alone, Gone, PartsAt}
+use Rattle.hp_exact.proofs.Losses.{pending}
+use Rattle.hp_exact.proofs.EjectTie.{looping, Parked, Seated, Waits, Alone, Gone, PartsAt}
 
 -- a parked processor
 pub parked_stays : (p : Platform) (slot : ℕ) (c d : Cpu) → d.present ≡ c.present → d.smbase ≡ c.smbase → smm_address d ≡ smm_address c → Parked p slot c → Parked p slot d

@@ -44,11 +44,11 @@ use Rattle.hp_exact.proofs.Releasing.{slot_small, kept_called}
 use Rattle.hp_exact.proofs.Rows.{access_of, Unwritten, other_unwritten}
 use Rattle.hp_exact.proofs.CalledIn.{present_set}
 use Rattle.hp_exact.proofs.InSmm.{none_outside, present_go, smm_there, init_outside}
-use Rattle.hp_exact.proofs.Losing.{Losses}
+use Rattle.hp_exact.proofs.Losses.{Losses}
 use Rattle.hp_exact.proofs.Invariant.{Invariant}
 use Rattle.hp_exact.proofs.ParkedByte.{marks_other, left_outside, left_entering}
 use Rattle.hp_exact.proofs.OwnEntries.{own_more, elsewhere}
-use Rattle.hp_exact.proofs.Parting.{looping, Parked, Seated, PartsAt}
+use Rattle.hp_exact.proofs.EjectTie.{looping, Parked, Seated, PartsAt}
 use Rattle.hp_exact.proofs.Departures.{departures_same}
 use Rattle.hp_safety.proofs.Entering.{may_outside}
 use Rattle.hp_exact.proofs.Parked.{early_rows, loops_next, loops_relocated, parked_alike, parked_inside, parked_stays, parts_fresh, parts_same, waiting_rows}

@@ -38,11 +38,12 @@ use Rattle.hp_exact.proofs.Agreeing.{gone_at}
 use Rattle.hp_exact.proofs.Rows.{access_of, at_want, stays_row}
 use Rattle.hp_exact.proofs.CalledIn.{was_quiet}
 use Rattle.hp_exact.proofs.InSmm.{present_go, smm_there}
-use Rattle.hp_exact.proofs.Losing.{pending, Losses}
+use Rattle.hp_exact.proofs.Losses.{pending, Losses}
 use Rattle.hp_exact.proofs.Invariant.{Invariant}
 use Rattle.hp_exact.proofs.ParkedByte.{loads_parked, cleared, map_leaves}
 use Rattle.hp_exact.proofs.OwnEntries.{ejecting_goes, own_more, is_collects, by_label}
-use Rattle.hp_exact.proofs.Parting.{Parked, Seated, PartsAt, Does, parts_row}
+use Rattle.hp_exact.proofs.Parting.{Does, parts_row}
+use Rattle.hp_exact.proofs.EjectTie.{Parked, Seated, PartsAt}
 use Rattle.hp_exact.proofs.Departures.{departures_same, filter_one, none_is, stays_there}
 use Rattle.hp_exact.proofs.EjectedSlots.{eject_gone}
 use Rattle.hp_exact.proofs.Parked.{late_rows, parked_alike, still_rows, waiting_rows}

@@ -39,7 +39,7 @@ use Rattle.hp_safety.proofs.Held.{HeldTied, held_on, Knows, knows_first, knows_o
 use Rattle.hp_safety.proofs.FactRows.{known_out}
 use Rattle.hp_safety.proofs.Looks.{length-unread}
 use Rattle.hp_safety.proofs.Facts.{FactsTied, known_more, facts_on}
-use Rattle.hp_safety.proofs.Classing.{ClassAt}
+use Rattle.hp_safety.proofs.Classes.{ClassAt}
 use Rattle.hp_safety.proofs.Outcoming.{class_now, OutcomesTied, outcomes_on}
 
 -- the boot processors are known at the start

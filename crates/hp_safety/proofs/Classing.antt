@@ -1,4 +1,4 @@
--- What an outcome says follows from the class of its report.
+-- Each row keeps the class of the report that is being answered: what an outcome says follows from it.
 use Rattle.std.proofs.Common.{ℕ, ◌≡◌, ◌+◌, ◌-◌, ◌==◌, Bool, true, false, not, ◌&&◌, ◌||◌, nat_lt, nat_le, List, [], ◌∷◌, ◌++◌, length, drop, Option, Some, None, slice_get, bit_and, refl, sym, ap, subst, ◌∙◌, arith}
 use Rattle.std.proofs.lemmas.Bool.Decides.{nat_tests}
 use Rattle.hp_model.specs.declared.outcomes.Outcome.{Outcome}
@@ -14,33 +14,14 @@ use Rattle.hp_model.specs.Add.{AddsAt, Ends, failed, looks, is_last_look, saw_fl
 use Rattle.hp_model.specs.Eject.{EjectsAt, EjectEnds, awaits, saw_parked, handed_to_block, saw_status}
 use Rattle.hp_model.specs.Monarch.{Monarch, at_label, first_slot, next_slot, look_at, looked, noted, commanded, Class, Tells, Adds, Ejects, class, facts_of as facts_by, took, answered, taken_up, next_report, collected, led, eject_led}
 use Rattle.hp_model.specs.Handlers.{Seat, next_at}
-use Rattle.hp_model.specs.Outcomes.{ends_add, ends_eject, answers_by}
+use Rattle.hp_model.specs.Outcomes.{ends_add, ends_eject}
 use Rattle.hp_sealed.proofs.Left.{pick}
 use Rattle.hp_safety.proofs.Needs.{need_of, Facts, Needs}
 use Rattle.hp_safety.proofs.EachRow.{row_of_each}
 use Rattle.hp_safety.proofs.Tallies.{Turn, Waiting, Collecting, Beginning, Running, Parting, Telling, Ending, Over, turn_of}
 use Rattle.hp_safety.proofs.Tallying.{first_dropped}
 use Rattle.hp_model.proofs.Same.{same_outcome-refl}
-
--- this class, of this report, is the one by which the record acts
-pub record Names (o : Option Report) (by_cpu by_apic : ℕ) : Type 0 where
-  pub report : Report
-  pub is : o ≡ Some report
-  pub cpu : report.cpu ≡ by_cpu
-  pub apic : report.apic ≡ by_apic
-
-abbrev pub ClassAt : Class → Option Report → Monarch → Turn → Type 0
-ClassAt c o r Waiting = Unit {0}
-ClassAt c o r Collecting = Unit {0}
-ClassAt c o r Beginning = (c ≡ Adds) × Names o r.add.cpu r.add.apic
-ClassAt c o r Running = (c ≡ Adds) × Names o r.add.cpu r.add.apic
-ClassAt c o r Parting = (c ≡ Ejects) × Names o r.eject.cpu r.eject.apic
-ClassAt c o r Telling = answers_by c r.outcome o ≡ true
-ClassAt c o r Ending = Unit {0}
-ClassAt c o r Over = Unit {0}
-
-abbrev pub Classed : Class → Option Report → Monarch → Type 0
-Classed c o r = ClassAt c o r (turn_of r.label)
+use Rattle.hp_safety.proofs.Classes.{ClassAt, Classed}
 
 itself : (n : ℕ) → (n == n) ≡ true
 itself n = grind (arith, nat_tests)

@@ -32,6 +32,7 @@ pub mod Answered
 pub mod FactRows
 pub mod Looks
 pub mod Facts
+pub mod Classes
 pub mod Classing
 pub mod Outcoming
 pub mod Answering
@@ -39,6 +40,7 @@ pub mod Calling
 pub mod Disturbed
 pub mod Flags
 pub mod Departing
+pub mod Rises
 pub mod Rising
 pub mod Reporting
 pub mod Guarding

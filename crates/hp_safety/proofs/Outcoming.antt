@@ -45,7 +45,8 @@ use Rattle.hp_safety.proofs.Tallies.{Tally, tally_of, open_in, held_in, tally_af
 use Rattle.hp_safety.proofs.Held.{HeldTied, tally_still, after_row, row_says, row_bounds}
 use Rattle.hp_safety.proofs.FactRows.{noted_at}
 use Rattle.hp_safety.proofs.Facts.{FactsTied, told_size, row_known, row_looks}
-use Rattle.hp_safety.proofs.Classing.{ClassAt, Classed, class_report, takes_up, row_class, class_found, class_judged, class_reported, is_busy, busy_index, telling_takes, taking}
+use Rattle.hp_safety.proofs.Classing.{class_report, takes_up, row_class, class_found, class_judged, class_reported, is_busy, busy_index, telling_takes, taking}
+use Rattle.hp_safety.proofs.Classes.{ClassAt, Classed}
 
 -- the class of the first report without an outcome, by the entries before those of its outcome
 abbrev pub class_now : Platform → List Transition → Class

@@ -34,7 +34,8 @@ use Rattle.hp_safety.proofs.Named.{Accounted, outside_address}
 use Rattle.hp_safety.proofs.MonarchSteps.{MonarchStep, monarch_steps}
 use Rattle.hp_safety.proofs.Tallies.{Tally, tally_of, tally_after, turn_of, TallyAt}
 use Rattle.hp_safety.proofs.Held.{HeldTied, Knows, knows_first, knows_on, after_row}
-use Rattle.hp_safety.proofs.Rising.{RisingAt, Rising, rises_end, row_rising}
+use Rattle.hp_safety.proofs.Rising.{row_rising}
+use Rattle.hp_safety.proofs.Rises.{RisingAt, Rising, rises_end}
 
 rising_step : (p : Platform) (s : State) (e : Entry) (n : Monarch) → MonarchStep p s e n → Rising s.monarch → Rising n
 rising_step p s e n (inl o) h = subst Rising (sym o.same) h
