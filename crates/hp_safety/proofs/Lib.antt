@@ -39,6 +39,4 @@ pub mod Calling
 pub mod Disturbed
 pub mod Flags
 pub mod Departing
-pub mod Rising
-pub mod Reporting
 pub mod Guarding
