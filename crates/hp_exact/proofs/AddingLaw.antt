@@ -1,5 +1,5 @@
--- The laws on adds: what their outcomes show in their entries, and where an added processor is.
-use Rattle.std.proofs.Common.{ℕ, suc, ◌≡◌, ◌+◌, ◌==◌, ◌⊎◌, inl, inr, Bool, true, false, ◌||◌, List, [], ◌∷◌, ◌++◌, length, replicate, Some, refl, sym, ap, subst, ◌∙◌, arith, if◌then◌else◌}
+-- The law on adds: what their outcomes show in their entries, and where an added processor is.
+use Rattle.std.proofs.Common.{ℕ, suc, ◌≡◌, ◌+◌, ◌==◌, ◌⊎◌, inl, inr, Bool, true, false, ◌||◌, List, [], ◌∷◌, ◌++◌, length, drop, replicate, Some, refl, sym, ap, subst, ◌∙◌, arith, if◌then◌else◌}
 use Rattle.std.specs.Str.{bytes_eq}
 use Rattle.std.proofs.lemmas.Bool.{and_from, or_right}
 use Rattle.std.proofs.lemmas.Bool.Decides.{nat_tests}
@@ -20,7 +20,7 @@ use Rattle.hp_model.specs.Runs.{run_on}
 use Rattle.hp_model.specs.Events.{outcome_in}
 use Rattle.hp_model.specs.Transitions.{Transition, transitions, entries_of}
 use Rattle.hp_model.specs.Account.{bound, with_bound}
-use Rattle.hp_model.specs.Outcomes.{Telling, telling, when_told, each_told, has_slot, is_not_at_gate, is_not_checked_in, is_at_tile}
+use Rattle.hp_model.specs.Outcomes.{Telling, own_of, telling, when_told, each_told, was_let_in, has_slot, is_not_at_gate, is_not_checked_in, is_at_tile}
 use Rattle.hp_model.proofs.AtEach.{made as step_made, each_passes}
 use Rattle.hp_sealed.specs.Left.{Sound}
 use Rattle.hp_sealed.specs.Booting.{IsBooted}
@@ -34,7 +34,7 @@ use Rattle.hp_safety.proofs.Runs.{IsHanded, rebase}
 use Rattle.hp_safety.proofs.Named.{Accounted, accounted_on}
 use Rattle.hp_safety.proofs.Ties.{session_of, TiedAt, tie_of}
 use Rattle.hp_safety.proofs.Held.{Knows, knows_first, knows_on, boot_event}
-use Rattle.hp_exact.specs.Adds.{refusals_in, shows_looks, entry_in, shows_entry, slot_in, shows_slot, presence_in, shows_presence, add_in, shows_add}
+use Rattle.hp_exact.proofs.Showing.{shows_refused, add_in, shows_add}
 use Rattle.hp_exact.proofs.Naming.{ids_of, polled}
 use Rattle.hp_exact.proofs.Invariant.{Invariant}
 use Rattle.hp_exact.proofs.Wholes.{Whole, whole_begins, whole_goes}
@@ -147,17 +147,12 @@ module _ (p : Platform) (past : List Transition) (s : State) where
   abbrev mine : List Entry
   mine = own p (entries_of past)
 
-  pub let_in : (o : Outcome) → Now o → entry_in p (telling p past s o) o ≡ true
-  let_in (outcome.Added cpu apic slot) h =
-      rw (own_entries p past, h.same_apic) (and_from _ _ h.arrived h.entered)
-  let_in (outcome.Ejected cpu apic slot) h = refl
-  let_in (outcome.Refused why) h = refl
+  let_in : (cpu apic slot : ℕ) → Now (outcome.Added cpu apic slot) → was_let_in p apic (entries_of (own_of p past)) ≡ true
+  let_in cpu apic slot h = rw (own_entries p past, h.same_apic) (and_from _ _ h.arrived h.entered)
 
-  pub has_place : (o : Outcome) → Now o → slot_in p (telling p past s o) o ≡ true
-  has_place (outcome.Added cpu apic slot) h =
+  has_place : (cpu apic slot : ℕ) → Now (outcome.Added cpu apic slot) → has_slot (bound p (drop (length (own_of p past)) (entries_of past))) (bound p (entries_of past)) apic slot ≡ true
+  has_place cpu apic slot h =
       rw (own_size p past, h.same_apic, h.same_slot) (has_its_slot (bound p (before p (entries_of past))) (bound p (entries_of past)) s.monarch.add.apic s.monarch.add.slot h.grown h.is_place)
-  has_place (outcome.Ejected cpu apic slot) h = refl
-  has_place (outcome.Refused why) h = refl
 
   at_gate : (apic : ℕ) → NowNot (NotAtGate 0 apic) → is_not_at_gate p apic mine ≡ true
   at_gate apic h = rw (h.same_apic, h.three, h.flags, h.pairs, eq_itself (replicate p.polls 0)) refl
@@ -165,21 +160,19 @@ module _ (p : Platform) (past : List Transition) (s : State) where
   checked_in : (apic : ℕ) → NowNot (NotCheckedIn 0 apic) → is_not_checked_in p apic mine ≡ true
   checked_in apic h = rw (h.same_apic, h.three, h.seen, h.arrivals, eq_itself (replicate p.polls 0)) refl
 
-  pub looked : (o : Outcome) → Now o → refusals_in p (telling p past s o) o ≡ true
-  looked (outcome.Added cpu apic slot) h = refl
-  looked (outcome.Ejected cpu apic slot) h = refl
-  looked (outcome.Refused (Disabled cpu status)) h = refl
-  looked (outcome.Refused (Both cpu status)) h = refl
-  looked (outcome.Refused (AlreadyKnown cpu apic slot)) h = refl
-  looked (outcome.Refused (GateHeld cpu apic other)) h = refl
-  looked (outcome.Refused (NotAtGate cpu apic)) h = ap (is_not_at_gate p apic) (own_entries p past) ∙ at_gate apic h
-  looked (outcome.Refused (NotCheckedIn cpu apic)) h = ap (is_not_checked_in p apic) (own_entries p past) ∙ checked_in apic h
-  looked (outcome.Refused (NoUnplug cpu features)) h = refl
-  looked (outcome.Refused (NotKnown cpu apic)) h = refl
-  looked (outcome.Refused (NotArrived cpu apic)) h = refl
-  looked (outcome.Refused (NotParked cpu apic)) h = refl
-  looked (outcome.Refused (Foreign cpu apic)) h = refl
-  looked (outcome.Refused (StillPending cpu status)) h = refl
+  looked : (why : Refusal) → Now (outcome.Refused why) → shows_refused p (telling p past s (outcome.Refused why)) why ≡ true
+  looked (Disabled cpu status) h = refl
+  looked (Both cpu status) h = refl
+  looked (AlreadyKnown cpu apic slot) h = refl
+  looked (GateHeld cpu apic other) h = refl
+  looked (NotAtGate cpu apic) h = ap (is_not_at_gate p apic) (own_entries p past) ∙ at_gate apic h
+  looked (NotCheckedIn cpu apic) h = ap (is_not_checked_in p apic) (own_entries p past) ∙ checked_in apic h
+  looked (NoUnplug cpu features) h = refl
+  looked (NotKnown cpu apic) h = refl
+  looked (NotArrived cpu apic) h = refl
+  looked (NotParked cpu apic) h = refl
+  looked (Foreign cpu apic) h = refl
+  looked (StillPending cpu status) h = refl
 
 -- presence
 module _ (p : Platform) (past : List Transition) (s : State) (flag : is_disturbed p (entries_of past) ≡ s.disturbed) where
@@ -195,29 +188,11 @@ module _ (p : Platform) (past : List Transition) (s : State) (flag : is_disturbe
           let i = itself (tile p slot) in
           or_right (is_disturbed p (entries_of past)) (is_at_tile p slot (at s cpu)) (rw (present, place, i) refl)
 
-  pub is_present : (o : Outcome) → Now p past s o → presence_in p (telling p past s o) o ≡ true
-  is_present (outcome.Added cpu apic slot) h = at_home cpu slot h.there
-  is_present (outcome.Ejected cpu apic slot) h = refl
-  is_present (outcome.Refused why) h = refl
-
-  -- and all of it
-  pub is_shown : (o : Outcome) → Now p past s o → add_in p (telling p past s o) o ≡ true
-  is_shown (outcome.Added cpu apic slot) h =
-      and_from _ _ (let_in p past s (outcome.Added cpu apic slot) h) (and_from _ _ (has_place p past s (outcome.Added cpu apic slot) h) (is_present (outcome.Added cpu apic slot) h))
+  -- all of it
+  is_shown : (o : Outcome) → Now p past s o → add_in p (telling p past s o) o ≡ true
+  is_shown (outcome.Added cpu apic slot) h = and_from _ _ (let_in p past s cpu apic slot h) (and_from _ _ (has_place p past s cpu apic slot h) (at_home cpu slot h.there))
   is_shown (outcome.Ejected cpu apic slot) h = refl
-  is_shown (outcome.Refused why) h = looked p past s (outcome.Refused why) h
-
-pub looks_law : (p : Platform) (es : List Entry) → IsFit p → each_told p (shows_looks p) (transitions p es) ≡ true
-looks_law p es fits = law_by p fits (shows_looks p) (λ past s told flag. looked p past s s.monarch.outcome told) es
-
-pub entry_law : (p : Platform) (es : List Entry) → IsFit p → each_told p (shows_entry p) (transitions p es) ≡ true
-entry_law p es fits = law_by p fits (shows_entry p) (λ past s told flag. let_in p past s s.monarch.outcome told) es
-
-pub slot_law : (p : Platform) (es : List Entry) → IsFit p → each_told p (shows_slot p) (transitions p es) ≡ true
-slot_law p es fits = law_by p fits (shows_slot p) (λ past s told flag. has_place p past s s.monarch.outcome told) es
-
-pub presence_law : (p : Platform) (es : List Entry) → IsFit p → each_told p (shows_presence p) (transitions p es) ≡ true
-presence_law p es fits = law_by p fits (shows_presence p) (λ past s told flag. is_present p past s flag s.monarch.outcome told) es
+  is_shown (outcome.Refused why) h = looked p past s why h
 
 pub adds_law : (p : Platform) (es : List Entry) → IsFit p → each_told p (shows_add p) (transitions p es) ≡ true
 adds_law p es fits = law_by p fits (shows_add p) (λ past s told flag. is_shown p past s flag s.monarch.outcome told) es

@@ -34,7 +34,7 @@ use Rattle.hp_exact.proofs.Wholes.{fresh_at_hand_over}
 use Rattle.hp_exact.proofs.Quiet.{handed_of}
 use Rattle.hp_exact.proofs.Ejecting.{shows_reads, may_tell, SaidAt, Owns}
 use Rattle.hp_exact.proofs.EjectReads.{said_fresh, said_goes}
-use Rattle.hp_exact.specs.Ejects.{refusal_shows}
+use Rattle.hp_exact.proofs.Showing.{refusal_shows}
 use Rattle.hp_exact.proofs.LostLaw.{Lossless, lossless_begins, lossless_goes}
 
 ejecting_needs : (l : Label) → is_among l ejecting ≡ true → (part_of l ≡ Monarchs) × (need_of l ≡ Ejecting)

@@ -35,7 +35,7 @@ use Rattle.hp_exact.proofs.EjectTold.{eject_slot, Refusing, refusing_begins, ref
 use Rattle.hp_exact.proofs.EjectTie.{Gone, PartsAt}
 use Rattle.hp_exact.proofs.PartSteps.{parts_go}
 use Rattle.hp_exact.proofs.Parked.{parts_fresh}
-use Rattle.hp_exact.specs.Ejects.{eject_shows_in, eject_shows}
+use Rattle.hp_exact.proofs.Showing.{eject_shows_in, eject_shows}
 
 -- every state of a run
 record Ejecting (p : Platform) (past : List Transition) (s : State) : Type 0 where

@@ -19,8 +19,7 @@ use Rattle.hp_safety.proofs.Answering.{answers_law}
 use Rattle.hp_safety.proofs.Answered.{answered_law}
 use Rattle.hp_safety.proofs.Held.{held_law}
 use Rattle.hp_safety.proofs.Guarding.{guarded}
-use Rattle.hp_exact.specs.Adds.{shows_add, shows_refused}
-use Rattle.hp_exact.specs.Ejects.{eject_shows, refusal_shows}
+use Rattle.hp_exact.proofs.Showing.{shows_add, shows_refused, eject_shows, refusal_shows}
 use Rattle.hp_exact.proofs.Quiet.{law as quiet_law}
 use Rattle.hp_exact.proofs.Truth.{law as reports_law}
 use Rattle.hp_exact.proofs.LostLaw.{law as lost_law}

@@ -1,7 +1,6 @@
 pub mod Stood
 pub mod Stepping
 pub mod Account
-pub mod Refusals
 pub mod Monarchs
 pub mod Invariant
 pub mod Reports
@@ -35,6 +34,7 @@ pub mod OwnEntries
 pub mod EjectedSlots
 pub mod LostLaw
 pub mod Lost
+pub mod Showing
 pub mod AddingTrail
 pub mod AddingTie
 pub mod AddingRows
@@ -54,3 +54,4 @@ pub mod ParkedSteps
 pub mod PartSteps
 pub mod EjectsLaw
 pub mod Exactness
+pub mod Undisturbed

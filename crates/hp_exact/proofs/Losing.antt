@@ -20,7 +20,7 @@ use Rattle.hp_model.specs.Step.{is_after_broadcast}
 use Rattle.hp_model.specs.Transitions.{Transition}
 use Rattle.hp_model.specs.Outcomes.{departures, is_none}
 use Rattle.hp_sealed.proofs.Left.{pick, pick_by}
-use Rattle.hp_exact.proofs.Refusals.{is_blaming}
+use Rattle.hp_exact.specs.Refusals.{is_blaming}
 use Rattle.hp_exact.proofs.Monarchs.{is_among, adding, ejecting, AddsOn, adds_on, next_by_class, class_tame}
 use Rattle.hp_exact.proofs.Stages.{adding_alone}
 use Rattle.hp_exact.proofs.Naming.{own_is}

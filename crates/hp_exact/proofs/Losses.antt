@@ -9,7 +9,7 @@ use Rattle.hp_model.specs.Block.{Block, slot_at}
 use Rattle.hp_model.specs.Monarch.{Monarch}
 use Rattle.hp_model.specs.Transitions.{Transition}
 use Rattle.hp_model.specs.Outcomes.{departures, may_lose, is_none}
-use Rattle.hp_exact.proofs.Refusals.{is_blaming}
+use Rattle.hp_exact.specs.Refusals.{is_blaming}
 use Rattle.hp_exact.proofs.Monarchs.{is_among, adding}
 
 -- an eject whose processor is still there, and one that is handed to the register block

@@ -13,7 +13,7 @@ use Rattle.hp_model.specs.Add.{Led, AddsAt, Ends, failed, is_last_look}
 use Rattle.hp_model.specs.Eject.{EjectLed, EjectsAt, EjectEnds}
 use Rattle.hp_model.specs.Monarch.{Monarch, Class, Tells, Adds, Ejects, refuses, class, facts_of, at_label, tells, adds, ejects, took, answered, taken_up, next_report, led, eject_led, held_class, insert_class, eject_class, Facts}
 use Rattle.hp_model.specs.Handlers.{Seat, next_at}
-use Rattle.hp_exact.proofs.Refusals.{is_blaming}
+use Rattle.hp_exact.specs.Refusals.{is_blaming}
 use Rattle.hp_sealed.proofs.Left.{pick, pick_by}
 
 -- the label is one of these

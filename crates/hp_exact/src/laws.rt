@@ -1,21 +1,30 @@
 //! Laws over definitions: public functions with empty bodies, whose clauses are what is proved.
 
-ghost use Rattle.std.specs.Prelude.{◌≡◌, true, List, Some};
+ghost use Rattle.std.specs.Prelude.{◌≡◌, true, false, not, List, Some};
 ghost use Rattle.hp_model.specs.declared.platforms.Platform.{Platform};
 ghost use Rattle.hp_model.specs.declared.entries.Entry.{Entry};
-ghost use Rattle.hp_model.specs.Platform.{IsFit};
+ghost use Rattle.hp_model.specs.Platform.{IsFit, is_late};
 ghost use Rattle.hp_model.specs.Step.{State};
 ghost use Rattle.hp_model.specs.Runs.{run};
-ghost use Rattle.hp_model.specs.Transitions.{transitions, at_each};
+ghost use Rattle.hp_model.specs.Transitions.{transitions, at_each, at_each_state};
+ghost use Rattle.hp_model.specs.Sessions.{is_disturbed};
 ghost use Rattle.hp_model.specs.Outcomes.{each_told, loses_none, shows};
 ghost use Rattle.hp_model.specs.Exact.{is_quiet, reports_truly, IsExact};
 ghost use Rattle.hp_model.specs.Safety.{IsSafe};
-ghost use Rattle.hp_exact.specs.Ejects.{eject_shows};
+ghost use Rattle.hp_exact.specs.Refusals.{is_blaming};
 
 /// Under prompt delivery no processor outside SMM makes an access or takes INIT while a session has all others called in, which is
-/// from its entry at S2 to its entry at E5, or to its end. So no session is disturbed.
+/// from its entry at S2 to its entry at E5, or to its end. So no session is disturbed: `prompt_sessions_are_undisturbed`.
 pub fn sessions_are_quiet()
     ensures { (p : Platform) (es : List Entry) → IsFit p → at_each (is_quiet p) (transitions p es) ≡ true }
+{}
+
+/// Under prompt delivery no session is disturbed: up to each state of a run nobody outside SMM has written to the register block while
+/// the session had all others called in. So what is said of undisturbed sessions holds of each, and none tells `Foreign` or
+/// `StillPending`, the two refusals that blame others.
+pub fn prompt_sessions_are_undisturbed()
+    ensures undisturbed { (p : Platform) (es : List Entry) → IsFit p → is_late p.delivery ≡ false → at_each_state p (λ older s. not (is_disturbed p older)) (transitions p es) ≡ true }
+    ensures blames_nobody { (p : Platform) (es : List Entry) → IsFit p → is_late p.delivery ≡ false → each_told p (λ t. not (is_blaming t.outcome)) (transitions p es) ≡ true }
 {}
 
 /// The processors of a session's reports rise strictly. While the session is undisturbed each report is true: its status byte was its
@@ -27,13 +36,6 @@ pub fn reports_are_true()
 /// While the session is undisturbed nobody becomes absent in the entries of an outcome, unless it tells an eject.
 pub fn outcomes_lose_none()
     ensures { (p : Platform) (es : List Entry) → IsFit p → each_told p (loses_none p) (transitions p es) ≡ true }
-{}
-
-/// What is told of an eject shows in the entries of its outcome. `Ejected`: the APIC ID is bound, the slot its place, and in an
-/// undisturbed session exactly this processor becomes absent, at E4b, from SMM in the slot's tile. `NotParked`: P looks at the parked
-/// byte read 0. `Foreign` and `StillPending`: the session is disturbed, and the latter's status was read, with bit 4.
-pub fn ejects_show()
-    ensures { (p : Platform) (es : List Entry) → IsFit p → each_told p (eject_shows p) (transitions p es) ≡ true }
 {}
 
 /// Each outcome of an add or an eject shows in its entries: in what they read and stored, and while the session is undisturbed in who has

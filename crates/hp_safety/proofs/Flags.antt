@@ -9,7 +9,7 @@ use Rattle.hp_model.specs.Monarch.{Monarch}
 use Rattle.hp_model.specs.Step.{State, start}
 use Rattle.hp_model.specs.Runs.{run_on}
 use Rattle.hp_model.specs.Transitions.{Transition, transitions, entries_of, since, at_each_state}
-use Rattle.hp_model.specs.Sessions.{bounds_session, session, was_at, interferes, disturbed_in, is_disturbed}
+use Rattle.hp_model.specs.Sessions.{bounds_session, session, was_at, interferes, disturbed_in, is_disturbed, flag_tells}
 use Rattle.hp_model.proofs.AtEach.{made as step_made, each_passes}
 use Rattle.hp_sealed.specs.Left.{Sound}
 use Rattle.hp_sealed.specs.Booting.{IsBooted}
@@ -17,7 +17,6 @@ use Rattle.hp_sealed.proofs.Starts.{sound, starts}
 use Rattle.hp_sealed.proofs.Goes.{boot_goes, refused_goes}
 use Rattle.hp_sealed.proofs.HandOver.{IsBefore, before_outside}
 use Rattle.hp_sealed.proofs.Runs.{Made, made}
-use Rattle.hp_safety.specs.Flags.{flag_tells}
 use Rattle.hp_safety.proofs.Backward.{at_states}
 use Rattle.hp_safety.proofs.Marked.{at_none}
 use Rattle.hp_safety.proofs.Events.{keeps}

@@ -40,7 +40,4 @@ pub mod Calling
 pub mod Disturbed
 pub mod Flags
 pub mod Departing
-pub mod Rises
-pub mod Rising
-pub mod Reporting
 pub mod Guarding

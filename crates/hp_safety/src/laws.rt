@@ -10,9 +10,8 @@ ghost use Rattle.hp_model.specs.Transitions.{transitions, at_each, at_each_state
 ghost use Rattle.hp_model.specs.Smbases.{IsDistinct, IsNamed};
 ghost use Rattle.hp_model.specs.Outcomes.{answers, each_told};
 ghost use Rattle.hp_model.specs.Exact.{moves_held, answers_all};
-ghost use Rattle.hp_safety.specs.Flags.{flag_tells};
+ghost use Rattle.hp_model.specs.Sessions.{flag_tells};
 ghost use Rattle.hp_safety.specs.Departures.{leaves_by_block};
-ghost use Rattle.hp_safety.specs.Reports.{reports_rise};
 ghost use Rattle.hp_model.specs.Safety.{IsGuarded, IsLockedBefore};
 
 /// Every instruction executed in SMM lies in four bytes of SMRAM that were locked before it, and no write has covered them since; and
@@ -67,9 +66,4 @@ pub fn disturbed_sessions_are_flagged()
 /// Whoever becomes absent does so by a write of the register block: the monarch's at E4b, or one from outside SMM.
 pub fn processors_leave_by_the_register_block()
     ensures { (p : Platform) (es : List Entry) (s : State) → IsFit p → run p es ≡ Some s → at_each (leaves_by_block p) (transitions p es) ≡ true }
-{}
-
-/// The processors that a session reports rise strictly, so none is reported twice in it.
-pub fn sessions_report_in_ascending_order()
-    ensures { (p : Platform) (es : List Entry) (s : State) → IsFit p → run p es ≡ Some s → at_each (reports_rise p) (transitions p es) ≡ true }
 {}
