@@ -15,7 +15,7 @@ use Rattle.hp_model.specs.SharedBytes.{layout_of, arrived_byte}
 use Rattle.hp_model.specs.Slots.{place_of}
 use Rattle.hp_model.specs.Collection.{Report}
 use Rattle.hp_model.specs.Monarch.{Class, Facts, class, is_own}
-use Rattle.hp_model.specs.Step.{same_access, writes_block}
+use Rattle.hp_model.specs.Step.{State, same_access, writes_block}
 use Rattle.hp_model.specs.Events.{access_in, outcome_in, is_access_of, is_entry_of, is_resume_of}
 use Rattle.hp_model.specs.Transitions.{since, newest}
 use Rattle.hp_model.specs.Account.{is_at, bound, is_known, left_held}
@@ -131,3 +131,7 @@ disturbed_in p (e ∷ older) =
 
 abbrev pub is_disturbed : Platform → List Entry → Bool
 is_disturbed p es = disturbed_in p (session es)
+
+-- while a session has all others called in, the state's flag is set where the entries say that it was disturbed
+abbrev pub flag_tells : Platform → List Entry → State → Bool
+flag_tells p es s = not (is_called_in p es) || (if is_disturbed p es then s.disturbed else not s.disturbed)

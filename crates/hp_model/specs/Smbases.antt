@@ -33,10 +33,14 @@ are_apart c d = not (c.present && d.present) || (not (c.smbase == d.smbase) || (
 abbrev pub are_all_apart : Platform → State → Bool
 are_all_apart p s = list_all (λ j. list_all (λ k. (j == k) || are_apart (at s j) (at s k)) (places (count_of p))) (places (count_of p))
 
+-- the same as a test of a state with the entries that led to it
+abbrev pub have_smbases_apart : Platform → List Entry → State → Bool
+have_smbases_apart p es s = are_all_apart p s
+
 -- no two processors hold one relocated SMBASE
 pub record IsDistinct (p : Platform) (es : List Entry) : Type 0 where
   pub own : at_each_state p (have_own_smbases p) (transitions p es) ≡ true
-  pub apart : at_each_state p (λ older s. are_all_apart p s) (transitions p es) ≡ true
+  pub apart : at_each_state p (have_smbases_apart p) (transitions p es) ≡ true
 
 -- it passes the gate: its exchange at F1 found its own APIC ID there
 abbrev pub passes : Platform → ℕ → Entry → Bool
@@ -70,6 +74,9 @@ is_named p older x k =
     is_resume_of k x.entry.event
     && (is_at p F6 x.entry && is_let_through p k (newest (comes_or_passes p k) older) (older_than (comes_or_passes p k) older))
 
+abbrev pub moves_named : Platform → List Transition → Transition → Bool
+moves_named p older x = list_all (is_named p older x) (moved_in p x)
+
 -- an SMBASE changes only by its processor's own RSM at F6, after it has passed the gate while the monarch had named its APIC ID
 pub record IsNamed (p : Platform) (es : List Entry) : Type 0 where
-  pub named : at_each (λ older x. list_all (is_named p older x) (moved_in p x)) (transitions p es) ≡ true
+  pub named : at_each (moves_named p) (transitions p es) ≡ true
