@@ -12,5 +12,6 @@ pub mod FedRecords
 pub mod Runs
 pub mod SafeTraces
 pub mod Scheduled
+pub mod Untouched
 pub mod Ways
 pub mod WrongTraces

@@ -1,5 +1,5 @@
 -- What the laws of safety say of transitions, each by its test; and the transitions of firmware that does something wrong.
-use Rattle.std.specs.Prelude.{Bool, true, false, ◌&&◌, ◌==◌, List, [], Option, Some, None, length, if◌then◌else◌}
+use Rattle.std.specs.Prelude.{Bool, true, ◌&&◌, ◌==◌, List, [], Option, Some, None, length, if◌then◌else◌}
 use Rattle.hp_model.specs.declared.platforms.Platform.{Platform}
 use Rattle.hp_model.specs.declared.entries.Entry.{Entry}
 use Rattle.hp_model.specs.declared.files.File.{File}
@@ -25,7 +25,7 @@ recorded p es = transitions_by (machine_on p) [] (start p) es
 abbrev pub finds_locked : List Transition → Bool
 finds_locked xs = at_each (λ older x. four_bytes (is_locked x.before.locks) x.entry.at) xs
 
--- what each part of the laws says of transitions, in order
+-- what each test of the laws says of transitions, in order; of the law of locked instructions the one that they are locked
 pub record Verdicts : Type 0 where
   pub locked : Bool
   pub own : Bool

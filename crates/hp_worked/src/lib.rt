@@ -28,6 +28,7 @@ pub use laws::{
 };
 pub use records::monarch_believes_no_answer;
 pub use safety::{
-    runs_are_recorded_well, worked_traces_are_safe, wrong_traces_are_no_runs,
-    wrong_traces_are_recorded, wrong_traces_are_refused,
+    nobody_is_astray_in_safe_traces, runs_are_recorded_well, worked_traces_are_safe,
+    worked_traces_are_untouched, wrong_traces_are_no_runs, wrong_traces_are_recorded,
+    wrong_traces_are_refused,
 };
