@@ -15,3 +15,4 @@ pub mod Scheduled
 pub mod Untouched
 pub mod Ways
 pub mod WrongTraces
+pub mod WrongStepsRefused

@@ -19,3 +19,4 @@ pub mod TwoAdds
 pub mod TwoNewProcessors
 pub mod Wide
 pub mod WrongBodies
+pub mod WrongSteps

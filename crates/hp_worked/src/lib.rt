@@ -7,6 +7,7 @@ mod ejects;
 mod laws;
 mod records;
 mod safety;
+mod steps;
 
 pub use accounts::{
     an_apic_id_is_held, apic_ids_are_bound, apic_ids_are_known, reports_have_their_class,
@@ -32,3 +33,4 @@ pub use safety::{
     worked_traces_are_untouched, wrong_traces_are_no_runs, wrong_traces_are_recorded,
     wrong_traces_are_refused,
 };
+pub use steps::{wrong_steps_are_no_runs, wrong_steps_are_recorded, wrong_steps_are_refused};
