@@ -9,6 +9,8 @@ pub mod EjectsRun
 pub mod EjectsScheduled
 pub mod Opened
 pub mod FedRecords
+pub mod Follows
+pub mod Hosted
 pub mod Runs
 pub mod SafeTraces
 pub mod Scheduled

@@ -6,6 +6,7 @@ pub mod Ejects
 pub mod Entries
 pub mod Fed
 pub mod Files
+pub mod Followed
 pub mod GateHeld
 pub mod Judged
 pub mod Late

@@ -4,6 +4,7 @@
 mod accounts;
 mod adds;
 mod ejects;
+mod followed;
 mod laws;
 mod records;
 mod safety;
@@ -20,6 +21,11 @@ pub use adds::{
 pub use ejects::{
     changed_ejects_are_none, changed_ejects_stop_at_the_change, files_make_worked_ejects,
     worked_ejects_are_runs, worked_tseg_is_refused,
+};
+pub use followed::{
+    a_worked_add_is_hosted, hosts_and_entries_go_together, unsaid_accesses_are_steps,
+    unsaid_accesses_follow_no_voice, voices_are_carried_on, worked_runs_follow_their_voices,
+    worked_runs_leave_what_the_schedule_leaves,
 };
 pub use laws::{
     changed_traces_are_none, changed_traces_stop_at_the_change, files_make_traces_alone,
