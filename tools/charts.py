@@ -108,10 +108,10 @@ class Chart:
         return TOP + ROW * index + 12
 
     def between(self, source, target):
-        """From which edge to which edge an arrow goes."""
+        """From which edge to which edge an arrow goes, and where the gap before that begins."""
         if target > source:
-            return self.left(source) + self.lane, self.left(target) - 1
-        return self.left(source), self.left(target) + self.lane + 1
+            return self.left(source) + self.lane, self.left(target) - 1, self.left(target) - GAP
+        return self.left(source), self.left(target) + self.lane + 1, self.left(target) + self.lane + GAP
 
     def head(self):
         """Title, platform, legend, and the heads of the lanes."""
@@ -160,15 +160,22 @@ class Chart:
             yield svg.text(x + LABEL, y, self.row_words(row))
 
     def sent(self, index, row):
-        """An arrow to each processor that an interrupt command or the SMI command hits."""
+        """An arrow to each processor that an interrupt command or the SMI command hits, one behind the other."""
         _, hit = self.replay.hits.get(row.entry.number, (None, []))
-        for place in hit:
-            if place in self.lanes and place != row.entry.actor and not row.note:
-                x1, x2 = self.between(row.entry.actor, place)
-                yield svg.arrow(x1, self.base(index) - 4, x2, self.base(index) - 4, "sent")
+        actor, y = row.entry.actor, self.base(index) - 4
+        hit = [place for place in hit if place in self.lanes and place != actor and not row.note]
+        for side in ([place for place in hit if place > actor], [place for place in reversed(hit) if place < actor]):
+            begin = None
+            for place in side:
+                x1, x2, _ = self.between(actor, place)
+                yield svg.arrow(x1 if begin is None else begin, y, x2, y, "sent")
+                begin = x2
 
     def found(self):
-        """An arrow from each store of a shared byte to the first load by another processor that finds it."""
+        """An arrow from each store of a shared byte to the first load by another processor that finds it.
+
+        It passes the lanes between on the store's row, where they have no words.
+        """
         stores = {}
         for index, row in enumerate(self.rows):
             entry = row.entry
@@ -177,8 +184,8 @@ class Chart:
                 continue
             store = stores.get(place)
             if entry.kind != "store" and store and finds(store[1], entry) and index - store[0] <= NEAR:
-                x1, x2 = self.between(store[1].actor, entry.actor)
-                yield svg.arrow(x1, self.base(store[0]) - 4, x2, self.base(index) - 4, "found")
+                x1, x2, turn = self.between(store[1].actor, entry.actor)
+                yield svg.arrow(x1, self.base(store[0]) - 4, x2, self.base(index) - 4, "found", turn)
                 stores.pop(place)
             if entry.kind == "store" or entry.kind == "cas" and entry.text["answer"] == entry.text["expected"]:
                 stores[place] = index, entry

@@ -1,6 +1,6 @@
 """Names for what a trace has as numbers: labels, shared bytes, registers, interrupt commands, the numbers of outcomes.
 
-All addresses are computed from the trace's header, as docs/MACHINE.md has them: the default area's are fixed, those in
+All addresses are computed from the trace's header, as docs/HANDLERS.md has them: the default area's are fixed, those in
 TSEG follow from the end of RAM, the size of TSEG and a slot.
 """
 

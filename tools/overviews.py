@@ -70,7 +70,7 @@ class Overview:
         y = self.y(processor)
         if self.lane > 4 or self.lanes.index(processor) % 32 == 0:
             size = 10 if self.lane > 4 else 8
-            yield svg.text(LEFT - 8, y + min(self.lane * 0.75, 10), f"p{processor}", size, svg.INK, "end")
+            yield svg.text(LEFT - 8, y + self.lane / 2 + size * 0.35, f"p{processor}", size, svg.INK, "end")
         shown = LEFT
         for _, end, mode in self.replay.spans(processor, self.first, self.last):
             x = round(self.x(end) / STEP) * STEP

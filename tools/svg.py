@@ -44,11 +44,15 @@ def flag(x, y, words, fill, size=10):
     return box(x, y - size, width, size + 4, fill, radius=3) + "\n" + text(x + 5, y, words, size, "white", bold=True)
 
 
-def arrow(x1, y1, x2, y2, head):
-    """A curve that leaves and arrives level; `head` is `sent` or `found`, which also says its colour."""
-    bend = (x1 + x2) / 2
+def arrow(x1, y1, x2, y2, head, turn=None):
+    """A curve that arrives level; it begins at `turn`, and before that goes straight, from `x1` on.
+
+    `head` is `sent` or `found`, which also says its colour.
+    """
+    turn = x1 if turn is None else turn
+    bend = (turn + x2) / 2
     line = f'stroke="{SENT}"' if head == "sent" else f'stroke="{FOUND}" stroke-dasharray="4 3"'
-    path = f"M{x1:.1f},{y1:.1f} C{bend:.1f},{y1:.1f} {bend:.1f},{y2:.1f} {x2:.1f},{y2:.1f}"
+    path = f"M{x1:.1f},{y1:.1f} H{turn:.1f} C{bend:.1f},{y1:.1f} {bend:.1f},{y2:.1f} {x2:.1f},{y2:.1f}"
     return f'<path d="{path}" fill="none" {line} stroke-width="1.3" marker-end="url(#{head})"/>'
 
 

@@ -65,8 +65,9 @@ def access_words(platform, entry):
     text = entry.text
     place = in_words(name_of(platform, entry) or text["place"])
     if entry.kind == "cas":
-        passed = text["answer"] == text["expected"] and not is_hole(platform, entry)
+        passed = text["answer"] == text["expected"]
         found = f"yes, now {number(text['value'])}" if passed else f"no, {number(text['answer'])}"
+        found = "nothing is stored" if is_hole(platform, entry) else found
         return f"{place} = {number(text['expected'])}? {found}"
     return f"{place} → {number(text['answer'])}" if text.get("answer") else f"{place} ← {number(text['value'])}"
 

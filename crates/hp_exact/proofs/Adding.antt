@@ -1,11 +1,10 @@
 -- Each kind of step keeps what ties the running add to the entries of its outcome.
-use Rattle.std.proofs.Common.{ℕ, ◌≡◌, ◌≢◌, ◌≤◌, ◌==◌, ◌⊎◌, inl, inr, Bool, true, false, cond, not, ◌&&◌, ◌||◌, List, [], ◌∷◌, Option, Some, None, refl, sym, ap, subst, ◌∙◌, arith}
+use Rattle.std.proofs.Common.{ℕ, ◌≡◌, ◌≢◌, ◌≤◌, ◌==◌, ◌⊎◌, inl, inr, Bool, true, false, cond, not, ◌&&◌, ◌||◌, List, [], ◌∷◌, Some, None, refl, sym, ap, subst, ◌∙◌, arith}
 use Rattle.std.proofs.lemmas.Bool.{and_parts, eqb-true}
 use Rattle.std.proofs.lemmas.Bool.Decides.{nat_tests}
 use Rattle.hp_model.specs.declared.platforms.Platform.{Platform}
 use Rattle.hp_model.specs.declared.accesses.Access.{Access}
-use Rattle.hp_model.specs.declared.accesses.Access.TheVariants.{Store, Nop}
-use Rattle.hp_model.specs.declared.accesses.Want.{Want}
+use Rattle.hp_model.specs.declared.accesses.Access.TheVariants.{Store}
 use Rattle.hp_model.specs.declared.accesses.Want.TheVariants as want
 use Rattle.hp_model.specs.declared.outcomes.Outcome.{Outcome}
 use Rattle.hp_model.specs.declared.labels.Label.{Label}
@@ -14,7 +13,7 @@ use Rattle.hp_model.specs.declared.entries.Event.TheVariants.{Insert, Remove, Do
 use Rattle.hp_model.specs.declared.entries.Entry.{Entry}
 use Rattle.hp_model.specs.Platform.{count_of, tile, apic_of, is_late}
 use Rattle.hp_model.specs.Memory.{Write, byte_at}
-use Rattle.hp_model.specs.Cpu.{is_in_smm, is_outside, is_free, smm_address, may_take_smi, may_take_init, take_init}
+use Rattle.hp_model.specs.Cpu.{is_in_smm, is_outside, is_free, smm_address, may_take_smi, take_init}
 use Rattle.hp_model.specs.Boot.{Stage, value_in}
 use Rattle.hp_model.specs.Labels.{Monarch as Monarchs, part_of, index_of, same_label}
 use Rattle.hp_model.specs.View.{is_hole}
@@ -40,15 +39,18 @@ use Rattle.hp_safety.proofs.Named.{Accounted}
 use Rattle.hp_safety.proofs.Runs.{IsHanded}
 use Rattle.hp_exact.proofs.Stood.{IsStood}
 use Rattle.hp_exact.proofs.Stepping.{AtMonarch, AtOther, Kinds, entry_by, ends, led_on, by_kind}
-use Rattle.hp_exact.proofs.Keeping.{none_outside, outside_in}
+use Rattle.hp_exact.proofs.InSmm.{none_outside, init_outside}
 use Rattle.hp_exact.proofs.AddingTrail.{own, before, trail_of, no_trail, trail_after, trail_none, trail_made, trail_still, own_more, own_ends, before_more, before_ends}
-use Rattle.hp_exact.proofs.AddingBytes.{IsShared, Keeps, zero_here, read_here, reach_flag, reach_arrived, bits_row, bits_outside, bits_enters, same_outside, same_enters}
+use Rattle.hp_exact.proofs.AddingBytes.{IsShared, Keeps, read_here, reach_flag, reach_arrived, bits_row, bits_outside, bits_enters, same_outside, same_enters}
+use Rattle.hp_exact.proofs.ByteStores.{zero_here}
 use Rattle.hp_exact.proofs.Monarchs.{is_among, adding, next_other}
 use Rattle.hp_exact.proofs.Naming.{Ids}
-use Rattle.hp_exact.proofs.Rows.{is_one}
+use Rattle.hp_exact.proofs.Rows.{is_one, access_of}
 use Rattle.hp_exact.proofs.Invariant.{Invariant}
 use Rattle.hp_exact.proofs.AddingHome.{IsHome, stays_home, lands}
-use Rattle.hp_exact.proofs.AddingRows.{IsBit, RunsBy, AddAt, AddTied, is_ending, Deeds, row_add, add_resting, add_still, apic_stays, ending_bound, adding_slot, adding_needs}
+use Rattle.hp_exact.proofs.AddingRows.{Deeds, row_add, add_resting, add_still, apic_stays, ending_bound, adding_slot, adding_needs}
+use Rattle.hp_exact.proofs.AddingTie.{IsBit, RunsBy, AddAt, AddTied, is_ending}
+use Rattle.hp_safety.proofs.Entering.{may_outside}
 
 -- the running add and what its outcome's entries show
 abbrev pub Shown : Platform → List Entry → List Write → (ℕ → ℕ → Type 0) → Monarch → Type 0
@@ -58,13 +60,6 @@ kept_bit : (ws vs : List Write) (x : ℕ) → Keeps x ws vs → IsBit ws x → I
 kept_bit ws vs x (inl same) (inl e) = inl (same ∙ e)
 kept_bit ws vs x (inl same) (inr e) = inr (same ∙ e)
 kept_bit ws vs x (inr now) h = now
-
--- what is wanted
-abbrev access_of : Option Want → Access
-access_of None = Nop
-access_of (Some (want.Do a)) = a
-access_of (Some (want.Tell o)) = Nop
-access_of (Some want.Resume) = Nop
 
 itself : (n : ℕ) → (n == n) ≡ true
 itself n = grind (arith, nat_tests)
@@ -165,6 +160,7 @@ module _ (p : Platform) (sound : Sound p) (polled : 1 ≤ p.polls) (past : List 
 
   shows_row : (l : Label) (a : Access) (g : Stage) → AtMonarch p s l → want_at (layout_of p) (seat p s 0) r l ≡ Some (want.Do a)
       → Goes (record { event = Do 0 a; answer = answer_to true a s; at = smm_address (at s 0) }) (ends (led_on p s 0 l (value_in (answer_to true a s)) (access_effect p 0 true a s)) g (not (same_label l S2) && s.disturbed))
+  unfolding access_of
   shows_row l a g here wants carries = row_on l e (access_effect p 0 true a s).writes (IsHome p t) (next_at (layout_of p) (seat p s 0) r l (value_in (answer_to true a s))).monarch here on (λ _. refl) seen opened deeds refl
     where
       e : Entry
@@ -254,12 +250,6 @@ module _ (p : Platform) (sound : Sound p) (polled : 1 ≤ p.polls) (past : List 
   is_first : (k : ℕ) → k ≢ 0 → (k == 0) ≡ false
   is_first k n = grind (arith, nat_tests)
 
-  out_of : (k : ℕ) → may_take_smi (at s k) ≡ true → smm_address (at s k) ≡ None
-  out_of k may = none_outside (at s k) (outside_in (at s k).mode (and_parts (at s k).smi (is_outside (at s k).mode) (and_parts (at s k).present ((at s k).smi && is_outside (at s k).mode) may).1).1)
-
-  out_init : (k : ℕ) → may_take_init (at s k) ≡ true → smm_address (at s k) ≡ None
-  out_init k may = none_outside (at s k) (outside_in (at s k).mode (and_parts (at s k).init (is_outside (at s k).mode) (and_parts (not (at s k).smi) ((at s k).init && is_outside (at s k).mode) (and_parts (at s k).present (not (at s k).smi && ((at s k).init && is_outside (at s k).mode)) may).1).1).1)
-
   still : (x : ℕ) → IsShared p x → Keeps x s.writes s.writes
   still x here = inl refl
 
@@ -294,10 +284,10 @@ module _ (p : Platform) (sound : Sound p) (polled : 1 ≤ p.polls) (past : List 
       to b = ends (cond b (record (enter_smm k s) { monarch = restarted s.monarch }) (enter_smm k s)) g s.disturbed
 
       begins : (k == 0) ≡ true → Goes e (to true)
-      begins is carries = ended e (enter_smm k s).writes (IsHome p (to true)) (restarted r) (let none : (m : Label) → is_at p m e ≡ false = λ m. at_none p m e (out_of k may) in rw (none C1, none C2, none C3, none C4, none C5, none C6, is) refl) tt
+      begins is carries = ended e (enter_smm k s).writes (IsHome p (to true)) (restarted r) (let none : (m : Label) → is_at p m e ≡ false = λ m. at_none p m e (may_outside (at s k) may) in rw (none C1, none C2, none C3, none C4, none C5, none C6, is) refl) tt
 
       comes : (k == 0) ≡ false → Goes e (to false)
-      comes is = unseen e (enter_smm k s).writes (IsHome p (to false)) (λ m part. at_none p m e (out_of k may)) refl (rw is refl) refl (λ x here. bits_enters p s k x sound stood present here)
+      comes is = unseen e (enter_smm k s).writes (IsHome p (to false)) (λ m part. at_none p m e (may_outside (at s k) may)) refl (rw is refl) refl (λ x here. bits_enters p s k x sound stood present here)
           (λ looks one. inl (sym (same_enters p s k y_add sound stood present (arrived_shared (adds_there r.label looks))) ∙ one))
 
       by_first : (b : Bool) → (k == 0) ≡ b → Goes e (ends (with_session k (enter_smm k s)) g s.disturbed)
@@ -331,7 +321,7 @@ module _ (p : Platform) (sound : Sound p) (polled : 1 ≤ p.polls) (past : List 
     monarchs = shows_row;
     others = shows_other;
     enters = shows_enters;
-    inits = λ k g may. unseen (entry_by s (TakeInit k)) s.writes (IsHome p (ends (set_cpu k (take_init (at s k)) s) g s.disturbed)) (λ m part. at_none p m (entry_by s (TakeInit k)) (out_init k may)) refl refl refl still same_lands;
+    inits = λ k g may. unseen (entry_by s (TakeInit k)) s.writes (IsHome p (ends (set_cpu k (take_init (at s k)) s) g s.disturbed)) (λ m part. at_none p m (entry_by s (TakeInit k)) (init_outside (at s k) may)) refl refl refl still same_lands;
     rests = λ g here carries. ended (entry_by s (Resume 0)) s.writes (IsHome p (ends (leave_smm 0 s) g s.disturbed)) r
         (let none : (m : Label) → part_of m ≡ Monarchs → is_at p m (entry_by s (Resume 0)) ≡ (37 == index_of m) = λ m part. at_monarch p E7 m (entry_by s (Resume 0)) (tile p 0) refl here.place part in rw (none C1 refl, none C2 refl, none C3 refl, none C4 refl, none C5 refl, none C6 refl) refl)
         (subst (AddAt (layout_of p) no_trail (bound p (entry_by s (Resume 0) ∷ es)) s.writes (IsHome p (ends (leave_smm 0 s) g s.disturbed)) r) (sym here.label) tt);

@@ -7,7 +7,7 @@ use Rattle.hp_model.specs.declared.accesses.Access.{Access}
 use Rattle.hp_model.specs.declared.accesses.Want.{Want}
 use Rattle.hp_model.specs.declared.accesses.Want.TheVariants as want
 use Rattle.hp_model.specs.declared.labels.Label.{Label}
-use Rattle.hp_model.specs.declared.labels.Label.TheVariants.{F1, F2, F3, F4, F5, F6, R1, R2, R3, R4, R5, R6, S0, S1, S2, S3, S4, C1, C2, C3, C4, C5, C6, NB, N0, N1, N2, N3, N4, N5, N6, N7, N8a, N8b, N9, N10, N11, E0, E1, E2, E3, E4a, E4b, E4c, E4d, E4e, E4f, E4g, E4h, T, E5, E6, E7}
+use Rattle.hp_model.specs.declared.labels.Label.TheVariants.{F1, F3, F4, F6, R1, R4, R5, R6, S0, S1, NB, N0, N1, N2, N7, N9, N10, E0, E1, E3, E4c, E4d, E4e, E4h, T, E5, E6, E7}
 use Rattle.hp_model.specs.Platform.{tseg, count_of}
 use Rattle.hp_model.specs.Memory.{Write, covers, byte_at, bytes_of, value_from, write_of}
 use Rattle.hp_model.specs.View.{Locks, is_hole, loaded, stored}
@@ -16,7 +16,7 @@ use Rattle.hp_model.specs.Monarch.{Monarch}
 use Rattle.hp_model.specs.Handlers.{Seat, want_at}
 use Rattle.hp_model.specs.Step.{State, at, access_effect, enter_smm}
 use Rattle.hp_sealed.specs.Left.{Sound, Locked}
-use Rattle.hp_sealed.proofs.Left.{pick, length-bytes_of, left_store}
+use Rattle.hp_sealed.proofs.Left.{pick, left_store}
 use Rattle.hp_sealed.proofs.Outside.{left_acted}
 use Rattle.hp_sealed.proofs.Places.{Base, base_based, default_locked, tseg_locked}
 use Rattle.hp_safety.proofs.Saves.{in_reach, left_saved}
@@ -45,18 +45,6 @@ bit_written a x v ws bit = by_cover (covers (write_of a 1 v) x) refl
 
 bit_stored : (l : Locks) (a x v : ℕ) (ws : List Write) → (v ≡ 0) ⊎ (v ≡ 1) → Keeps x ws (stored l true a 1 v ws)
 bit_stored l a x v ws bit = pick (Keeps x ws) (is_hole l true a 1) ws (write_of a 1 v ∷ ws) (inl refl) (bit_written a x v ws bit)
-
--- and at the byte itself
-zero_first : slice_index_or (bytes_of 1 0) 0 0 ≡ 0
-unfolding bytes_of
-zero_first = refl
-
-pub zero_here : (l : Locks) (a : ℕ) (ws : List Write) → is_hole l true a 1 ≡ false → byte_at (stored l true a 1 0 ws) a ≡ 0
-zero_here l a ws reach =
-    let n = length-bytes_of 1 0 in
-    let here : covers (write_of a 1 0) a ≡ true = rw n (grind (arith, nat_tests)) in
-    let place : a - a ≡ 0 = omega arith in
-    rw (reach, here, place) zero_first
 
 -- what is read of it
 read_one : (bytes : ℕ → ℕ) (a : ℕ) → value_from bytes a 1 ≡ bytes a
@@ -90,58 +78,34 @@ Bytes p k s x (Some want.Resume) = Unit {0}
 
 row_bytes : (p : Platform) (k : ℕ) (s : State) (q : Seat) (r : Monarch) (x : ℕ) (l : Label) → Sound p → IsShared p x → Bytes p k s x (want_at (layout_of p) q r l)
 row_bytes p k s q r x F1 sound here = pick (Keeps x s.writes) (loaded s.locks true (byte_at s.writes) gate 8 == q.apic) _ _ (elsewhere s.locks gate 8 (closed) x s.writes (low_misses (tseg p) gate 8 x sound.above (omega arith) (inl (omega arith)) here)) (inl refl)
-row_bytes p k s q r x F2 sound here = inl refl
 row_bytes p k s q r x F3 sound here = elsewhere s.locks default_smbase_field 4 (q.base) x s.writes (low_misses (tseg p) default_smbase_field 4 x sound.above (omega arith) (inr (omega arith)) here)
 row_bytes p k s q r x F4 sound here = bit_stored s.locks flag x 1 s.writes (inr refl)
-row_bytes p k s q r x F5 sound here = inl refl
 row_bytes p k s q r x F6 sound here = tt
 row_bytes p k s q r x R1 sound here = bit_stored s.locks (arrived_byte (layout_of p) q.slot) x 1 s.writes (inr refl)
-row_bytes p k s q r x R2 sound here = inl refl
-row_bytes p k s q r x R3 sound here = inl refl
 row_bytes p k s q r x R4 sound here = bit_stored s.locks (arrived_byte (layout_of p) q.slot) x 0 s.writes (inl refl)
 row_bytes p k s q r x R5 sound here = tt
 row_bytes p k s q r x R6 sound here = bit_stored s.locks (parked_byte (layout_of p) q.slot) x 1 s.writes (inr refl)
 row_bytes p k s q r x S0 sound here = bit_stored s.locks (session_byte (layout_of p)) x 1 s.writes (inr refl)
 row_bytes p k s q r x S1 sound here = bit_stored s.locks (release_byte (layout_of p) r.slot) x 0 s.writes (inl refl)
-row_bytes p k s q r x S2 sound here = inl refl
-row_bytes p k s q r x S3 sound here = inl refl
-row_bytes p k s q r x S4 sound here = inl refl
-row_bytes p k s q r x C1 sound here = inl refl
-row_bytes p k s q r x C2 sound here = inl refl
-row_bytes p k s q r x C3 sound here = inl refl
-row_bytes p k s q r x C4 sound here = inl refl
-row_bytes p k s q r x C5 sound here = inl refl
-row_bytes p k s q r x C6 sound here = inl refl
 row_bytes p k s q r x NB sound here = bit_stored s.locks (release_byte (layout_of p) r.add.slot) x 0 s.writes (inl refl)
 row_bytes p k s q r x N0 sound here = bit_stored s.locks (arrived_byte (layout_of p) r.add.slot) x 0 s.writes (inl refl)
 row_bytes p k s q r x N1 sound here = bit_stored s.locks flag x 0 s.writes (inl refl)
 row_bytes p k s q r x N2 sound here = elsewhere s.locks new_smbase 4 (tile_in (layout_of p) r.add.slot) x s.writes (low_misses (tseg p) new_smbase 4 x sound.above (omega arith) (inl (omega arith)) here)
-row_bytes p k s q r x N3 sound here = inl refl
-row_bytes p k s q r x N4 sound here = inl refl
-row_bytes p k s q r x N5 sound here = inl refl
-row_bytes p k s q r x N6 sound here = inl refl
 row_bytes p k s q r x N7 sound here = elsewhere s.locks gate 8 (r.add.apic) x s.writes (low_misses (tseg p) gate 8 x sound.above (omega arith) (inl (omega arith)) here)
-row_bytes p k s q r x N8a sound here = inl refl
-row_bytes p k s q r x N8b sound here = inl refl
 row_bytes p k s q r x N9 sound here = elsewhere s.locks gate 8 (closed) x s.writes (low_misses (tseg p) gate 8 x sound.above (omega arith) (inl (omega arith)) here)
 row_bytes p k s q r x N10 sound here = bit_stored s.locks (arrived_byte (layout_of p) r.add.slot) x 0 s.writes (inl refl)
-row_bytes p k s q r x N11 sound here = inl refl
 row_bytes p k s q r x E0 sound here = bit_stored s.locks (parked_byte (layout_of p) r.eject.slot) x 0 s.writes (inl refl)
 row_bytes p k s q r x E1 sound here = bit_stored s.locks (map_byte (layout_of p) r.eject.slot) x 1 s.writes (inr refl)
-row_bytes p k s q r x E2 sound here = inl refl
 row_bytes p k s q r x E3 sound here = bit_stored s.locks (map_byte (layout_of p) r.eject.slot) x 0 s.writes (inl refl)
-row_bytes p k s q r x E4a sound here = inl refl
-row_bytes p k s q r x E4b sound here = inl refl
 row_bytes p k s q r x E4c sound here = bit_stored s.locks (arrived_byte (layout_of p) r.eject.slot) x 0 s.writes (inl refl)
 row_bytes p k s q r x E4d sound here = bit_stored s.locks (map_byte (layout_of p) r.eject.slot) x 0 s.writes (inl refl)
 row_bytes p k s q r x E4e sound here = bit_stored s.locks (parked_byte (layout_of p) r.eject.slot) x 0 s.writes (inl refl)
-row_bytes p k s q r x E4f sound here = inl refl
-row_bytes p k s q r x E4g sound here = inl refl
 row_bytes p k s q r x E4h sound here = bit_stored s.locks (map_byte (layout_of p) r.eject.slot) x 0 s.writes (inl refl)
 row_bytes p k s q r x T sound here = tt
 row_bytes p k s q r x E5 sound here = bit_stored s.locks (session_byte (layout_of p)) x 0 s.writes (inl refl)
 row_bytes p k s q r x E6 sound here = bit_stored s.locks (release_byte (layout_of p) r.slot) x 1 s.writes (inr refl)
 row_bytes p k s q r x E7 sound here = tt
+row_bytes p k s q r x _ sound here = inl refl
 
 -- a row of anybody's
 pub bits_row : (p : Platform) (s : State) (k : ℕ) (q : Seat) (l : Label) (a : Access) (x : ℕ) → Sound p → want_at (layout_of p) q s.monarch l ≡ Some (want.Do a) → IsShared p x → Keeps x s.writes (access_effect p k true a s).writes

@@ -1,19 +1,17 @@
 -- A processor that is at home in a slot: present, at the slot's tile. While the session is undisturbed it stays so, and the add's processor is whoever tells its arrival.
-use Rattle.std.proofs.Common.{ℕ, zero, suc, ◌++◌, ◌≡◌, ◌≢◌, ◌+◌, ◌-◌, ◌*◌, ◌/◌, ◌<◌, ◌≤◌, ◌==◌, ◌⊎◌, inl, inr, Bool, true, false, not, ◌&&◌, ◌||◌, nat_lt, nat_le, List, [], ◌∷◌, slice_set, Option, Some, None, refl, sym, ap, subst, ◌∙◌, arith}
-use Rattle.std.specs.Prelude.{slice_index_or}
+use Rattle.std.proofs.Common.{ℕ, ◌++◌, ◌≡◌, ◌≢◌, ◌+◌, ◌-◌, ◌*◌, ◌/◌, ◌<◌, ◌≤◌, ◌==◌, ◌⊎◌, inl, inr, Bool, true, false, not, ◌&&◌, ◌||◌, nat_lt, nat_le, List, [], ◌∷◌, slice_set, Some, refl, sym, ap, subst, ◌∙◌, arith}
 use Rattle.std.proofs.lemmas.Bool.{and_parts, eqb-true}
 use Rattle.std.proofs.lemmas.Bool.Decides.{nat_tests}
 use Rattle.hp_model.specs.declared.platforms.Platform.{Platform}
 use Rattle.hp_model.specs.declared.processors.Cpu.{Cpu}
 use Rattle.hp_model.specs.declared.accesses.Access.{Access}
-use Rattle.hp_model.specs.declared.accesses.Want.{Want}
 use Rattle.hp_model.specs.declared.accesses.Want.TheVariants as want
 use Rattle.hp_model.specs.declared.labels.Label.{Label}
-use Rattle.hp_model.specs.declared.labels.Label.TheVariants.{F1, F2, F3, F4, F5, F6, R1, R2, R3, R4, R5, R6, S0, S1, S2, S3, S4, C1, C2, C3, C4, C5, C6, NB, N0, N1, N2, N3, N4, N5, N6, N7, N8a, N8b, N9, N10, N11, E0, E1, E2, E3, E4a, E4b, E4c, E4d, E4e, E4f, E4g, E4h, T, E5, E6, E7}
+use Rattle.hp_model.specs.declared.labels.Label.TheVariants.{F1, F2, F3, F4, F5, F6, R1, R2, R3, R4, R5, R6, N11, E4b, T}
 use Rattle.hp_model.specs.declared.entries.Entry.{Entry}
 use Rattle.hp_model.specs.Platform.{tseg, count_of, tile, apic_of}
-use Rattle.hp_model.specs.Memory.{Write, covers, byte_at, bytes_of, write_of}
-use Rattle.hp_model.specs.View.{Locks, is_hole, loaded, stored}
+use Rattle.hp_model.specs.Memory.{byte_at}
+use Rattle.hp_model.specs.View.{loaded}
 use Rattle.hp_model.specs.Cpu.{inserted, cpu_at, take_smi, take_init, resumed}
 use Rattle.hp_model.specs.Block.{is_in}
 use Rattle.hp_model.specs.Boot.{value_in}
@@ -29,13 +27,14 @@ use Rattle.hp_model.specs.Runs.{run_on}
 use Rattle.hp_model.specs.Transitions.{Transition}
 use Rattle.hp_sealed.specs.Left.{Sound}
 use Rattle.hp_sealed.specs.Sealed.{is_other_tile}
-use Rattle.hp_sealed.proofs.Left.{pick, pick_by, left_store}
+use Rattle.hp_sealed.proofs.Left.{pick, pick_by}
 use Rattle.hp_sealed.proofs.Stay.{at_set}
 use Rattle.hp_sealed.proofs.Places.{slot_of}
 use Rattle.hp_sealed.proofs.Runs.{made as made_by}
 use Rattle.hp_safety.proofs.Accesses.{past_aloft}
 use Rattle.hp_safety.proofs.Keeps.{smm_present}
-use Rattle.hp_safety.proofs.Moves.{Moves, moves}
+use Rattle.hp_safety.proofs.GateRows.{Moves}
+use Rattle.hp_safety.proofs.Moves.{moves}
 use Rattle.hp_safety.proofs.Placing.{place_same}
 use Rattle.hp_safety.proofs.Runs.{IsHanded}
 use Rattle.hp_exact.proofs.Stood.{IsStood}
@@ -43,9 +42,11 @@ use Rattle.hp_exact.proofs.Stepping.{AtOther, Kinds, by_kind}
 use Rattle.hp_exact.proofs.Monarchs.{is_among}
 use Rattle.hp_exact.proofs.Naming.{Ids, own_is, one_cpu}
 use Rattle.hp_exact.proofs.Agreeing.{present_kept}
-use Rattle.hp_exact.proofs.Rows.{stays_row, is_one}
-use Rattle.hp_exact.proofs.Keeping.{present_set, present_go, was_quiet, not_broadcast, Unwritten, other_unwritten}
+use Rattle.hp_exact.proofs.Rows.{stays_row, is_one, Unwritten, other_unwritten}
+use Rattle.hp_exact.proofs.CalledIn.{present_set, was_quiet, not_broadcast}
+use Rattle.hp_exact.proofs.InSmm.{present_go}
 use Rattle.hp_exact.proofs.Invariant.{Invariant}
+use Rattle.hp_exact.proofs.ByteStores.{Leaves, zero_stored, elsewhere, other_misses, Bytes}
 
 -- a processor is there, at the tile of a slot, if the session is undisturbed
 abbrev pub IsHome : Platform → State → ℕ → ℕ → Type 0
@@ -114,136 +115,13 @@ module _ (p : Platform) (sound : Sound p) (ids : Ids p) (past : List Transition)
       far base b slot above e f = omega (arith, above, e, f)
 
       after : (l : Label) → is_among l (N11 ∷ T ∷ []) ≡ true → is_after_broadcast l ≡ true
-      after F1 e = absurd cc
-      after F2 e = absurd cc
-      after F3 e = absurd cc
-      after F4 e = absurd cc
-      after F5 e = absurd cc
-      after F6 e = absurd cc
-      after R1 e = absurd cc
-      after R2 e = absurd cc
-      after R3 e = absurd cc
-      after R4 e = absurd cc
-      after R5 e = absurd cc
-      after R6 e = absurd cc
-      after S0 e = absurd cc
-      after S1 e = absurd cc
-      after S2 e = absurd cc
-      after S3 e = absurd cc
-      after S4 e = absurd cc
-      after C1 e = absurd cc
-      after C2 e = absurd cc
-      after C3 e = absurd cc
-      after C4 e = absurd cc
-      after C5 e = absurd cc
-      after C6 e = absurd cc
-      after NB e = absurd cc
-      after N0 e = absurd cc
-      after N1 e = absurd cc
-      after N2 e = absurd cc
-      after N3 e = absurd cc
-      after N4 e = absurd cc
-      after N5 e = absurd cc
-      after N6 e = absurd cc
-      after N7 e = absurd cc
-      after N8a e = absurd cc
-      after N8b e = absurd cc
-      after N9 e = absurd cc
-      after N10 e = absurd cc
       after N11 e = refl
-      after E0 e = absurd cc
-      after E1 e = absurd cc
-      after E2 e = absurd cc
-      after E3 e = absurd cc
-      after E4a e = absurd cc
-      after E4b e = absurd cc
-      after E4c e = absurd cc
-      after E4d e = absurd cc
-      after E4e e = absurd cc
-      after E4f e = absurd cc
-      after E4g e = absurd cc
-      after E4h e = absurd cc
       after T e = refl
-      after E5 e = absurd cc
-      after E6 e = absurd cc
-      after E7 e = absurd cc
+      after _ e = absurd cc
 
       other : (l : Label) → is_among l (N11 ∷ T ∷ []) ≡ true → l ≢ E4b
       other F1 e f = cc
-      other F2 e f = cc
-      other F3 e f = cc
-      other F4 e f = cc
-      other F5 e f = cc
-      other F6 e f = cc
-      other R1 e f = cc
-      other R2 e f = cc
-      other R3 e f = cc
-      other R4 e f = cc
-      other R5 e f = cc
-      other R6 e f = cc
-      other S0 e f = cc
-      other S1 e f = cc
-      other S2 e f = cc
-      other S3 e f = cc
-      other S4 e f = cc
-      other C1 e f = cc
-      other C2 e f = cc
-      other C3 e f = cc
-      other C4 e f = cc
-      other C5 e f = cc
-      other C6 e f = cc
-      other NB e f = cc
-      other N0 e f = cc
-      other N1 e f = cc
-      other N2 e f = cc
-      other N3 e f = cc
-      other N4 e f = cc
-      other N5 e f = cc
-      other N6 e f = cc
-      other N7 e f = cc
-      other N8a e f = cc
-      other N8b e f = cc
-      other N9 e f = cc
-      other N10 e f = cc
-      other N11 e f = cc
-      other E0 e f = cc
-      other E1 e f = cc
-      other E2 e f = cc
-      other E3 e f = cc
-      other E4a e f = cc
-      other E4b e f = cc
-      other E4c e f = cc
-      other E4d e f = cc
-      other E4e e f = cc
-      other E4f e f = cc
-      other E4g e f = cc
-      other E4h e f = cc
-      other T e f = cc
-      other E5 e f = cc
-      other E6 e f = cc
-      other E7 e f = cc
-
--- an arrived byte: rows of other processors leave it, or make it 0, but for R1 in its own slot
-abbrev Loses : ℕ → List Write → List Write → Type 0
-Loses x ws vs = (byte_at vs x ≡ byte_at ws x) ⊎ (byte_at vs x ≡ 0)
-
-zero_at : (i : ℕ) → slice_index_or (bytes_of 1 0) i 0 ≡ 0
-unfolding bytes_of
-zero_at zero = refl
-zero_at (suc i) = refl
-
-zero_written : (a x : ℕ) (ws : List Write) → Loses x ws (write_of a 1 0 ∷ ws)
-zero_written a x ws = by_cover (covers (write_of a 1 0) x) refl
-  where
-    by_cover : (b : Bool) → covers (write_of a 1 0) x ≡ b → Loses x ws (write_of a 1 0 ∷ ws)
-    by_cover true is = inr (rw is (zero_at (x - a)))
-    by_cover false is = inl (rw is refl)
-
-zero_stored : (l : Locks) (a x : ℕ) (ws : List Write) → Loses x ws (stored l true a 1 0 ws)
-zero_stored l a x ws = pick (Loses x ws) (is_hole l true a 1) ws (write_of a 1 0 ∷ ws) (inl refl) (zero_written a x ws)
-
-elsewhere : (l : Locks) (a n v x : ℕ) (ws : List Write) → (nat_le a x && nat_lt x (a + n)) ≡ false → Loses x ws (stored l true a n v ws)
-elsewhere l a n v x ws e = inl ((left_store l true a n v ws x (λ _. e)).byte)
+      other _ e f = cc
 
 low_misses : (base a n x : ℕ) → 0x800000 ≤ base → a + n ≤ 0x800000 → base ≤ x → (nat_le a x && nat_lt x (a + n)) ≡ false
 low_misses base a n x above low from = grind (arith, nat_tests)
@@ -251,17 +129,8 @@ low_misses base a n x above low from = grind (arith, nat_tests)
 later_misses : (base a x : ℕ) → base + 0x1000 ≤ a → x < base + 0x1000 → (nat_le a x && nat_lt x (a + 1)) ≡ false
 later_misses base a x from to = grind (arith, nat_tests)
 
-other_misses : (a x : ℕ) → x ≢ a → (nat_le a x && nat_lt x (a + 1)) ≡ false
-other_misses a x other = grind (arith, nat_tests)
-
-abbrev Bytes : Platform → ℕ → State → ℕ → Option Want → Type 0
-Bytes p k s x None = Unit {0}
-Bytes p k s x (Some (want.Do a)) = Loses x s.writes (access_effect p k true a s).writes
-Bytes p k s x (Some (want.Tell o)) = Unit {0}
-Bytes p k s x (Some want.Resume) = Unit {0}
-
 row_arrived : (p : Platform) (k : ℕ) (s : State) (q : Seat) (r : Monarch) (x : ℕ) (l : Label) → Sound p → tseg p ≤ x → x < tseg p + 0x1000 → part_of l ≢ Monarchs → (l ≡ R1 → x ≢ arrived_byte (layout_of p) q.slot) → Bytes p k s x (want_at (layout_of p) q r l)
-row_arrived p k s q r x F1 sound from to other own = pick (Loses x s.writes) (loaded s.locks true (byte_at s.writes) gate 8 == q.apic) _ _ (elsewhere s.locks gate 8 closed x s.writes (low_misses (tseg p) gate 8 x sound.above (omega arith) from)) (inl refl)
+row_arrived p k s q r x F1 sound from to other own = pick (Leaves x s.writes) (loaded s.locks true (byte_at s.writes) gate 8 == q.apic) _ _ (elsewhere s.locks gate 8 closed x s.writes (low_misses (tseg p) gate 8 x sound.above (omega arith) from)) (inl refl)
 row_arrived p k s q r x F2 sound from to other own = inl refl
 row_arrived p k s q r x F3 sound from to other own = elsewhere s.locks default_smbase_field 4 q.base x s.writes (low_misses (tseg p) default_smbase_field 4 x sound.above (omega arith) from)
 row_arrived p k s q r x F4 sound from to other own = elsewhere s.locks flag 1 1 x s.writes (low_misses (tseg p) flag 1 x sound.above (omega arith) from)
@@ -273,47 +142,7 @@ row_arrived p k s q r x R3 sound from to other own = inl refl
 row_arrived p k s q r x R4 sound from to other own = zero_stored s.locks (arrived_byte (layout_of p) q.slot) x s.writes
 row_arrived p k s q r x R5 sound from to other own = tt
 row_arrived p k s q r x R6 sound from to other own = elsewhere s.locks (parked_byte (layout_of p) q.slot) 1 1 x s.writes (later_misses (tseg p) (parked_byte (layout_of p) q.slot) x (omega arith) to)
-row_arrived p k s q r x S0 sound from to other own = absurd (other refl)
-row_arrived p k s q r x S1 sound from to other own = absurd (other refl)
-row_arrived p k s q r x S2 sound from to other own = absurd (other refl)
-row_arrived p k s q r x S3 sound from to other own = absurd (other refl)
-row_arrived p k s q r x S4 sound from to other own = absurd (other refl)
-row_arrived p k s q r x C1 sound from to other own = absurd (other refl)
-row_arrived p k s q r x C2 sound from to other own = absurd (other refl)
-row_arrived p k s q r x C3 sound from to other own = absurd (other refl)
-row_arrived p k s q r x C4 sound from to other own = absurd (other refl)
-row_arrived p k s q r x C5 sound from to other own = absurd (other refl)
-row_arrived p k s q r x C6 sound from to other own = absurd (other refl)
-row_arrived p k s q r x NB sound from to other own = absurd (other refl)
-row_arrived p k s q r x N0 sound from to other own = absurd (other refl)
-row_arrived p k s q r x N1 sound from to other own = absurd (other refl)
-row_arrived p k s q r x N2 sound from to other own = absurd (other refl)
-row_arrived p k s q r x N3 sound from to other own = absurd (other refl)
-row_arrived p k s q r x N4 sound from to other own = absurd (other refl)
-row_arrived p k s q r x N5 sound from to other own = absurd (other refl)
-row_arrived p k s q r x N6 sound from to other own = absurd (other refl)
-row_arrived p k s q r x N7 sound from to other own = absurd (other refl)
-row_arrived p k s q r x N8a sound from to other own = absurd (other refl)
-row_arrived p k s q r x N8b sound from to other own = absurd (other refl)
-row_arrived p k s q r x N9 sound from to other own = absurd (other refl)
-row_arrived p k s q r x N10 sound from to other own = absurd (other refl)
-row_arrived p k s q r x N11 sound from to other own = absurd (other refl)
-row_arrived p k s q r x E0 sound from to other own = absurd (other refl)
-row_arrived p k s q r x E1 sound from to other own = absurd (other refl)
-row_arrived p k s q r x E2 sound from to other own = absurd (other refl)
-row_arrived p k s q r x E3 sound from to other own = absurd (other refl)
-row_arrived p k s q r x E4a sound from to other own = absurd (other refl)
-row_arrived p k s q r x E4b sound from to other own = absurd (other refl)
-row_arrived p k s q r x E4c sound from to other own = absurd (other refl)
-row_arrived p k s q r x E4d sound from to other own = absurd (other refl)
-row_arrived p k s q r x E4e sound from to other own = absurd (other refl)
-row_arrived p k s q r x E4f sound from to other own = absurd (other refl)
-row_arrived p k s q r x E4g sound from to other own = absurd (other refl)
-row_arrived p k s q r x E4h sound from to other own = absurd (other refl)
-row_arrived p k s q r x T sound from to other own = absurd (other refl)
-row_arrived p k s q r x E5 sound from to other own = absurd (other refl)
-row_arrived p k s q r x E6 sound from to other own = absurd (other refl)
-row_arrived p k s q r x E7 sound from to other own = absurd (other refl)
+row_arrived p k s q r x _ sound from to other own = absurd (other refl)
 
 -- places in lists
 pub in_end : (ids : List ℕ) (a : ℕ) → is_in a (ids ++ a ∷ []) ≡ true
@@ -367,7 +196,7 @@ module _ (p : Platform) (sound : Sound p) (past : List Transition) (s : State) (
 
       misses : (l ≡ R1 → x ≢ arrived_byte (layout_of p) (seat p s k).slot) → (byte_at s.writes x ≡ 1) ⊎ IsHome p s r.add.cpu r.add.slot
       misses own =
-          let bytes : Loses x s.writes (access_effect p k true a s).writes = subst (Bytes p k s x) wants (row_arrived p k s (seat p s k) r x l sound (omega arith) (let few = sound.few in omega (arith, less, few)) here.part own) in
+          let bytes : Leaves x s.writes (access_effect p k true a s).writes = subst (Bytes p k s x) wants (row_arrived p k s (seat p s k) r x l sound (omega arith) (let few = sound.few in omega (arith, less, few)) here.part own) in
           elim bytes [ inl same ↦ inl (sym same ∙ one) | inr none ↦ absurd (let both = sym none ∙ one in cc) ]
 
       same_place : (base i j : ℕ) → base + i ≡ base + j → (i == j) ≡ true

@@ -1,7 +1,7 @@
 -- The laws on adds: what their outcomes show in their entries, and where an added processor is.
-use Rattle.std.proofs.Common.{ℕ, suc, ◌≡◌, ◌+◌, ◌≤◌, ◌==◌, ◌⊎◌, inl, inr, Bool, true, false, ◌||◌, not, cond, nat_le, List, [], ◌∷◌, ◌++◌, length, replicate, Option, Some, None, refl, sym, ap, subst, ◌∙◌, arith, if◌then◌else◌}
+use Rattle.std.proofs.Common.{ℕ, suc, ◌≡◌, ◌+◌, ◌==◌, ◌⊎◌, inl, inr, Bool, true, false, ◌||◌, List, [], ◌∷◌, ◌++◌, length, replicate, Some, refl, sym, ap, subst, ◌∙◌, arith, if◌then◌else◌}
 use Rattle.std.specs.Str.{bytes_eq}
-use Rattle.std.proofs.lemmas.Bool.{and_from, and_parts, or_right}
+use Rattle.std.proofs.lemmas.Bool.{and_from, or_right}
 use Rattle.std.proofs.lemmas.Bool.Decides.{nat_tests}
 use Rattle.hp_model.specs.declared.platforms.Platform.{Platform}
 use Rattle.hp_model.specs.declared.outcomes.Outcome.{Outcome}
@@ -10,7 +10,7 @@ use Rattle.hp_model.specs.declared.outcomes.Refusal.{Refusal}
 use Rattle.hp_model.specs.declared.outcomes.Refusal.TheVariants.{Foreign, Disabled, Both, AlreadyKnown, GateHeld, NoUnplug, NotKnown, NotArrived, NotAtGate, NotCheckedIn, NotParked, StillPending}
 use Rattle.hp_model.specs.declared.entries.Entry.{Entry}
 use Rattle.hp_model.specs.declared.labels.Label.TheVariants.{T}
-use Rattle.hp_model.specs.Platform.{IsFit, counts_fit, ids_fit, boot_fits, memory_fits, tseg_fits, tiles_fit, features_fit, polls_fit, tile}
+use Rattle.hp_model.specs.Platform.{IsFit, tile}
 use Rattle.hp_model.specs.Block.{is_in}
 use Rattle.hp_model.specs.SharedBytes.{layout_of}
 use Rattle.hp_model.specs.Slots.{place_of}
@@ -24,7 +24,7 @@ use Rattle.hp_model.specs.Outcomes.{Telling, telling, when_told, each_told, has_
 use Rattle.hp_model.proofs.AtEach.{made as step_made, each_passes}
 use Rattle.hp_sealed.specs.Left.{Sound}
 use Rattle.hp_sealed.specs.Booting.{IsBooted}
-use Rattle.hp_sealed.proofs.Same.{same_outcome-is}
+use Rattle.hp_model.proofs.Same.{same_outcome-equal}
 use Rattle.hp_sealed.proofs.Starts.{sound, starts}
 use Rattle.hp_sealed.proofs.Goes.{boot_goes, refused_goes}
 use Rattle.hp_sealed.proofs.HandOver.{IsBefore}
@@ -35,14 +35,14 @@ use Rattle.hp_safety.proofs.Named.{Accounted, accounted_on}
 use Rattle.hp_safety.proofs.Ties.{session_of, TiedAt, tie_of}
 use Rattle.hp_safety.proofs.Held.{Knows, knows_first, knows_on, boot_event}
 use Rattle.hp_exact.specs.Adds.{refusals_in, shows_looks, entry_in, shows_entry, slot_in, shows_slot, presence_in, shows_presence, add_in, shows_add}
-use Rattle.hp_exact.proofs.Naming.{ids_of}
+use Rattle.hp_exact.proofs.Naming.{ids_of, polled}
 use Rattle.hp_exact.proofs.Invariant.{Invariant}
-use Rattle.hp_exact.proofs.Beginning.{Whole, whole_begins, whole_goes}
+use Rattle.hp_exact.proofs.Wholes.{Whole, whole_begins, whole_goes}
 use Rattle.hp_exact.proofs.AddingHome.{IsHome, in_end}
 use Rattle.hp_exact.proofs.Stood.{stood}
-use Rattle.hp_exact.proofs.Stepping.{AtMonarch, Kinds, by_kind}
+use Rattle.hp_exact.proofs.Stepping.{AtMonarch, told_by}
 use Rattle.hp_exact.proofs.AddingTrail.{own, before, trail_of, own_entries, own_size}
-use Rattle.hp_exact.proofs.AddingRows.{Told, ToldNot, AddAt}
+use Rattle.hp_exact.proofs.AddingTie.{Told, ToldNot, AddAt}
 use Rattle.hp_exact.proofs.Adding.{Shown, shown_on}
 
 -- lists are equal to themselves
@@ -72,26 +72,6 @@ has_its_slot old now apic slot grown is = by_place (is_in apic old) refl grown
         let same : slot ≡ length old = is ∙ (ap (λ ids. place_of ids apic) g ∙ last) in
         let i = itself (length old) in
         rw (g, last, same, i, f, in_end old apic) refl
-
-passed : (b : Bool) (n : ℕ) (rest : Option ℕ) → cond (not b) (Some n) rest ≡ None → (b ≡ true) × (rest ≡ None)
-passed true n rest e = (refl, e)
-passed false n rest e = absurd cc
-
--- at least one look
-pub polled : (p : Platform) → IsFit p → 1 ≤ p.polls
-polled p e =
-    let a = passed (counts_fit p) 2 _ e in
-    let b = passed (ids_fit p) 3 _ a.1 in
-    let c = passed (boot_fits p) 4 _ b.1 in
-    let d = passed (memory_fits p) 5 _ c.1 in
-    let f = passed (tseg_fits p) 6 _ d.1 in
-    let g = passed (tiles_fit p) 7 _ f.1 in
-    let k = passed (features_fit p) 8 _ g.1 in
-    let l = passed (polls_fit p) 9 _ k.1 in
-    plain p.polls (and_parts (nat_le 1 p.polls) (nat_le p.polls 4096) l.0).0
-  where
-    plain : (n : ℕ) → nat_le 1 n ≡ true → 1 ≤ n
-    plain n e = grind (arith, nat_tests)
 
 -- what is kept of each state
 abbrev pub Follows : Platform → List Transition → State → Type 0
@@ -131,32 +111,15 @@ module _ (p : Platform) (fits : IsFit p) where
   -- what is told at T
   module _ (past : List Transition) (s : State) (handed : IsHanded p s) (acc : Accounted p past s) (inv : Invariant p past s) (h : Shown p (entries_of past) s.writes (IsHome p s) s.monarch) (test : Telling → Bool)
       (passes : Told p.polls (trail_of p s.monarch.add.apic (own p (entries_of past))) (bound p (before p (entries_of past))) (bound p (entries_of past)) (IsHome p s) s.monarch.add s.monarch.outcome → is_disturbed p (entries_of past) ≡ s.disturbed → test (telling p past s s.monarch.outcome) ≡ true) where
-    abbrev Test : Entry → State → Type 0
-    Test e t = when_told p test past s (outcome_in e.event) ≡ true
-
     says : (o : Outcome) → AtMonarch p s T → same_outcome o s.monarch.outcome ≡ true → test (telling p past s o) ≡ true
     says o here same =
         let tied : TiedAt (bound p (entries_of past)) (session_of p (entries_of past)) s.monarch (tie_of T) = subst (λ m. TiedAt (bound p (entries_of past)) (session_of p (entries_of past)) s.monarch (tie_of m)) here.label acc.tied in
         let told : AddAt (layout_of p) (trail_of p s.monarch.add.apic (own p (entries_of past))) (bound p (before p (entries_of past))) s.writes (IsHome p s) s.monarch T = subst (AddAt (layout_of p) (trail_of p s.monarch.add.apic (own p (entries_of past))) (bound p (before p (entries_of past))) s.writes (IsHome p s) s.monarch) here.label h in
-        subst (λ x. test (telling p past s x) ≡ true) (sym (same_outcome-is o s.monarch.outcome same))
+        subst (λ x. test (telling p past s x) ≡ true) (sym (same_outcome-equal o s.monarch.outcome same))
         (passes (subst (λ ids. Told p.polls (trail_of p s.monarch.add.apic (own p (entries_of past))) (bound p (before p (entries_of past))) ids (IsHome p s) s.monarch.add s.monarch.outcome) tied.0 told) (inv.tied.called (let label = here.label in rw label refl)).2)
 
-    kinds : Kinds p s Test
-    kinds = record {
-      inserts = λ k g less gone. refl;
-      removes = λ k g. refl;
-      outside = λ k a g free out. refl;
-      monarchs = λ l a g here wants. refl;
-      others = λ k l a g here wants. refl;
-      enters = λ k g may. refl;
-      inits = λ k g may. refl;
-      rests = λ g here. refl;
-      returns = λ k l g here where_is. refl;
-      tells = λ o g here same. says o here same;
-    }
-
     pub told_passes : (e : Entry) (t : State) → run_on p s e ≡ Some t → when_told p test past s (outcome_in e.event) ≡ true
-    told_passes e t is = by_kind p s Test (stood p s fit handed) kinds e t is
+    told_passes e t is = told_by p test past s (stood p s fit handed) says e t is
 
   -- nothing is told before the hand-over
   pub silent : (test : Telling → Bool) (past : List Transition) (s t : State) (e : Entry) → IsBefore p s → run_on p s e ≡ Some t → when_told p test past s (outcome_in e.event) ≡ true

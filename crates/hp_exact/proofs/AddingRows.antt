@@ -1,18 +1,17 @@
--- What ties the monarch's record of a running add to what the entries of its outcome show, label by label, and each row keeps it.
-use Rattle.std.proofs.Common.{ℕ, suc, ◌≡◌, ◌+◌, ◌-◌, ◌≤◌, ◌==◌, ◌⊎◌, inl, inr, Bool, true, false, not, ◌||◌, nat_lt, nat_le, List, [], ◌∷◌, ◌++◌, length, drop, replicate, Option, Some, None, bit_and, refl, sym, ap, subst, ◌∙◌, arith, if◌then◌else◌}
+-- Each row keeps what the entries of a running add have shown, label by label; and steps that aren't the monarch's leave it.
+use Rattle.std.proofs.Common.{ℕ, suc, ◌≡◌, ◌+◌, ◌-◌, ◌≤◌, ◌==◌, ◌⊎◌, inl, inr, true, false, not, ◌||◌, nat_lt, nat_le, List, [], ◌∷◌, ◌++◌, length, drop, replicate, Option, Some, None, bit_and, refl, sym, ap, subst, ◌∙◌, arith, if◌then◌else◌}
 use Rattle.std.proofs.lemmas.Bool.{or_left, or_right, eqb-true}
 use Rattle.std.proofs.lemmas.Bool.Decides.{nat_tests}
 use Rattle.hp_model.specs.declared.outcomes.Outcome.{Outcome}
 use Rattle.hp_model.specs.declared.outcomes.Outcome.TheVariants as outcome
-use Rattle.hp_model.specs.declared.outcomes.Refusal.{Refusal}
-use Rattle.hp_model.specs.declared.outcomes.Refusal.TheVariants.{Foreign, Disabled, Both, AlreadyKnown, GateHeld, NoUnplug, NotKnown, NotArrived, NotAtGate, NotCheckedIn, NotParked, StillPending}
+use Rattle.hp_model.specs.declared.outcomes.Refusal.TheVariants.{Foreign, Disabled, Both, AlreadyKnown, GateHeld, NoUnplug, NotKnown, NotArrived, NotAtGate, NotCheckedIn}
 use Rattle.hp_model.specs.declared.labels.Label.{Label}
-use Rattle.hp_model.specs.declared.labels.Label.TheVariants.{F1, F2, F3, F4, F5, F6, R1, R2, R3, R4, R5, R6, S0, S1, S2, S3, S4, C1, C2, C3, C4, C5, C6, NB, N0, N1, N2, N3, N4, N5, N6, N7, N8a, N8b, N9, N10, N11, E0, E1, E2, E3, E4a, E4b, E4c, E4d, E4e, E4f, E4g, E4h, T, E5, E6, E7}
+use Rattle.hp_model.specs.declared.labels.Label.TheVariants.{F1, R1, R2, R3, R4, R5, R6, S0, S1, S2, S3, S4, C1, C2, C3, C4, C5, C6, NB, N0, N1, N2, N3, N4, N5, N6, N7, N8a, N8b, N9, N10, N11, E0, E1, E2, E3, E4a, E4b, E4c, E4d, E4e, E4f, E4g, E4h, T, E5, E6, E7}
 use Rattle.hp_model.specs.Memory.{Write, byte_at}
 use Rattle.hp_model.specs.Block.{is_in}
 use Rattle.hp_model.specs.Labels.{Monarch as Monarchs, part_of, index_of}
 use Rattle.hp_model.specs.SharedBytes.{Layout, flag, arrived_byte}
-use Rattle.hp_model.specs.Slots.{known_from, place_of, bind}
+use Rattle.hp_model.specs.Slots.{known_from, bind}
 use Rattle.hp_model.specs.Collection.{Report, Collection, CollectsAt, CollectedAll, next_processor, found, judged, collection_start}
 use Rattle.hp_model.specs.Add.{Add, AddsAt, Ends, looks, is_last_look, saw_flag, saw_pair, shut, saw_arrival}
 use Rattle.hp_model.specs.Eject.{EjectsAt, awaits}
@@ -24,139 +23,7 @@ use Rattle.hp_safety.proofs.Needs.{Nothing, need_of, IsSlot, Facts as Needed, Mo
 use Rattle.hp_safety.proofs.Ties.{Session, TiedAt, tie_of}
 use Rattle.hp_exact.proofs.Monarchs.{is_among, adding, adds_on}
 use Rattle.hp_exact.proofs.AddingTrail.{Trail, no_trail, trail_after}
-
--- a byte is 0 or 1
-abbrev pub IsBit : List Write → ℕ → Type 0
-IsBit ws x = (byte_at ws x ≡ 0) ⊎ (byte_at ws x ≡ 1)
-
--- an add runs: so many of its attempts have opened the gate, or will have with this one, and its slot is its APIC ID's place among those that were bound
--- before its entries, or the next one
-pub record Runs (opened : ℕ) (old now : List ℕ) (attempt apic slot : ℕ) : Type 0 where
-  pub tries : opened ≡ attempt
-  pub few : attempt ≤ 3
-  pub grown : now ≡ with_bound (Some apic) old
-  pub is_place : slot ≡ place_of now apic
-
-abbrev pub RunsBy : ℕ → List ℕ → Monarch → Type 0
-RunsBy n old r = Runs n old r.slots.bound r.add.attempt r.add.apic r.add.slot
-
--- of so many looks some are left, and those taken have read 0
-pub record Left (all left : ℕ) (read : List ℕ) : Type 0 where
-  pub taken : ℕ
-  pub sum : taken + left ≡ all
-  pub some : 1 ≤ left
-  pub zeros : read ≡ replicate taken 0
-
-abbrev pub was_one : Trail → Bool
-was_one t = is_in 1 t.flags || is_in 1 t.pairs
-
--- what an outcome of the add says
-pub record CompleteAdd (t : Trail) (old now : List ℕ) (home : ℕ → ℕ → Type 0) (add : Add) (cpu apic slot : ℕ) : Type 0 where
-  pub same_cpu : cpu ≡ add.cpu
-  pub same_apic : apic ≡ add.apic
-  pub same_slot : slot ≡ add.slot
-  pub grown : now ≡ with_bound (Some add.apic) old
-  pub is_place : add.slot ≡ place_of now add.apic
-  pub arrived : t.arrived ≡ true
-  pub entered : t.entered ≡ true
-  pub there : home cpu slot
-
-pub record Unseen (polls : ℕ) (t : Trail) (add : Add) (apic : ℕ) : Type 0 where
-  pub same_apic : apic ≡ add.apic
-  pub three : t.opened ≡ 3
-  pub flags : t.flags ≡ replicate polls 0
-  pub pairs : t.pairs ≡ replicate polls 0
-
-pub record Unarrived (polls : ℕ) (t : Trail) (add : Add) (apic : ℕ) : Type 0 where
-  pub same_apic : apic ≡ add.apic
-  pub three : t.opened ≡ 3
-  pub seen : t.seen ≡ true
-  pub arrivals : t.arrivals ≡ replicate polls 0
-
-abbrev pub ToldNot : ℕ → Trail → Add → Refusal → Type 0
-ToldNot polls t a (Disabled cpu status) = Unit {0}
-ToldNot polls t a (Both cpu status) = Unit {0}
-ToldNot polls t a (AlreadyKnown cpu apic slot) = Unit {0}
-ToldNot polls t a (GateHeld cpu apic other) = Unit {0}
-ToldNot polls t a (NotAtGate cpu apic) = Unseen polls t a apic
-ToldNot polls t a (NotCheckedIn cpu apic) = Unarrived polls t a apic
-ToldNot polls t a (NoUnplug cpu features) = Unit {0}
-ToldNot polls t a (NotKnown cpu apic) = Unit {0}
-ToldNot polls t a (NotArrived cpu apic) = Unit {0}
-ToldNot polls t a (NotParked cpu apic) = Unit {0}
-ToldNot polls t a (Foreign cpu apic) = Unit {0}
-ToldNot polls t a (StillPending cpu status) = Unit {0}
-
-abbrev pub Told : ℕ → Trail → List ℕ → List ℕ → (ℕ → ℕ → Type 0) → Add → Outcome → Type 0
-Told polls t old now home a (outcome.Added cpu apic slot) = CompleteAdd t old now home a cpu apic slot
-Told polls t old now home a (outcome.Ejected cpu apic slot) = Unit {0}
-Told polls t old now home a (outcome.Refused why) = ToldNot polls t a why
-
--- at each label, with these APIC IDs bound before the entries of the outcome, this memory, and this said of a processor that is at home in a slot
-abbrev pub AddAt : Layout → Trail → List ℕ → List Write → (ℕ → ℕ → Type 0) → Monarch → Label → Type 0
-AddAt y t old ws home r F1 = Unit {0}
-AddAt y t old ws home r F2 = Unit {0}
-AddAt y t old ws home r F3 = Unit {0}
-AddAt y t old ws home r F4 = Unit {0}
-AddAt y t old ws home r F5 = Unit {0}
-AddAt y t old ws home r F6 = Unit {0}
-AddAt y t old ws home r R1 = Unit {0}
-AddAt y t old ws home r R2 = Unit {0}
-AddAt y t old ws home r R3 = Unit {0}
-AddAt y t old ws home r R4 = Unit {0}
-AddAt y t old ws home r R5 = Unit {0}
-AddAt y t old ws home r R6 = Unit {0}
-AddAt y t old ws home r S0 = Unit {0}
-AddAt y t old ws home r S1 = Unit {0}
-AddAt y t old ws home r S2 = Unit {0}
-AddAt y t old ws home r S3 = Unit {0}
-AddAt y t old ws home r S4 = Unit {0}
-AddAt y t old ws home r C1 = Unit {0}
-AddAt y t old ws home r C2 = Unit {0}
-AddAt y t old ws home r C3 = Unit {0}
-AddAt y t old ws home r C4 = Unit {0}
-AddAt y t old ws home r C5 = Unit {0}
-AddAt y t old ws home r C6 = Unit {0}
-AddAt y t old ws home r NB = (t.opened ≡ 0) × (r.slots.bound ≡ with_bound (Some r.add.apic) old) × (r.add.slot ≡ place_of r.slots.bound r.add.apic)
-AddAt y t old ws home r N0 = RunsBy (t.opened + 1) old r
-AddAt y t old ws home r N1 = RunsBy (t.opened + 1) old r × IsBit ws (arrived_byte y r.add.slot)
-AddAt y t old ws home r N2 = RunsBy (t.opened + 1) old r × IsBit ws (arrived_byte y r.add.slot) × IsBit ws flag
-AddAt y t old ws home r N3 = RunsBy (t.opened + 1) old r × IsBit ws (arrived_byte y r.add.slot) × IsBit ws flag
-AddAt y t old ws home r N4 = RunsBy (t.opened + 1) old r × IsBit ws (arrived_byte y r.add.slot) × IsBit ws flag
-AddAt y t old ws home r N5 = RunsBy (t.opened + 1) old r × IsBit ws (arrived_byte y r.add.slot) × IsBit ws flag
-AddAt y t old ws home r N6 = RunsBy (t.opened + 1) old r × IsBit ws (arrived_byte y r.add.slot) × IsBit ws flag
-AddAt y t old ws home r N7 = RunsBy (t.opened + 1) old r × IsBit ws (arrived_byte y r.add.slot) × IsBit ws flag
-AddAt y t old ws home r N8a = RunsBy t.opened old r × IsBit ws (arrived_byte y r.add.slot) × IsBit ws flag × (t.any ≡ true) × Left y.polls r.add.polls t.flags × (t.pairs ≡ t.flags)
-AddAt y t old ws home r N8b = RunsBy t.opened old r × IsBit ws (arrived_byte y r.add.slot) × IsBit ws flag × (t.any ≡ true) × Left y.polls r.add.polls t.pairs × (t.flags ≡ 0 ∷ t.pairs)
-AddAt y t old ws home r N9 = RunsBy t.opened old r × IsBit ws (arrived_byte y r.add.slot) × (t.any ≡ true) × (r.add.seen ≡ true → was_one t ≡ true) × (r.add.seen ≡ false → (t.flags ≡ replicate y.polls 0) × (t.pairs ≡ replicate y.polls 0))
-AddAt y t old ws home r N10 = RunsBy t.opened old r × IsBit ws (arrived_byte y r.add.slot) × (t.shut ≡ true) × (was_one t ≡ true)
-AddAt y t old ws home r N11 = RunsBy t.opened old r × IsBit ws (arrived_byte y r.add.slot) × (t.entered ≡ true) × (t.seen ≡ true) × Left y.polls r.add.polls t.arrivals × (byte_at ws (arrived_byte y r.add.slot) ≡ 1 → home r.add.cpu r.add.slot)
-AddAt y t old ws home r E0 = Unit {0}
-AddAt y t old ws home r E1 = Unit {0}
-AddAt y t old ws home r E2 = Unit {0}
-AddAt y t old ws home r E3 = Unit {0}
-AddAt y t old ws home r E4a = Unit {0}
-AddAt y t old ws home r E4b = Unit {0}
-AddAt y t old ws home r E4c = Unit {0}
-AddAt y t old ws home r E4d = Unit {0}
-AddAt y t old ws home r E4e = Unit {0}
-AddAt y t old ws home r E4f = Unit {0}
-AddAt y t old ws home r E4g = Unit {0}
-AddAt y t old ws home r E4h = Unit {0}
-AddAt y t old ws home r T = Told y.polls t old r.slots.bound home r.add r.outcome
-AddAt y t old ws home r E5 = Unit {0}
-AddAt y t old ws home r E6 = Unit {0}
-AddAt y t old ws home r E7 = Unit {0}
-
-abbrev pub AddTied : Layout → Trail → List ℕ → List Write → (ℕ → ℕ → Type 0) → Monarch → Type 0
-AddTied y t old ws home r = AddAt y t old ws home r r.label
-
--- whether a row is of the collection, and whether it ends the entries of an outcome
-abbrev pub is_collecting : Label → Bool
-is_collecting l = (index_of l == 5) || ((index_of l == 6) || ((index_of l == 7) || ((index_of l == 8) || ((index_of l == 9) || ((index_of l == 10) || false)))))
-
-abbrev pub is_ending : Label → Bool
-is_ending l = is_collecting l || (index_of l == 34)
+use Rattle.hp_exact.proofs.AddingTie.{AddAt, AddTied, IsBit, Left, Runs, Told, is_ending}
 
 -- what a row does to the two bytes, and what it has read of them; where it ends an outcome's entries, the bound APIC IDs are the record's
 pub record Deeds (y : Layout) (ws vs : List Write) (home home2 : ℕ → ℕ → Type 0) (bound : List ℕ) (r : Monarch) (l : Label) (v : ℕ) : Type 0 where
@@ -323,18 +190,6 @@ module _ (y : Layout) (t : Trail) (old bound : List ℕ) (ws vs : List Write) (h
 
   -- each row
   pub row_add : (l : Label) → part_of l ≡ Monarchs → r.label ≡ l → Deeds y ws vs home home2 bound r l v → AddAt y t old ws home r l → Then l (next_at y q r l v).monarch
-  row_add F1 mine is d h = absurd cc
-  row_add F2 mine is d h = absurd cc
-  row_add F3 mine is d h = absurd cc
-  row_add F4 mine is d h = absurd cc
-  row_add F5 mine is d h = absurd cc
-  row_add F6 mine is d h = absurd cc
-  row_add R1 mine is d h = absurd cc
-  row_add R2 mine is d h = absurd cc
-  row_add R3 mine is d h = absurd cc
-  row_add R4 mine is d h = absurd cc
-  row_add R5 mine is d h = absurd cc
-  row_add R6 mine is d h = absurd cc
   row_add S0 mine is d h = pick (Then S0) (nat_lt 1 (length r.slots.bound)) (record r { label = S1; slot = 1 }) (at_label S2 r) tt tt
   row_add S1 mine is d h = pick (Then S1) (nat_lt (r.slot + 1) (length r.slots.bound)) (record r { label = S1; slot = r.slot + 1 }) (at_label S2 r) tt tt
   row_add S2 mine is d h = add_look S2 y.polls (known_from r.slots 1) r
@@ -377,15 +232,11 @@ module _ (y : Layout) (t : Trail) (old bound : List ℕ) (ws vs : List Write) (h
   row_add E5 mine is d h = pick (Then E5) (nat_lt 1 (length r.slots.bound)) (record r { label = E6; slot = 1 }) (at_label E7 r) tt tt
   row_add E6 mine is d h = pick (Then E6) (nat_lt (r.slot + 1) (length r.slots.bound)) (record r { label = E6; slot = r.slot + 1 }) (at_label E7 r) tt tt
   row_add E7 mine is d h = subst (AddAt y _ old vs home2 r) (sym is) tt
+  row_add _ mine is d h = absurd cc
 
 -- where its label needs nothing nothing is tied
 pub add_resting : (y : Layout) (t : Trail) (old : List ℕ) (ws : List Write) (home : ℕ → ℕ → Type 0) (r : Monarch) (l : Label) → need_of l ≡ Nothing → AddAt y t old ws home r l
 add_resting y t old ws home r F1 e = tt
-add_resting y t old ws home r F2 e = absurd cc
-add_resting y t old ws home r F3 e = absurd cc
-add_resting y t old ws home r F4 e = absurd cc
-add_resting y t old ws home r F5 e = absurd cc
-add_resting y t old ws home r F6 e = absurd cc
 add_resting y t old ws home r R1 e = tt
 add_resting y t old ws home r R2 e = tt
 add_resting y t old ws home r R3 e = tt
@@ -403,36 +254,10 @@ add_resting y t old ws home r C3 e = tt
 add_resting y t old ws home r C4 e = tt
 add_resting y t old ws home r C5 e = tt
 add_resting y t old ws home r C6 e = tt
-add_resting y t old ws home r NB e = absurd cc
-add_resting y t old ws home r N0 e = absurd cc
-add_resting y t old ws home r N1 e = absurd cc
-add_resting y t old ws home r N2 e = absurd cc
-add_resting y t old ws home r N3 e = absurd cc
-add_resting y t old ws home r N4 e = absurd cc
-add_resting y t old ws home r N5 e = absurd cc
-add_resting y t old ws home r N6 e = absurd cc
-add_resting y t old ws home r N7 e = absurd cc
-add_resting y t old ws home r N8a e = absurd cc
-add_resting y t old ws home r N8b e = absurd cc
-add_resting y t old ws home r N9 e = absurd cc
-add_resting y t old ws home r N10 e = absurd cc
-add_resting y t old ws home r N11 e = absurd cc
-add_resting y t old ws home r E0 e = absurd cc
-add_resting y t old ws home r E1 e = absurd cc
-add_resting y t old ws home r E2 e = absurd cc
-add_resting y t old ws home r E3 e = absurd cc
-add_resting y t old ws home r E4a e = absurd cc
-add_resting y t old ws home r E4b e = absurd cc
-add_resting y t old ws home r E4c e = absurd cc
-add_resting y t old ws home r E4d e = absurd cc
-add_resting y t old ws home r E4e e = absurd cc
-add_resting y t old ws home r E4f e = absurd cc
-add_resting y t old ws home r E4g e = absurd cc
-add_resting y t old ws home r E4h e = absurd cc
-add_resting y t old ws home r T e = absurd cc
 add_resting y t old ws home r E5 e = tt
 add_resting y t old ws home r E6 e = tt
 add_resting y t old ws home r E7 e = tt
+add_resting y t old ws home r _ e = absurd cc
 
 told_still : (polls : ℕ) (t : Trail) (old now : List ℕ) (home home2 : ℕ → ℕ → Type 0) (a : Add) (o : Outcome) → ((cpu slot : ℕ) → home cpu slot → home2 cpu slot) → Told polls t old now home a o → Told polls t old now home2 a o
 told_still polls t old now home home2 a (outcome.Added cpu apic slot) j h = record { same_cpu = h.same_cpu; same_apic = h.same_apic; same_slot = h.same_slot; grown = h.grown; is_place = h.is_place; arrived = h.arrived; entered = h.entered; there = j cpu slot h.there }
@@ -443,31 +268,6 @@ told_still polls t old now home home2 a (outcome.Refused why) j h = h
 pub add_still : (y : Layout) (t : Trail) (old : List ℕ) (ws vs : List Write) (home home2 : ℕ → ℕ → Type 0) (r : Monarch) (l : Label) → (IsBit ws flag → IsBit vs flag) → (is_among l adding ≡ true → IsBit ws (arrived_byte y r.add.slot) → IsBit vs (arrived_byte y r.add.slot))
     → (is_among l (N11 ∷ []) ≡ true → (byte_at ws (arrived_byte y r.add.slot) ≡ 1 → home r.add.cpu r.add.slot) → byte_at vs (arrived_byte y r.add.slot) ≡ 1 → home2 r.add.cpu r.add.slot)
     → (is_among l (T ∷ []) ≡ true → (cpu slot : ℕ) → home cpu slot → home2 cpu slot) → AddAt y t old ws home r l → AddAt y t old vs home2 r l
-add_still y t old ws vs home home2 r F1 f g i j h = h
-add_still y t old ws vs home home2 r F2 f g i j h = h
-add_still y t old ws vs home home2 r F3 f g i j h = h
-add_still y t old ws vs home home2 r F4 f g i j h = h
-add_still y t old ws vs home home2 r F5 f g i j h = h
-add_still y t old ws vs home home2 r F6 f g i j h = h
-add_still y t old ws vs home home2 r R1 f g i j h = h
-add_still y t old ws vs home home2 r R2 f g i j h = h
-add_still y t old ws vs home home2 r R3 f g i j h = h
-add_still y t old ws vs home home2 r R4 f g i j h = h
-add_still y t old ws vs home home2 r R5 f g i j h = h
-add_still y t old ws vs home home2 r R6 f g i j h = h
-add_still y t old ws vs home home2 r S0 f g i j h = h
-add_still y t old ws vs home home2 r S1 f g i j h = h
-add_still y t old ws vs home home2 r S2 f g i j h = h
-add_still y t old ws vs home home2 r S3 f g i j h = h
-add_still y t old ws vs home home2 r S4 f g i j h = h
-add_still y t old ws vs home home2 r C1 f g i j h = h
-add_still y t old ws vs home home2 r C2 f g i j h = h
-add_still y t old ws vs home home2 r C3 f g i j h = h
-add_still y t old ws vs home home2 r C4 f g i j h = h
-add_still y t old ws vs home home2 r C5 f g i j h = h
-add_still y t old ws vs home home2 r C6 f g i j h = h
-add_still y t old ws vs home home2 r NB f g i j h = h
-add_still y t old ws vs home home2 r N0 f g i j h = h
 add_still y t old ws vs home home2 r N1 f g i j h = (h.0, g refl h.1)
 add_still y t old ws vs home home2 r N2 f g i j h = (h.0, g refl h.1, f h.2)
 add_still y t old ws vs home home2 r N3 f g i j h = (h.0, g refl h.1, f h.2)
@@ -480,22 +280,8 @@ add_still y t old ws vs home home2 r N8b f g i j h = (h.0, g refl h.1, f h.2, h.
 add_still y t old ws vs home home2 r N9 f g i j h = (h.0, g refl h.1, h.2, h.3, h.4)
 add_still y t old ws vs home home2 r N10 f g i j h = (h.0, g refl h.1, h.2, h.3)
 add_still y t old ws vs home home2 r N11 f g i j h = (h.0, g refl h.1, h.2, h.3, h.4, i refl h.5)
-add_still y t old ws vs home home2 r E0 f g i j h = h
-add_still y t old ws vs home home2 r E1 f g i j h = h
-add_still y t old ws vs home home2 r E2 f g i j h = h
-add_still y t old ws vs home home2 r E3 f g i j h = h
-add_still y t old ws vs home home2 r E4a f g i j h = h
-add_still y t old ws vs home home2 r E4b f g i j h = h
-add_still y t old ws vs home home2 r E4c f g i j h = h
-add_still y t old ws vs home home2 r E4d f g i j h = h
-add_still y t old ws vs home home2 r E4e f g i j h = h
-add_still y t old ws vs home home2 r E4f f g i j h = h
-add_still y t old ws vs home home2 r E4g f g i j h = h
-add_still y t old ws vs home home2 r E4h f g i j h = h
 add_still y t old ws vs home home2 r T f g i j h = told_still y.polls t old r.slots.bound home home2 r.add r.outcome (j refl) h
-add_still y t old ws vs home home2 r E5 f g i j h = h
-add_still y t old ws vs home home2 r E6 f g i j h = h
-add_still y t old ws vs home home2 r E7 f g i j h = h
+add_still y t old ws vs home home2 r _ f g i j h = h
 
 look_apic : (polls : ℕ) (o : Option ℕ) (u : Monarch) → (look_at polls o u).add.apic ≡ u.add.apic
 look_apic polls None u = refl
@@ -503,29 +289,11 @@ look_apic polls (Some slot) u = refl
 
 -- but where a row ends an outcome's entries, the add's APIC ID stays
 pub apic_stays : (y : Layout) (q : Seat) (r : Monarch) (l : Label) (v : ℕ) → part_of l ≡ Monarchs → is_ending l ≡ false → (next_at y q r l v).monarch.add.apic ≡ r.add.apic
-apic_stays y q r F1 v mine e = absurd cc
-apic_stays y q r F2 v mine e = absurd cc
-apic_stays y q r F3 v mine e = absurd cc
-apic_stays y q r F4 v mine e = absurd cc
-apic_stays y q r F5 v mine e = absurd cc
-apic_stays y q r F6 v mine e = absurd cc
-apic_stays y q r R1 v mine e = absurd cc
-apic_stays y q r R2 v mine e = absurd cc
-apic_stays y q r R3 v mine e = absurd cc
-apic_stays y q r R4 v mine e = absurd cc
-apic_stays y q r R5 v mine e = absurd cc
-apic_stays y q r R6 v mine e = absurd cc
 apic_stays y q r S0 v mine e = pick (λ (u : Monarch). u.add.apic ≡ r.add.apic) (nat_lt 1 (length r.slots.bound)) (record r { label = S1; slot = 1 }) (at_label S2 r) refl refl
 apic_stays y q r S1 v mine e = pick (λ (u : Monarch). u.add.apic ≡ r.add.apic) (nat_lt (r.slot + 1) (length r.slots.bound)) (record r { label = S1; slot = r.slot + 1 }) (at_label S2 r) refl refl
 apic_stays y q r S2 v mine e = look_apic y.polls (known_from r.slots 1) r
 apic_stays y q r S3 v mine e = pick (λ (u : Monarch). u.add.apic ≡ r.add.apic) ((v == 1) || nat_le r.polls 1) _ (record (noted r.slot v r) { polls = r.polls - 1 }) (look_apic y.polls (known_from r.slots (r.slot + 1)) (noted r.slot v r)) refl
 apic_stays y q r S4 v mine e = pick (λ (u : Monarch). u.add.apic ≡ r.add.apic) (v == 4) (record r { label = C1; collection = collection_start; taken = 0 }) (at_label E5 r) refl refl
-apic_stays y q r C1 v mine e = absurd cc
-apic_stays y q r C2 v mine e = absurd cc
-apic_stays y q r C3 v mine e = absurd cc
-apic_stays y q r C4 v mine e = absurd cc
-apic_stays y q r C5 v mine e = absurd cc
-apic_stays y q r C6 v mine e = absurd cc
 apic_stays y q r NB v mine e = (adds_on y q r NB v refl).apic
 apic_stays y q r N0 v mine e = (adds_on y q r N0 v refl).apic
 apic_stays y q r N1 v mine e = (adds_on y q r N1 v refl).apic
@@ -552,92 +320,24 @@ apic_stays y q r E4e v mine e = refl
 apic_stays y q r E4f v mine e = refl
 apic_stays y q r E4g v mine e = pick (λ w. (eject_led w r).add.apic ≡ r.add.apic) (bit_and v 0x10 == 0x10) (EjectsAt E4h (record r.eject { status = v })) (EjectsAt E4c r.eject) refl refl
 apic_stays y q r E4h v mine e = refl
-apic_stays y q r T v mine e = absurd cc
 apic_stays y q r E5 v mine e = pick (λ (u : Monarch). u.add.apic ≡ r.add.apic) (nat_lt 1 (length r.slots.bound)) (record r { label = E6; slot = 1 }) (at_label E7 r) refl refl
 apic_stays y q r E6 v mine e = pick (λ (u : Monarch). u.add.apic ≡ r.add.apic) (nat_lt (r.slot + 1) (length r.slots.bound)) (record r { label = E6; slot = r.slot + 1 }) (at_label E7 r) refl refl
 apic_stays y q r E7 v mine e = refl
+apic_stays y q r _ v mine e = absurd cc
 
 -- and where it does, the bound APIC IDs are those of the entries
 pub ending_bound : (B : List ℕ) (S : Session) (r : Monarch) (l : Label) → part_of l ≡ Monarchs → is_ending l ≡ true → TiedAt B S r (tie_of l) → (r.slots.bound ≡ B) × ((index_of l == 19) ≡ false)
-ending_bound B S r F1 mine e h = absurd cc
-ending_bound B S r F2 mine e h = absurd cc
-ending_bound B S r F3 mine e h = absurd cc
-ending_bound B S r F4 mine e h = absurd cc
-ending_bound B S r F5 mine e h = absurd cc
-ending_bound B S r F6 mine e h = absurd cc
-ending_bound B S r R1 mine e h = absurd cc
-ending_bound B S r R2 mine e h = absurd cc
-ending_bound B S r R3 mine e h = absurd cc
-ending_bound B S r R4 mine e h = absurd cc
-ending_bound B S r R5 mine e h = absurd cc
-ending_bound B S r R6 mine e h = absurd cc
-ending_bound B S r S0 mine e h = absurd cc
-ending_bound B S r S1 mine e h = absurd cc
-ending_bound B S r S2 mine e h = absurd cc
-ending_bound B S r S3 mine e h = absurd cc
-ending_bound B S r S4 mine e h = absurd cc
 ending_bound B S r C1 mine e h = (h.0, refl)
 ending_bound B S r C2 mine e h = (h.0, refl)
 ending_bound B S r C3 mine e h = (h.0, refl)
 ending_bound B S r C4 mine e h = (h.0, refl)
 ending_bound B S r C5 mine e h = (h.0, refl)
 ending_bound B S r C6 mine e h = (h.0, refl)
-ending_bound B S r NB mine e h = absurd cc
-ending_bound B S r N0 mine e h = absurd cc
-ending_bound B S r N1 mine e h = absurd cc
-ending_bound B S r N2 mine e h = absurd cc
-ending_bound B S r N3 mine e h = absurd cc
-ending_bound B S r N4 mine e h = absurd cc
-ending_bound B S r N5 mine e h = absurd cc
-ending_bound B S r N6 mine e h = absurd cc
-ending_bound B S r N7 mine e h = absurd cc
-ending_bound B S r N8a mine e h = absurd cc
-ending_bound B S r N8b mine e h = absurd cc
-ending_bound B S r N9 mine e h = absurd cc
-ending_bound B S r N10 mine e h = absurd cc
-ending_bound B S r N11 mine e h = absurd cc
-ending_bound B S r E0 mine e h = absurd cc
-ending_bound B S r E1 mine e h = absurd cc
-ending_bound B S r E2 mine e h = absurd cc
-ending_bound B S r E3 mine e h = absurd cc
-ending_bound B S r E4a mine e h = absurd cc
-ending_bound B S r E4b mine e h = absurd cc
-ending_bound B S r E4c mine e h = absurd cc
-ending_bound B S r E4d mine e h = absurd cc
-ending_bound B S r E4e mine e h = absurd cc
-ending_bound B S r E4f mine e h = absurd cc
-ending_bound B S r E4g mine e h = absurd cc
-ending_bound B S r E4h mine e h = absurd cc
 ending_bound B S r T mine e h = (h.0, refl)
-ending_bound B S r E5 mine e h = absurd cc
-ending_bound B S r E6 mine e h = absurd cc
-ending_bound B S r E7 mine e h = absurd cc
+ending_bound B S r _ mine e h = absurd cc
 
 -- while an add runs its slot is one that a processor may get
 pub adding_slot : (f : Needed) (l : Label) → is_among l adding ≡ true → MonarchNeeds f (need_of l) → IsSlot f.count f.slot
-adding_slot f F1 e h = absurd cc
-adding_slot f F2 e h = absurd cc
-adding_slot f F3 e h = absurd cc
-adding_slot f F4 e h = absurd cc
-adding_slot f F5 e h = absurd cc
-adding_slot f F6 e h = absurd cc
-adding_slot f R1 e h = absurd cc
-adding_slot f R2 e h = absurd cc
-adding_slot f R3 e h = absurd cc
-adding_slot f R4 e h = absurd cc
-adding_slot f R5 e h = absurd cc
-adding_slot f R6 e h = absurd cc
-adding_slot f S0 e h = absurd cc
-adding_slot f S1 e h = absurd cc
-adding_slot f S2 e h = absurd cc
-adding_slot f S3 e h = absurd cc
-adding_slot f S4 e h = absurd cc
-adding_slot f C1 e h = absurd cc
-adding_slot f C2 e h = absurd cc
-adding_slot f C3 e h = absurd cc
-adding_slot f C4 e h = absurd cc
-adding_slot f C5 e h = absurd cc
-adding_slot f C6 e h = absurd cc
 adding_slot f NB e h = h.0
 adding_slot f N0 e h = h.0
 adding_slot f N1 e h = h.0
@@ -652,74 +352,8 @@ adding_slot f N8b e h = h.0
 adding_slot f N9 e h = h.0
 adding_slot f N10 e h = h.0
 adding_slot f N11 e h = h.0
-adding_slot f E0 e h = absurd cc
-adding_slot f E1 e h = absurd cc
-adding_slot f E2 e h = absurd cc
-adding_slot f E3 e h = absurd cc
-adding_slot f E4a e h = absurd cc
-adding_slot f E4b e h = absurd cc
-adding_slot f E4c e h = absurd cc
-adding_slot f E4d e h = absurd cc
-adding_slot f E4e e h = absurd cc
-adding_slot f E4f e h = absurd cc
-adding_slot f E4g e h = absurd cc
-adding_slot f E4h e h = absurd cc
-adding_slot f T e h = absurd cc
-adding_slot f E5 e h = absurd cc
-adding_slot f E6 e h = absurd cc
-adding_slot f E7 e h = absurd cc
+adding_slot f _ e h = absurd cc
 
 pub adding_needs : (l : Label) → is_among l adding ≡ true → need_of l ≡ Nothing → ⊥
 adding_needs F1 e f = cc
-adding_needs F2 e f = cc
-adding_needs F3 e f = cc
-adding_needs F4 e f = cc
-adding_needs F5 e f = cc
-adding_needs F6 e f = cc
-adding_needs R1 e f = cc
-adding_needs R2 e f = cc
-adding_needs R3 e f = cc
-adding_needs R4 e f = cc
-adding_needs R5 e f = cc
-adding_needs R6 e f = cc
-adding_needs S0 e f = cc
-adding_needs S1 e f = cc
-adding_needs S2 e f = cc
-adding_needs S3 e f = cc
-adding_needs S4 e f = cc
-adding_needs C1 e f = cc
-adding_needs C2 e f = cc
-adding_needs C3 e f = cc
-adding_needs C4 e f = cc
-adding_needs C5 e f = cc
-adding_needs C6 e f = cc
-adding_needs NB e f = cc
-adding_needs N0 e f = cc
-adding_needs N1 e f = cc
-adding_needs N2 e f = cc
-adding_needs N3 e f = cc
-adding_needs N4 e f = cc
-adding_needs N5 e f = cc
-adding_needs N6 e f = cc
-adding_needs N7 e f = cc
-adding_needs N8a e f = cc
-adding_needs N8b e f = cc
-adding_needs N9 e f = cc
-adding_needs N10 e f = cc
-adding_needs N11 e f = cc
-adding_needs E0 e f = cc
-adding_needs E1 e f = cc
-adding_needs E2 e f = cc
-adding_needs E3 e f = cc
-adding_needs E4a e f = cc
-adding_needs E4b e f = cc
-adding_needs E4c e f = cc
-adding_needs E4d e f = cc
-adding_needs E4e e f = cc
-adding_needs E4f e f = cc
-adding_needs E4g e f = cc
-adding_needs E4h e f = cc
-adding_needs T e f = cc
-adding_needs E5 e f = cc
-adding_needs E6 e f = cc
-adding_needs E7 e f = cc
+adding_needs _ e f = cc

@@ -117,7 +117,7 @@ pub agrees_set : (p : Platform) (b : Block) (cs : List Cpu) (k : ℕ) (d : Cpu) 
 agrees_set p b cs k d h same = agrees_cpus p b cs (slice_set cs k d) h (length-set cs k d) (at_set (λ c d. d.present ≡ c.present) cs k d (λ j. refl) same)
 
 -- a write of the block, and who it ejects
-gone_at : (cs : List Cpu) (k : ℕ) → (cpu_at (slice_set cs k absent) k).present ≡ false
+pub gone_at : (cs : List Cpu) (k : ℕ) → (cpu_at (slice_set cs k absent) k).present ≡ false
 gone_at [] k = refl
 gone_at (c ∷ cs) zero = refl
 gone_at (c ∷ cs) (suc k) = gone_at cs k

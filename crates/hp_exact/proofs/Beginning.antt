@@ -1,118 +1,45 @@
 -- From the start to the hand-over: no session has begun, the register block becomes modern, and the release bytes of slots that aren't bound are 0.
-use Rattle.std.proofs.Common.{ℕ, zero, suc, ◌≡◌, ◌≢◌, ◌+◌, ◌-◌, ◌*◌, ◌%◌, ◌^◌, ◌<◌, ◌≤◌, ◌==◌, ◌⊎◌, inl, inr, Bool, true, false, cond, not, ◌&&◌, ◌||◌, nat_lt, nat_le, List, [], ◌∷◌, length, take, Option, Some, None, refl, sym, ap, subst, ◌∙◌, arith, if◌then◌else◌}
+use Rattle.std.proofs.Common.{ℕ, ◌≡◌, ◌≢◌, ◌+◌, ◌*◌, ◌%◌, ◌^◌, ◌<◌, ◌≤◌, ◌==◌, ◌⊎◌, inl, inr, Bool, true, false, cond, not, ◌&&◌, ◌||◌, nat_lt, nat_le, List, [], ◌∷◌, length, take, Option, Some, None, refl, sym, ap, subst, ◌∙◌, arith, if◌then◌else◌}
 use Rattle.std.specs.Prelude.{slice_index_or}
-use Rattle.std.proofs.lemmas.Bool.{and_parts, eqb-true, leb-true}
+use Rattle.std.proofs.lemmas.Bool.{eqb-true, leb-true}
 use Rattle.std.proofs.lemmas.Bool.Decides.{nat_tests}
 use Rattle.std.proofs.lemmas.List.{length-map}
 use Rattle.hp_model.specs.declared.platforms.Platform.{Platform}
 use Rattle.hp_model.specs.declared.accesses.Access.{Access}
 use Rattle.hp_model.specs.declared.accesses.Access.TheVariants.{In}
-use Rattle.hp_model.specs.declared.labels.Label.{Label}
-use Rattle.hp_model.specs.declared.labels.Label.TheVariants.{S0}
 use Rattle.hp_model.specs.declared.outcomes.BootFact.{BootFact}
 use Rattle.hp_model.specs.declared.outcomes.BootFact.TheVariants.{NotModern}
-use Rattle.hp_model.specs.declared.entries.Event.{Event}
-use Rattle.hp_model.specs.declared.entries.Event.TheVariants.{Insert, Remove, Do, TakeSmi, TakeInit, Resume, Tell}
+use Rattle.hp_model.specs.declared.entries.Event.TheVariants.{Do}
 use Rattle.hp_model.specs.declared.entries.Entry.{Entry}
-use Rattle.hp_model.specs.Platform.{IsFit, tseg, count_of, apic_of, is_late}
-use Rattle.hp_model.specs.Memory.{Write, covers, byte_at, write_of}
-use Rattle.hp_model.specs.Cpu.{cpu_at, is_in_smm}
+use Rattle.hp_model.specs.Platform.{tseg, count_of, apic_of, is_late}
+use Rattle.hp_model.specs.Memory.{byte_at}
+use Rattle.hp_model.specs.Cpu.{cpu_at}
 use Rattle.hp_model.specs.Block.{Slot, no_slot, bitmap, first_places, block_read}
-use Rattle.hp_model.specs.Boot.{Stage, Boots, Refused, Handed, is_handed, ext_count, boot_accesses, boot_access, boot_refusal, value_in, stage_by, stage_after}
-use Rattle.hp_model.specs.Labels.{First, Relocated, Monarch as Monarchs, Part, part_of, index_of, first_cell, cell_of, mark_of}
+use Rattle.hp_model.specs.Boot.{Stage, Boots, Refused, Handed, is_handed, ext_count, boot_accesses, boot_access, boot_refusal, value_in, stage_by}
 use Rattle.hp_model.specs.SharedBytes.{layout_of, release_byte}
-use Rattle.hp_model.specs.Image.{relocated_labels, monarch_labels, with_cells, with_tiles, with_releases, image}
 use Rattle.hp_model.specs.Slots.{boot_ids}
-use Rattle.hp_model.specs.Monarch.{Monarch, monarch_start, with_features}
-use Rattle.hp_model.specs.Step.{State, After, at, same_access, is_boots, wanted_in, answer_to, answer_of, access_effect, with_agreed, is_disturbed_by, start, after, is_after_broadcast}
+use Rattle.hp_model.specs.Monarch.{monarch_start, with_features}
+use Rattle.hp_model.specs.Step.{State, After, at, is_boots, wanted_in, answer_to, start, after}
 use Rattle.hp_model.specs.Runs.{address_of, run_on}
 use Rattle.hp_model.specs.Transitions.{Transition, entries_of, since, newest}
 use Rattle.hp_model.specs.Sessions.{interferes, triples, disturbed_in}
 use Rattle.hp_model.proofs.AtEach.{made}
 use Rattle.hp_sealed.specs.Left.{Sound, LeavesLocked}
 use Rattle.hp_sealed.specs.Sealed.{IsOutside}
-use Rattle.hp_sealed.specs.Booting.{memory_after, more_if, Booting, IsBooting}
-use Rattle.hp_sealed.proofs.Left.{left_more, length-bytes_of}
-use Rattle.hp_sealed.proofs.Same.{same_access-is}
+use Rattle.hp_sealed.specs.Booting.{Booting, IsBooting}
 use Rattle.hp_sealed.proofs.Places.{tseg_locked}
-use Rattle.hp_sealed.proofs.Labels.{index_small}
-use Rattle.hp_sealed.proofs.Boots.{locked_by}
-use Rattle.hp_sealed.proofs.Goes.{stepped, not_in_smm, boot_leaves, boot_goes, refused_goes}
+use Rattle.hp_sealed.proofs.BootLocks.{locked_by}
+use Rattle.hp_sealed.proofs.Goes.{stepped, not_in_smm, boot_leaves, boot_goes, reached, boots_event, after_boots}
 use Rattle.hp_sealed.proofs.Runs.{made as made_by}
 use Rattle.hp_safety.proofs.Marked.{at_none}
-use Rattle.hp_safety.proofs.Runs.{IsGood, goes}
-use Rattle.hp_sealed.proofs.Starts.{sound, starts}
-use Rattle.hp_exact.proofs.Stood.{stood}
-use Rattle.hp_exact.proofs.Naming.{Ids}
-use Rattle.hp_exact.proofs.Keeping.{keeps}
+use Rattle.hp_safety.proofs.Runs.{IsGood}
+use Rattle.hp_sealed.proofs.Starts.{sound}
 use Rattle.hp_exact.proofs.Account.{Account, account_start, account, account_more}
 use Rattle.hp_exact.proofs.Tying.{account_other, early_tied}
 use Rattle.hp_exact.proofs.Latching.{latches_out}
 use Rattle.hp_exact.proofs.Agreeing.{agrees_acted, modern_acted, agrees_start}
 use Rattle.hp_exact.proofs.Invariant.{Agrees, Parts, Invariant, last_read}
-
--- the image has nothing in these bytes
-misses : (a n v x : ℕ) → (a + n ≤ x) ⊎ (x < a) → covers (write_of a n v) x ≡ false
-misses a n v x h = let e = length-bytes_of n v in rw e (plain a n x h)
-  where
-    plain : (a n x : ℕ) → (a + n ≤ x) ⊎ (x < a) → (nat_le a x && nat_lt x (a + n)) ≡ false
-    plain a n x (inl g) = grind (arith, nat_tests)
-    plain a n x (inr g) = grind (arith, nat_tests)
-
-cells_leave : (p : Platform) (slot x : ℕ) (ls : List Label) (ws : List Write) → Sound p → tseg p + 0x1000 ≤ x → x < tseg p + 0x2000 → byte_at (with_cells p slot ls ws) x ≡ byte_at ws x
-unfolding with_cells
-cells_leave p slot x [] ws sound from to = refl
-cells_leave p slot x (l ∷ ls) ws sound from to =
-    cells_leave p slot x ls (write_of (cell_of p l slot) 4 (mark_of l) ∷ ws) sound from to
-    ∙ (left_more x (write_of (cell_of p l slot) 4 (mark_of l)) ws (misses (cell_of p l slot) 4 (mark_of l) x (by_part (part_of l)))).byte
-  where
-    small : index_of l ≤ 40
-    small = index_small l
-
-    above : 0x800000 ≤ tseg p
-    above = sound.above
-
-    by_part : (q : Part) → (first_cell p q slot + 4 * index_of l + 4 ≤ x) ⊎ (x < first_cell p q slot + 4 * index_of l)
-    by_part First = inl (omega (arith, small, above, from))
-    by_part Relocated = inr (omega (arith, to))
-    by_part Monarchs = inr (omega (arith, to))
-
-tiles_leave : (p : Platform) (n x : ℕ) (ws : List Write) → Sound p → tseg p + 0x1000 ≤ x → x < tseg p + 0x2000 → byte_at (with_tiles p n ws) x ≡ byte_at ws x
-unfolding with_tiles
-tiles_leave p zero x ws sound from to = refl
-tiles_leave p (suc n) x ws sound from to = cells_leave p (suc n) x relocated_labels (with_tiles p n ws) sound from to ∙ tiles_leave p n x ws sound from to
-
-releases_leave : (p : Platform) (n slot : ℕ) (ws : List Write) → n < slot → byte_at (with_releases p n ws) (release_byte (layout_of p) slot) ≡ byte_at ws (release_byte (layout_of p) slot)
-unfolding with_releases
-releases_leave p zero slot ws less = refl
-releases_leave p (suc n) slot ws less =
-    (left_more (release_byte (layout_of p) slot) (write_of (release_byte (layout_of p) (suc n)) 1 1) (with_releases p n ws)
-    (misses (release_byte (layout_of p) (suc n)) 1 1 (release_byte (layout_of p) slot) (inl (omega (arith, less))))).byte
-    ∙ releases_leave p n slot ws (omega (arith, less))
-
-from_1000 : (base slot : ℕ) → base + 0x1000 ≤ base + 0x1000 + slot
-from_1000 base slot = omega arith
-
-to_2000 : (base slot : ℕ) → slot < 0x1000 → base + 0x1000 + slot < base + 0x2000
-to_2000 base slot small = omega (arith, small)
-
-image_none : (p : Platform) (slot : ℕ) → Sound p → 1 ≤ slot → length p.boot ≤ slot → slot < 0x1000 → byte_at (image p) (release_byte (layout_of p) slot) ≡ 0
-unfolding image
-image_none p slot sound some past small =
-    let x = release_byte (layout_of p) slot in
-    releases_leave p (length p.boot - 1) slot _ (omega (arith, some, past))
-    ∙ (cells_leave p 0 x monarch_labels (with_tiles p (count_of p - 1) []) sound (from_1000 (tseg p) slot) (to_2000 (tseg p) slot small)
-    ∙ tiles_leave p (count_of p - 1) x [] sound (from_1000 (tseg p) slot) (to_2000 (tseg p) slot small))
-
--- and neither have the boot's own stores
-more_leaves : (b : Bool) (a n v x : ℕ) (ws : List Write) → a + n ≤ x → byte_at (more_if b a n v ws) x ≡ byte_at ws x
-more_leaves true a n v x ws low = (left_more x (write_of a n v) ws (misses a n v x (inl low))).byte
-more_leaves false a n v x ws low = refl
-
-memory_none : (p : Platform) (n x : ℕ) → 0x800000 ≤ x → byte_at (memory_after p n) x ≡ byte_at (image p) x
-memory_none p n x high =
-    more_leaves (nat_lt 13 n) 0x30000 8 _ x _ (omega (arith, high)) ∙ (more_leaves (nat_lt 12 n) 0x38014 4 _ x _ (omega (arith, high)) ∙ (more_leaves (nat_lt 11 n) 0x38010 4 _ x _ (omega (arith, high)) ∙ (more_leaves (nat_lt 10 n) 0x3800c 4 _ x _ (omega (arith, high))
-    ∙ (more_leaves (nat_lt 9 n) 0x38008 4 _ x _ (omega (arith, high)) ∙ (more_leaves (nat_lt 8 n) 0x38004 4 _ x _ (omega (arith, high)) ∙ (more_leaves (nat_lt 7 n) 0x38000 4 _ x _ (omega (arith, high)) ∙ more_leaves (nat_lt 6 n) 0x9f000 4 _ x _ (omega (arith, high))))))))
+use Rattle.hp_exact.proofs.BootReleases.{image_none, memory_none}
 
 -- the register block is modern from the fourth access on
 abbrev pub is_modern_due : Stage → Bool
@@ -140,36 +67,16 @@ told_none p = refl
 pub begins : (p : Platform) → Sound p → Begun p [] (start p)
 begins p sound = record { told = told_none p; agrees = agrees_start p; modern = λ e. absurd cc; bytes = λ e slot some past small. image_none p slot sound some past small }
 
--- the boot's access, and the state that it leads to
-abbrev reached : Platform → State → ℕ → ℕ → Access → State
-reached p s done supported b = record (with_agreed (access_effect p 0 false b s)) { stage = stage_after p.tseg_mib (answer_to false b s) (Boots done supported); disturbed = is_disturbed_by s (Do 0 b) }
+pub record BootStep (p : Platform) (s : State) (e : Entry) (t : State) : Type 0 where
+  pub done : ℕ
+  pub supported : ℕ
+  pub stage : s.stage ≡ Boots done supported
+  pub holds : Booting p done s
+  pub event : e.event ≡ Do 0 (boot_access p.tseg_mib supported done)
+  pub place : e.at ≡ None
+  pub is : reached p s done supported (boot_access p.tseg_mib supported done) ≡ t
 
-record BootStep (p : Platform) (s : State) (e : Entry) (t : State) : Type 0 where
-  done : ℕ
-  supported : ℕ
-  stage : s.stage ≡ Boots done supported
-  holds : Booting p done s
-  event : e.event ≡ Do 0 (boot_access p.tseg_mib supported done)
-  place : e.at ≡ None
-  is : reached p s done supported (boot_access p.tseg_mib supported done) ≡ t
-
-boots_event : (mib done supported : ℕ) (e : Event) → is_boots mib done supported e ≡ true → e ≡ Do 0 (boot_access mib supported done)
-boots_event mib done supported (Insert k) is = absurd cc
-boots_event mib done supported (Remove k) is = absurd cc
-boots_event mib done supported (Do k a) is =
-    let both = and_parts (k == 0) (same_access a (boot_access mib supported done)) is in
-    let first : k ≡ 0 = eqb-true k 0 both.0 in
-    let next : a ≡ boot_access mib supported done = same_access-is a (boot_access mib supported done) both.1 in
-    rw (first, next) refl
-boots_event mib done supported (TakeSmi k) is = absurd cc
-boots_event mib done supported (TakeInit k) is = absurd cc
-boots_event mib done supported (Resume k) is = absurd cc
-boots_event mib done supported (Tell o) is = absurd cc
-
-after_boots : (p : Platform) (s : State) (done supported : ℕ) (b : Access) → s.stage ≡ Boots done supported → is_in_smm (at s 0).mode ≡ false → (after p s (Do 0 b)).state ≡ reached p s done supported b
-after_boots p s done supported b stage mode = rw (mode, stage) refl
-
-boot_step : (p : Platform) (s : State) (e : Entry) (t : State) → IsBooting p s → run_on p s e ≡ Some t → BootStep p s e t
+pub boot_step : (p : Platform) (s : State) (e : Entry) (t : State) → IsBooting p s → run_on p s e ≡ Some t → BootStep p s e t
 boot_step p s e t h is =
     let mk = made_by p s e t is in
     let st = stepped p s e.event mk.after mk.step in
@@ -261,7 +168,7 @@ unfolding boot_access boot_accesses
 fourth mib supported n e = rw e refl
 
 -- a step of the boot
-begun_goes : (p : Platform) (past : List Transition) (s t : State) (e : Entry) → Sound p → IsBooting p s → IsGood p t → run_on p s e ≡ Some t → Begun p past s → Begun p (made s e t ∷ past) t
+pub begun_goes : (p : Platform) (past : List Transition) (s t : State) (e : Entry) → Sound p → IsBooting p s → IsGood p t → run_on p s e ≡ Some t → Begun p past s → Begun p (made s e t ∷ past) t
 begun_goes p past s t e sound booting good is h =
     record {
       told = boot_told p past e b step.event step.place h.told;
@@ -346,7 +253,7 @@ begun_goes p past s t e sound booting good is h =
             left (let more = last in omega (arith, more)) slot some past_it small
 
 -- the hand-over
-hands_over : (p : Platform) (past : List Transition) (t : State) → Begun p past t → is_handed t.stage ≡ true → IsOutside p t → Invariant p past t
+pub hands_over : (p : Platform) (past : List Transition) (t : State) → Begun p past t → is_handed t.stage ≡ true → IsOutside p t → Invariant p past t
 hands_over p past t h handed outside =
     subst (λ r. Parts p (account p (entries_of past)) (last_read p past) t.block t.cpus t.writes r t.disturbed) (sym outside.begun)
     (subst (λ a. Parts p a (last_read p past) t.block t.cpus t.writes (with_features t.monarch.features (monarch_start p)) t.disturbed) (sym h.told)
@@ -382,7 +289,7 @@ hands_over p past t h handed outside =
     on (Handed requested) e = refl
 
 -- a step of the boot that hands over leaves everybody outside SMM
-sealed_outside : (p : Platform) (s t : State) (e : Entry) → Sound p → IsBooting p s → run_on p s e ≡ Some t → is_handed t.stage ≡ true → IsOutside p t
+pub sealed_outside : (p : Platform) (s t : State) (e : Entry) → Sound p → IsBooting p s → run_on p s e ≡ Some t → is_handed t.stage ≡ true → IsOutside p t
 sealed_outside p s t e sound booting is handed =
     let mk = made_by p s e t is in
     let next = (boot_goes p s e.event mk.after sound booting mk.step).0 in
@@ -393,63 +300,3 @@ sealed_outside p s t e sound booting is handed =
         | inr c ↦ subst (IsOutside p) mk.state c.cpus
       ]
     ]
-
--- every state of a run, with the transitions that led to it
-pub record Whole (p : Platform) (past : List Transition) (s : State) : Type 0 where
-  pub good : IsGood p s
-  pub before : is_handed s.stage ≡ false → Begun p past s
-  pub handed : is_handed s.stage ≡ true → Invariant p past s
-
-pub whole_begins : (p : Platform) → IsFit p → Whole p [] (start p)
-whole_begins p fits = record { good = inl (starts p fits); before = λ _. begins p (sound p fits); handed = λ e. absurd cc }
-
-handed_stays : (p : Platform) (s t : State) (e : Entry) → run_on p s e ≡ Some t → is_handed s.stage ≡ true → is_handed t.stage ≡ true
-handed_stays p s t e is handed =
-    let mk = made_by p s e t is in
-    let st = stepped p s e.event mk.after mk.step in
-    let state : (after p s e.event).state ≡ t = ap (λ (a : After). a.state) st.is ∙ mk.state in
-    subst (λ (u : State). is_handed u.stage ≡ true) state (by_stage s.stage handed)
-  where
-    by_stage : (g : Stage) → is_handed g ≡ true → is_handed (stage_after p.tseg_mib (answer_of s e.event) g) ≡ true
-    by_stage (Boots done supported) f = absurd cc
-    by_stage (Refused fact) f = absurd cc
-    by_stage (Handed requested) f = refl
-
-pub whole_goes : (p : Platform) → Sound p → Ids p → (past : List Transition) (s t : State) (e : Entry) → Whole p past s → run_on p s e ≡ Some t → Whole p (made s e t ∷ past) t
-whole_goes p sound ids past s t e h is = by_good h.good
-  where
-    next : IsGood p t
-    next = let mk = made_by p s e t is in subst (IsGood p) mk.state (goes p s e.event mk.after sound h.good mk.step).0
-
-    by_good : IsGood p s → Whole p (made s e t ∷ past) t
-    by_good (inl k) =
-        let early : is_handed s.stage ≡ false = let stage = k.stage in rw stage refl in
-        let begun = begun_goes p past s t e sound k next is (h.before early) in
-        record { good = next; before = λ _. begun; handed = λ f. hands_over p (made s e t ∷ past) t begun f (sealed_outside p s t e sound k is f) }
-    by_good (inr (inl k)) = absurd (let mk = made_by p s e t is in refused_goes p s e.event mk.after k mk.step)
-    by_good (inr (inr k)) =
-        let on = handed_stays p s t e is k.handed in
-        record { good = next; before = λ f. absurd (let both : true ≡ false = sym on ∙ f in cc); handed = λ _. keeps p sound ids past s (stood p s sound k) (h.handed k.handed) e t is }
-
--- before the hand-over nobody is in SMM
-pub outside_before : (p : Platform) (s t : State) (e : Entry) → IsGood p s → is_handed s.stage ≡ false → run_on p s e ≡ Some t → e.at ≡ None
-outside_before p s t e (inl k) before is = (boot_step p s e t k is).place
-outside_before p s t e (inr (inl k)) before is = absurd (let mk = made_by p s e t is in refused_goes p s e.event mk.after k mk.step)
-outside_before p s t e (inr (inr k)) before is = absurd (let handed = k.handed in let both : true ≡ false = sym handed ∙ before in cc)
-
--- and the boot makes accesses alone
-pub access_before : (p : Platform) (s t : State) (e : Entry) → IsGood p s → is_handed s.stage ≡ false → run_on p s e ≡ Some t → (a : Access) × (e.event ≡ Do 0 a)
-access_before p s t e (inl k) before is = let step = boot_step p s e t k is in (boot_access p.tseg_mib step.supported step.done, step.event)
-access_before p s t e (inr (inl k)) before is = absurd (let mk = made_by p s e t is in refused_goes p s e.event mk.after k mk.step)
-access_before p s t e (inr (inr k)) before is = absurd (let handed = k.handed in let both : true ≡ false = sym handed ∙ before in cc)
-
--- the step that hands over leaves the monarch's record at its first label
-pub fresh_at_hand_over : (p : Platform) (s t : State) (e : Entry) → Sound p → IsGood p s → is_handed s.stage ≡ false → run_on p s e ≡ Some t → is_handed t.stage ≡ true → is_after_broadcast t.monarch.label ≡ false
-fresh_at_hand_over p s t e fit (inl k) before is handed = let outside = sealed_outside p s t e fit k is handed in ap (λ (r : Monarch). is_after_broadcast r.label) outside.begun
-fresh_at_hand_over p s t e fit (inr (inl k)) before is handed = absurd (let mk = made_by p s e t is in refused_goes p s e.event mk.after k mk.step)
-fresh_at_hand_over p s t e fit (inr (inr k)) before is handed = absurd (let on = k.handed in let both : true ≡ false = sym on ∙ before in cc)
-
-pub label_at_hand_over : (p : Platform) (s t : State) (e : Entry) → Sound p → IsGood p s → is_handed s.stage ≡ false → run_on p s e ≡ Some t → is_handed t.stage ≡ true → t.monarch.label ≡ S0
-label_at_hand_over p s t e fit (inl k) before is handed = let outside = sealed_outside p s t e fit k is handed in ap (λ (r : Monarch). r.label) outside.begun
-label_at_hand_over p s t e fit (inr (inl k)) before is handed = absurd (let mk = made_by p s e t is in refused_goes p s e.event mk.after k mk.step)
-label_at_hand_over p s t e fit (inr (inr k)) before is handed = absurd (let on = k.handed in let both : true ≡ false = sym on ∙ before in cc)

@@ -1,245 +1,51 @@
 -- What is told of ejects shows in what the entries read, and an undisturbed session tells neither Foreign nor StillPending: over each kind of step.
-use Rattle.std.proofs.Common.{ℕ, zero, suc, ◌≡◌, ◌≢◌, ◌+◌, ◌-◌, ◌*◌, ◌<◌, ◌≤◌, ◌==◌, ◌⊎◌, inl, inr, Bool, true, false, cond, not, ◌&&◌, ◌||◌, nat_lt, nat_le, List, [], ◌∷◌, length, replicate, Option, Some, None, bit_and, refl, sym, ap, subst, ◌∙◌, arith}
-use Rattle.std.specs.Prelude.{slice_index_or}
-use Rattle.std.specs.List.{list_any}
+use Rattle.std.proofs.Common.{ℕ, ◌≡◌, ◌<◌, ◌≤◌, ◌==◌, ◌⊎◌, inl, inr, Bool, true, false, cond, not, ◌&&◌, ◌||◌, List, [], ◌∷◌, replicate, Some, None, bit_and, refl, sym, ap, subst, ◌∙◌, arith}
 use Rattle.std.specs.Str.{bytes_eq}
 use Rattle.std.proofs.lemmas.Bool.{and_parts}
-use Rattle.std.proofs.lemmas.Bool.Decides.{nat_tests}
 use Rattle.hp_model.specs.declared.platforms.Platform.{Platform}
 use Rattle.hp_model.specs.declared.accesses.Access.{Access}
-use Rattle.hp_model.specs.declared.accesses.Access.TheVariants.{Load}
-use Rattle.hp_model.specs.declared.accesses.Want.{Want}
 use Rattle.hp_model.specs.declared.accesses.Want.TheVariants as want
 use Rattle.hp_model.specs.declared.labels.Label.{Label}
-use Rattle.hp_model.specs.declared.labels.Label.TheVariants.{F1, F2, F3, F4, F5, F6, R1, R2, R3, R4, R5, R6, S0, S1, S2, S3, S4, C1, C2, C3, C4, C5, C6, NB, N0, N1, N2, N3, N4, N5, N6, N7, N8a, N8b, N9, N10, N11, E0, E1, E2, E3, E4a, E4b, E4c, E4d, E4e, E4f, E4g, E4h, T, E5, E6, E7}
+use Rattle.hp_model.specs.declared.labels.Label.TheVariants.{F6, R5, S2, E0, E1, E2, E3, E4g, E4h, T, E7}
 use Rattle.hp_model.specs.declared.outcomes.Outcome.{Outcome}
 use Rattle.hp_model.specs.declared.outcomes.Outcome.TheVariants.{Added, Ejected, Refused}
 use Rattle.hp_model.specs.declared.outcomes.Refusal.TheVariants.{Disabled, Both, AlreadyKnown, GateHeld, NotAtGate, NotCheckedIn, NoUnplug, NotKnown, NotArrived, NotParked, Foreign, StillPending}
 use Rattle.hp_model.specs.declared.entries.Event.TheVariants.{Insert, Remove, Do, TakeSmi, TakeInit, Resume, Tell}
 use Rattle.hp_model.specs.declared.entries.Entry.{Entry}
-use Rattle.hp_model.specs.Platform.{count_of, tile, tseg, is_late}
-use Rattle.hp_model.specs.Memory.{Write, covers, byte_at, bytes_of, write_of, value_from}
-use Rattle.hp_model.specs.View.{Locks, is_hole, loaded, stored}
+use Rattle.hp_model.specs.Platform.{count_of, tile, is_late}
+use Rattle.hp_model.specs.Memory.{Write, byte_at}
 use Rattle.hp_model.specs.Cpu.{is_outside, is_in_smm, is_free, smm_address, may_take_smi, may_take_init, take_init}
 use Rattle.hp_model.specs.Block.{is_in}
 use Rattle.hp_model.specs.Boot.{Stage, value_in}
-use Rattle.hp_model.specs.Labels.{Relocated, Monarch as Monarchs, part_of, index_of, same_label}
-use Rattle.hp_model.specs.SharedBytes.{layout_of, arrived_byte, map_byte, parked_byte, gate, closed, flag, default_smbase_field}
+use Rattle.hp_model.specs.Labels.{Monarch as Monarchs, part_of, index_of, same_label}
+use Rattle.hp_model.specs.SharedBytes.{layout_of, parked_byte}
 use Rattle.hp_model.specs.Monarch.{Monarch, restarted}
-use Rattle.hp_model.specs.Handlers.{Seat, want_at, runs_at}
+use Rattle.hp_model.specs.Handlers.{want_at}
 use Rattle.hp_model.specs.Step.{State, at, set_cpu, seat, access_effect, answer_to, insert, request_removal, enter_smm, leave_smm, with_session, is_after_broadcast, writes_block, same_outcome}
 use Rattle.hp_model.specs.Runs.{run_on}
-use Rattle.hp_model.specs.Transitions.{Transition, entries_of, since}
+use Rattle.hp_model.specs.Transitions.{Transition, entries_of}
 use Rattle.hp_model.specs.Account.{is_at}
 use Rattle.hp_model.specs.Sessions.{bounds_session, tells, ends_outcome}
 use Rattle.hp_model.specs.Outcomes.{own_of, values_at}
 use Rattle.hp_model.proofs.AtEach.{made}
 use Rattle.hp_sealed.specs.Left.{Sound}
-use Rattle.hp_sealed.proofs.Left.{pick, left_store}
-use Rattle.hp_sealed.proofs.Outside.{acts, left_acted}
-use Rattle.hp_sealed.proofs.Places.{Base, base_based, tseg_locked}
+use Rattle.hp_sealed.proofs.Outside.{acts}
 use Rattle.hp_safety.proofs.Marked.{at_none, at_monarch, at_other}
-use Rattle.hp_safety.proofs.Saves.{in_reach, left_other}
 use Rattle.hp_exact.proofs.Stood.{IsStood}
-use Rattle.hp_exact.proofs.Stepping.{AtMonarch, AtOther, Kinds, entry_by, ends, led_on, by_kind}
+use Rattle.hp_exact.proofs.Stepping.{AtMonarch, AtOther, Kinds, entry_by, ends, led_on, by_kind, is_other}
 use Rattle.hp_exact.proofs.Monarchs.{is_among, ejecting, next_other}
-use Rattle.hp_exact.proofs.Releasing.{slot_small}
 use Rattle.hp_exact.proofs.Rows.{access_of, at_want}
-use Rattle.hp_exact.proofs.Keeping.{none_outside, outside_in}
+use Rattle.hp_exact.proofs.InSmm.{none_outside, init_outside}
 use Rattle.hp_exact.proofs.Ejecting.{shows_reads, IsBit, SaidAt, Owns, Says, said_row}
-
--- the entries of an outcome, with one more
-pub own_more : (p : Platform) (x : Transition) (past : List Transition) → ends_outcome p x.entry ≡ false → own_of p (x ∷ past) ≡ x ∷ own_of p past
-unfolding since
-own_more p x past is = subst (λ b. (elim b as (λ _. List Transition) [ true ↦ [] | false ↦ x ∷ since (λ y. ends_outcome p y.entry) past ]) ≡ x ∷ since (λ y. ends_outcome p y.entry) past) (sym is) refl
-
-pub own_none : (p : Platform) (x : Transition) (past : List Transition) → ends_outcome p x.entry ≡ true → own_of p (x ∷ past) ≡ []
-unfolding since
-own_none p x past is = subst (λ b. (elim b as (λ _. List Transition) [ true ↦ [] | false ↦ x ∷ since (λ y. ends_outcome p y.entry) past ]) ≡ []) (sym is) refl
-
--- an entry elsewhere is none of the collection's
-pub elsewhere : (p : Platform) (e : Entry) → ((m : Label) → part_of m ≡ Monarchs → is_at p m e ≡ false) → tells e ≡ false → bounds_session e ≡ false → ends_outcome p e ≡ false
-elsewhere p e unseen silent within = rw (silent, unseen C1 refl, unseen C2 refl, unseen C3 refl, unseen C4 refl, unseen C5 refl, unseen C6 refl, within) refl
-
--- and one of the monarch's is by its label
-abbrev pub is_collects : Label → Bool
-is_collects l = list_any (λ m. index_of l == index_of m) (C1 ∷ C2 ∷ C3 ∷ C4 ∷ C5 ∷ C6 ∷ [])
-
-pub by_label : (p : Platform) (e : Entry) (l : Label) → ((m : Label) → part_of m ≡ Monarchs → is_at p m e ≡ (index_of l == index_of m)) → tells e ≡ false → bounds_session e ≡ false → ends_outcome p e ≡ (is_collects l || false)
-by_label p e l seen silent within = rw (silent, seen C1 refl, seen C2 refl, seen C3 refl, seen C4 refl, seen C5 refl, seen C6 refl, within) refl
-
-anew_row : (p : Platform) (s : State) (l : Label) (a : Access) → want_at (layout_of p) (seat p s 0) s.monarch l ≡ Some (want.Do a) → is_among l (C3 ∷ C4 ∷ C6 ∷ T ∷ []) ≡ true → (is_collects l || false) ≡ true
-anew_row p s F1 a wants e = absurd cc
-anew_row p s F2 a wants e = absurd cc
-anew_row p s F3 a wants e = absurd cc
-anew_row p s F4 a wants e = absurd cc
-anew_row p s F5 a wants e = absurd cc
-anew_row p s F6 a wants e = absurd cc
-anew_row p s R1 a wants e = absurd cc
-anew_row p s R2 a wants e = absurd cc
-anew_row p s R3 a wants e = absurd cc
-anew_row p s R4 a wants e = absurd cc
-anew_row p s R5 a wants e = absurd cc
-anew_row p s R6 a wants e = absurd cc
-anew_row p s S0 a wants e = absurd cc
-anew_row p s S1 a wants e = absurd cc
-anew_row p s S2 a wants e = absurd cc
-anew_row p s S3 a wants e = absurd cc
-anew_row p s S4 a wants e = absurd cc
-anew_row p s C1 a wants e = absurd cc
-anew_row p s C2 a wants e = absurd cc
-anew_row p s C3 a wants e = refl
-anew_row p s C4 a wants e = refl
-anew_row p s C5 a wants e = absurd cc
-anew_row p s C6 a wants e = refl
-anew_row p s NB a wants e = absurd cc
-anew_row p s N0 a wants e = absurd cc
-anew_row p s N1 a wants e = absurd cc
-anew_row p s N2 a wants e = absurd cc
-anew_row p s N3 a wants e = absurd cc
-anew_row p s N4 a wants e = absurd cc
-anew_row p s N5 a wants e = absurd cc
-anew_row p s N6 a wants e = absurd cc
-anew_row p s N7 a wants e = absurd cc
-anew_row p s N8a a wants e = absurd cc
-anew_row p s N8b a wants e = absurd cc
-anew_row p s N9 a wants e = absurd cc
-anew_row p s N10 a wants e = absurd cc
-anew_row p s N11 a wants e = absurd cc
-anew_row p s E0 a wants e = absurd cc
-anew_row p s E1 a wants e = absurd cc
-anew_row p s E2 a wants e = absurd cc
-anew_row p s E3 a wants e = absurd cc
-anew_row p s E4a a wants e = absurd cc
-anew_row p s E4b a wants e = absurd cc
-anew_row p s E4c a wants e = absurd cc
-anew_row p s E4d a wants e = absurd cc
-anew_row p s E4e a wants e = absurd cc
-anew_row p s E4f a wants e = absurd cc
-anew_row p s E4g a wants e = absurd cc
-anew_row p s E4h a wants e = absurd cc
-anew_row p s T a wants e = absurd cc
-anew_row p s E5 a wants e = absurd cc
-anew_row p s E6 a wants e = absurd cc
-anew_row p s E7 a wants e = absurd cc
-
--- at an eject's labels
-pub ejecting_goes : (l : Label) → is_among l ejecting ≡ true → (is_collects l || false) ≡ false
-ejecting_goes F1 e = absurd cc
-ejecting_goes F2 e = absurd cc
-ejecting_goes F3 e = absurd cc
-ejecting_goes F4 e = absurd cc
-ejecting_goes F5 e = absurd cc
-ejecting_goes F6 e = absurd cc
-ejecting_goes R1 e = absurd cc
-ejecting_goes R2 e = absurd cc
-ejecting_goes R3 e = absurd cc
-ejecting_goes R4 e = absurd cc
-ejecting_goes R5 e = absurd cc
-ejecting_goes R6 e = absurd cc
-ejecting_goes S0 e = absurd cc
-ejecting_goes S1 e = absurd cc
-ejecting_goes S2 e = absurd cc
-ejecting_goes S3 e = absurd cc
-ejecting_goes S4 e = absurd cc
-ejecting_goes C1 e = absurd cc
-ejecting_goes C2 e = absurd cc
-ejecting_goes C3 e = absurd cc
-ejecting_goes C4 e = absurd cc
-ejecting_goes C5 e = absurd cc
-ejecting_goes C6 e = absurd cc
-ejecting_goes NB e = absurd cc
-ejecting_goes N0 e = absurd cc
-ejecting_goes N1 e = absurd cc
-ejecting_goes N2 e = absurd cc
-ejecting_goes N3 e = absurd cc
-ejecting_goes N4 e = absurd cc
-ejecting_goes N5 e = absurd cc
-ejecting_goes N6 e = absurd cc
-ejecting_goes N7 e = absurd cc
-ejecting_goes N8a e = absurd cc
-ejecting_goes N8b e = absurd cc
-ejecting_goes N9 e = absurd cc
-ejecting_goes N10 e = absurd cc
-ejecting_goes N11 e = absurd cc
-ejecting_goes E0 e = refl
-ejecting_goes E1 e = refl
-ejecting_goes E2 e = refl
-ejecting_goes E3 e = refl
-ejecting_goes E4a e = refl
-ejecting_goes E4b e = refl
-ejecting_goes E4c e = refl
-ejecting_goes E4d e = refl
-ejecting_goes E4e e = refl
-ejecting_goes E4f e = refl
-ejecting_goes E4g e = refl
-ejecting_goes E4h e = refl
-ejecting_goes T e = absurd cc
-ejecting_goes E5 e = absurd cc
-ejecting_goes E6 e = absurd cc
-ejecting_goes E7 e = absurd cc
+use Rattle.hp_exact.proofs.OwnEntries.{own_more, own_none, elsewhere, is_collects, by_label, anew_row, ejecting_goes, values_here, values_past}
+use Rattle.hp_safety.proofs.Entering.{may_outside}
+use Rattle.hp_exact.proofs.ParkedByte.{cleared, leaves_bit, left_entering, left_outside, loads_parked, map_leaves, marks_other}
 
 looks_elsewhere : (l : Label) → is_among l (E0 ∷ E1 ∷ E3 ∷ []) ≡ true → (is_among l ejecting ≡ true) × ((index_of l == index_of E2) ≡ false)
-looks_elsewhere F1 e = absurd cc
-looks_elsewhere F2 e = absurd cc
-looks_elsewhere F3 e = absurd cc
-looks_elsewhere F4 e = absurd cc
-looks_elsewhere F5 e = absurd cc
-looks_elsewhere F6 e = absurd cc
-looks_elsewhere R1 e = absurd cc
-looks_elsewhere R2 e = absurd cc
-looks_elsewhere R3 e = absurd cc
-looks_elsewhere R4 e = absurd cc
-looks_elsewhere R5 e = absurd cc
-looks_elsewhere R6 e = absurd cc
-looks_elsewhere S0 e = absurd cc
-looks_elsewhere S1 e = absurd cc
-looks_elsewhere S2 e = absurd cc
-looks_elsewhere S3 e = absurd cc
-looks_elsewhere S4 e = absurd cc
-looks_elsewhere C1 e = absurd cc
-looks_elsewhere C2 e = absurd cc
-looks_elsewhere C3 e = absurd cc
-looks_elsewhere C4 e = absurd cc
-looks_elsewhere C5 e = absurd cc
-looks_elsewhere C6 e = absurd cc
-looks_elsewhere NB e = absurd cc
-looks_elsewhere N0 e = absurd cc
-looks_elsewhere N1 e = absurd cc
-looks_elsewhere N2 e = absurd cc
-looks_elsewhere N3 e = absurd cc
-looks_elsewhere N4 e = absurd cc
-looks_elsewhere N5 e = absurd cc
-looks_elsewhere N6 e = absurd cc
-looks_elsewhere N7 e = absurd cc
-looks_elsewhere N8a e = absurd cc
-looks_elsewhere N8b e = absurd cc
-looks_elsewhere N9 e = absurd cc
-looks_elsewhere N10 e = absurd cc
-looks_elsewhere N11 e = absurd cc
 looks_elsewhere E0 e = (refl, refl)
 looks_elsewhere E1 e = (refl, refl)
-looks_elsewhere E2 e = absurd cc
 looks_elsewhere E3 e = (refl, refl)
-looks_elsewhere E4a e = absurd cc
-looks_elsewhere E4b e = absurd cc
-looks_elsewhere E4c e = absurd cc
-looks_elsewhere E4d e = absurd cc
-looks_elsewhere E4e e = absurd cc
-looks_elsewhere E4f e = absurd cc
-looks_elsewhere E4g e = absurd cc
-looks_elsewhere E4h e = absurd cc
-looks_elsewhere T e = absurd cc
-looks_elsewhere E5 e = absurd cc
-looks_elsewhere E6 e = absurd cc
-looks_elsewhere E7 e = absurd cc
-
--- values that are read
-values_past : (p : Platform) (l : Label) (e : Entry) (es : List Entry) → is_at p l e ≡ false → values_at p l (e ∷ es) ≡ values_at p l es
-values_past p l e es is = rw is refl
-
-values_here : (p : Platform) (l : Label) (e : Entry) (es : List Entry) → is_at p l e ≡ true → values_at p l (e ∷ es) ≡ value_in e.answer ∷ values_at p l es
-values_here p l e es is = rw is refl
+looks_elsewhere _ e = absurd cc
 
 -- where nothing is read, all stays
 shows_same : (p : Platform) (own own2 : List Entry) → values_at p E2 own2 ≡ values_at p E2 own → values_at p E4g own2 ≡ values_at p E4g own → (o : Outcome) → shows_reads p own o ≡ true → shows_reads p own2 o ≡ true
@@ -260,292 +66,22 @@ shows_same p own own2 e f (Refused (StillPending cpu status)) h = subst (λ xs. 
 
 said_same : (p : Platform) (own own2 : List Entry) (d d2 : Bool) (ws ws2 : List Write) (r : Monarch) → values_at p E2 own2 ≡ values_at p E2 own → values_at p E4g own2 ≡ values_at p E4g own → (d2 ≡ false → d ≡ false)
     → (l : Label) → (is_among l ejecting ≡ true → IsBit p ws r.eject.slot → IsBit p ws2 r.eject.slot) → SaidAt p own d ws r l → SaidAt p own2 d2 ws2 r l
-said_same p own own2 d d2 ws ws2 r e f quiet F1 bit h = tt
-said_same p own own2 d d2 ws ws2 r e f quiet F2 bit h = tt
-said_same p own own2 d d2 ws ws2 r e f quiet F3 bit h = tt
-said_same p own own2 d d2 ws ws2 r e f quiet F4 bit h = tt
-said_same p own own2 d d2 ws ws2 r e f quiet F5 bit h = tt
-said_same p own own2 d d2 ws ws2 r e f quiet F6 bit h = tt
-said_same p own own2 d d2 ws ws2 r e f quiet R1 bit h = tt
-said_same p own own2 d d2 ws ws2 r e f quiet R2 bit h = tt
-said_same p own own2 d d2 ws ws2 r e f quiet R3 bit h = tt
-said_same p own own2 d d2 ws ws2 r e f quiet R4 bit h = tt
-said_same p own own2 d d2 ws ws2 r e f quiet R5 bit h = tt
-said_same p own own2 d d2 ws ws2 r e f quiet R6 bit h = tt
-said_same p own own2 d d2 ws ws2 r e f quiet S0 bit h = tt
-said_same p own own2 d d2 ws ws2 r e f quiet S1 bit h = tt
-said_same p own own2 d d2 ws ws2 r e f quiet S2 bit h = tt
-said_same p own own2 d d2 ws ws2 r e f quiet S3 bit h = tt
-said_same p own own2 d d2 ws ws2 r e f quiet S4 bit h = tt
-said_same p own own2 d d2 ws ws2 r e f quiet C1 bit h = tt
-said_same p own own2 d d2 ws ws2 r e f quiet C2 bit h = tt
-said_same p own own2 d d2 ws ws2 r e f quiet C3 bit h = tt
-said_same p own own2 d d2 ws ws2 r e f quiet C4 bit h = tt
-said_same p own own2 d d2 ws ws2 r e f quiet C5 bit h = tt
-said_same p own own2 d d2 ws ws2 r e f quiet C6 bit h = tt
-said_same p own own2 d d2 ws ws2 r e f quiet NB bit h = tt
-said_same p own own2 d d2 ws ws2 r e f quiet N0 bit h = tt
-said_same p own own2 d d2 ws ws2 r e f quiet N1 bit h = tt
-said_same p own own2 d d2 ws ws2 r e f quiet N2 bit h = tt
-said_same p own own2 d d2 ws ws2 r e f quiet N3 bit h = tt
-said_same p own own2 d d2 ws ws2 r e f quiet N4 bit h = tt
-said_same p own own2 d d2 ws ws2 r e f quiet N5 bit h = tt
-said_same p own own2 d d2 ws ws2 r e f quiet N6 bit h = tt
-said_same p own own2 d d2 ws ws2 r e f quiet N7 bit h = tt
-said_same p own own2 d d2 ws ws2 r e f quiet N8a bit h = tt
-said_same p own own2 d d2 ws ws2 r e f quiet N8b bit h = tt
-said_same p own own2 d d2 ws ws2 r e f quiet N9 bit h = tt
-said_same p own own2 d d2 ws ws2 r e f quiet N10 bit h = tt
-said_same p own own2 d d2 ws ws2 r e f quiet N11 bit h = tt
 said_same p own own2 d d2 ws ws2 r e f quiet E0 bit h = e ∙ h
 said_same p own own2 d d2 ws ws2 r e f quiet E1 bit h = (e ∙ h.0, bit refl h.1)
 said_same p own own2 d d2 ws ws2 r e f quiet E2 bit h = (record { looks = h.0.looks; zeros = e ∙ h.0.zeros; all = h.0.all; some = h.0.some }, bit refl h.1)
 said_same p own own2 d d2 ws ws2 r e f quiet E3 bit h = e ∙ h
-said_same p own own2 d d2 ws ws2 r e f quiet E4a bit h = tt
-said_same p own own2 d d2 ws ws2 r e f quiet E4b bit h = tt
-said_same p own own2 d d2 ws ws2 r e f quiet E4c bit h = tt
-said_same p own own2 d d2 ws ws2 r e f quiet E4d bit h = tt
-said_same p own own2 d d2 ws ws2 r e f quiet E4e bit h = tt
-said_same p own own2 d d2 ws ws2 r e f quiet E4f bit h = tt
-said_same p own own2 d d2 ws ws2 r e f quiet E4g bit h = tt
 said_same p own own2 d d2 ws ws2 r e f quiet E4h bit h = subst (λ xs. (is_in r.eject.status xs && (bit_and r.eject.status 0x10 == 0x10)) ≡ true) (sym f) h
 said_same p own own2 d d2 ws ws2 r e f quiet T bit h = (shows_same p own own2 e f r.outcome h.0, λ calm. h.1 (quiet calm))
-said_same p own own2 d d2 ws ws2 r e f quiet E5 bit h = tt
-said_same p own own2 d d2 ws ws2 r e f quiet E6 bit h = tt
-said_same p own own2 d d2 ws ws2 r e f quiet E7 bit h = tt
+said_same p own own2 d d2 ws ws2 r e f quiet _ bit h = tt
 
 pub said_fresh : (p : Platform) (own : List Entry) (d : Bool) (ws : List Write) (r : Monarch) (l : Label) → is_after_broadcast l ≡ false → SaidAt p own d ws r l
-said_fresh p own d ws r F1 e = tt
-said_fresh p own d ws r F2 e = tt
-said_fresh p own d ws r F3 e = tt
-said_fresh p own d ws r F4 e = tt
-said_fresh p own d ws r F5 e = tt
-said_fresh p own d ws r F6 e = tt
-said_fresh p own d ws r R1 e = tt
-said_fresh p own d ws r R2 e = tt
-said_fresh p own d ws r R3 e = tt
-said_fresh p own d ws r R4 e = tt
-said_fresh p own d ws r R5 e = tt
-said_fresh p own d ws r R6 e = tt
-said_fresh p own d ws r S0 e = tt
-said_fresh p own d ws r S1 e = tt
-said_fresh p own d ws r S2 e = tt
-said_fresh p own d ws r S3 e = tt
-said_fresh p own d ws r S4 e = tt
-said_fresh p own d ws r C1 e = tt
-said_fresh p own d ws r C2 e = tt
-said_fresh p own d ws r C3 e = tt
-said_fresh p own d ws r C4 e = tt
-said_fresh p own d ws r C5 e = tt
-said_fresh p own d ws r C6 e = tt
-said_fresh p own d ws r NB e = tt
-said_fresh p own d ws r N0 e = tt
-said_fresh p own d ws r N1 e = tt
-said_fresh p own d ws r N2 e = tt
-said_fresh p own d ws r N3 e = tt
-said_fresh p own d ws r N4 e = tt
-said_fresh p own d ws r N5 e = tt
-said_fresh p own d ws r N6 e = tt
-said_fresh p own d ws r N7 e = tt
-said_fresh p own d ws r N8a e = tt
-said_fresh p own d ws r N8b e = tt
-said_fresh p own d ws r N9 e = tt
-said_fresh p own d ws r N10 e = tt
-said_fresh p own d ws r N11 e = tt
 said_fresh p own d ws r E0 e = absurd cc
 said_fresh p own d ws r E1 e = absurd cc
 said_fresh p own d ws r E2 e = absurd cc
 said_fresh p own d ws r E3 e = absurd cc
-said_fresh p own d ws r E4a e = tt
-said_fresh p own d ws r E4b e = tt
-said_fresh p own d ws r E4c e = tt
-said_fresh p own d ws r E4d e = tt
-said_fresh p own d ws r E4e e = tt
-said_fresh p own d ws r E4f e = tt
-said_fresh p own d ws r E4g e = tt
 said_fresh p own d ws r E4h e = absurd cc
 said_fresh p own d ws r T e = absurd cc
-said_fresh p own d ws r E5 e = tt
-said_fresh p own d ws r E6 e = tt
-said_fresh p own d ws r E7 e = tt
-
--- a byte is left as it was, or becomes 0
-abbrev pub Leaves : ℕ → List Write → List Write → Type 0
-Leaves x ws vs = (byte_at vs x ≡ byte_at ws x) ⊎ (byte_at vs x ≡ 0)
-
-zero_at : (i : ℕ) → slice_index_or (bytes_of 1 0) i 0 ≡ 0
-unfolding bytes_of
-zero_at zero = refl
-zero_at (suc i) = refl
-
-one_at : (i : ℕ) → slice_index_or (bytes_of 1 1) i 0 ≤ 1
-unfolding bytes_of
-one_at zero = omega arith
-one_at (suc i) = omega arith
-
-zero_written : (a x : ℕ) (ws : List Write) → Leaves x ws (write_of a 1 0 ∷ ws)
-zero_written a x ws = by_cover (covers (write_of a 1 0) x) refl
-  where
-    by_cover : (b : Bool) → covers (write_of a 1 0) x ≡ b → Leaves x ws (write_of a 1 0 ∷ ws)
-    by_cover true is = inr (rw is (zero_at (x - a)))
-    by_cover false is = inl (rw is refl)
-
-zero_stored : (l : Locks) (a x : ℕ) (ws : List Write) → Leaves x ws (stored l true a 1 0 ws)
-zero_stored l a x ws = pick (Leaves x ws) (is_hole l true a 1) ws (write_of a 1 0 ∷ ws) (inl refl) (zero_written a x ws)
-
-length-bytes : length (bytes_of 1 0) ≡ 1
-unfolding bytes_of
-length-bytes = refl
-
-zero_here : (l : Locks) (a : ℕ) (ws : List Write) → is_hole l true a 1 ≡ false → byte_at (stored l true a 1 0 ws) a ≡ 0
-zero_here l a ws reach =
-    let n = length-bytes in
-    let here : covers (write_of a 1 0) a ≡ true = rw n (grind (arith, nat_tests)) in
-    rw (reach, here) (zero_at (a - a))
-
--- a store of 1 in one byte, wherever it is
-one_stored : (l : Locks) (a x : ℕ) (ws : List Write) → (byte_at (stored l true a 1 1 ws) x ≡ byte_at ws x) ⊎ (byte_at (stored l true a 1 1 ws) x ≤ 1)
-one_stored l a x ws = pick (λ vs. (byte_at vs x ≡ byte_at ws x) ⊎ (byte_at vs x ≤ 1)) (is_hole l true a 1) ws (write_of a 1 1 ∷ ws) (inl refl) (by_cover (covers (write_of a 1 1) x) refl)
-  where
-    by_cover : (b : Bool) → covers (write_of a 1 1) x ≡ b → (byte_at (write_of a 1 1 ∷ ws) x ≡ byte_at ws x) ⊎ (byte_at (write_of a 1 1 ∷ ws) x ≤ 1)
-    by_cover true is = inr (rw is (one_at (x - a)))
-    by_cover false is = inl (rw is refl)
-
--- what another handler's row does to the parked byte of a slot
-abbrev pub Marks : ℕ → ℕ → Label → ℕ → List Write → List Write → Type 0
-Marks x slot l at_slot ws vs = Leaves x ws vs ⊎ ((l ≡ R6) × (at_slot ≡ slot) × (byte_at vs x ≤ 1))
-
-abbrev pub MarksBy : Platform → ℕ → State → ℕ → ℕ → Label → ℕ → Option Want → Type 0
-MarksBy p k s x slot l at_slot None = Unit {0}
-MarksBy p k s x slot l at_slot (Some (want.Do a)) = Marks x slot l at_slot s.writes (access_effect p k true a s).writes
-MarksBy p k s x slot l at_slot (Some (want.Tell o)) = Unit {0}
-MarksBy p k s x slot l at_slot (Some want.Resume) = Unit {0}
-
-missed : (l : Locks) (a n v x : ℕ) (ws : List Write) → (nat_le a x && nat_lt x (a + n)) ≡ false → byte_at (stored l true a n v ws) x ≡ byte_at ws x
-missed l a n v x ws e = (left_store l true a n v ws x (λ _. e)).byte
-
-low_misses : (base a n slot : ℕ) → 0x800000 ≤ base → a + n ≤ 0x800000 → (nat_le a (base + 0x3000 + slot) && nat_lt (base + 0x3000 + slot) (a + n)) ≡ false
-low_misses base a n slot above low = grind (arith, nat_tests)
-
-arrived_misses : (base j slot : ℕ) → j < 0x1000 → (nat_le (base + j) (base + 0x3000 + slot) && nat_lt (base + 0x3000 + slot) (base + j + 1)) ≡ false
-arrived_misses base j slot small = grind (arith, nat_tests)
-
-map_misses : (base j slot : ℕ) → j < 0x1000 → (nat_le (base + 0x2000 + j) (base + 0x3000 + slot) && nat_lt (base + 0x3000 + slot) (base + 0x2000 + j + 1)) ≡ false
-map_misses base j slot small = grind (arith, nat_tests)
-
-other_misses : (base j slot : ℕ) → (j == slot) ≡ false → (nat_le (base + 0x3000 + j) (base + 0x3000 + slot) && nat_lt (base + 0x3000 + slot) (base + 0x3000 + j + 1)) ≡ false
-other_misses base j slot other = grind (arith, nat_tests)
-
-same_place : (i j : ℕ) → (i == j) ≡ true → i ≡ j
-same_place i j e = grind (arith, nat_tests)
-
-row_marks : (p : Platform) (k : ℕ) (s : State) (q : Seat) (r : Monarch) (slot : ℕ) (l : Label) → Sound p → (part_of l ≡ Relocated → q.slot < 0x1000) → part_of l ≢ Monarchs → MarksBy p k s (parked_byte (layout_of p) slot) slot l q.slot (want_at (layout_of p) q r l)
-row_marks p k s q r slot F1 fit tight other = pick (λ vs. Marks (parked_byte (layout_of p) slot) slot F1 q.slot s.writes vs) (loaded s.locks true (byte_at s.writes) gate 8 == q.apic) _ _ (inl (inl (missed s.locks gate 8 closed (parked_byte (layout_of p) slot) s.writes (low_misses (tseg p) gate 8 slot fit.above (omega arith))))) (inl (inl refl))
-row_marks p k s q r slot F2 fit tight other = inl (inl refl)
-row_marks p k s q r slot F3 fit tight other = inl (inl (missed s.locks default_smbase_field 4 q.base (parked_byte (layout_of p) slot) s.writes (low_misses (tseg p) default_smbase_field 4 slot fit.above (omega arith))))
-row_marks p k s q r slot F4 fit tight other = inl (inl (missed s.locks flag 1 1 (parked_byte (layout_of p) slot) s.writes (low_misses (tseg p) flag 1 slot fit.above (omega arith))))
-row_marks p k s q r slot F5 fit tight other = inl (inl refl)
-row_marks p k s q r slot F6 fit tight other = tt
-row_marks p k s q r slot R1 fit tight other = inl (inl (missed s.locks (arrived_byte (layout_of p) q.slot) 1 1 (parked_byte (layout_of p) slot) s.writes (arrived_misses (tseg p) q.slot slot (tight refl))))
-row_marks p k s q r slot R2 fit tight other = inl (inl refl)
-row_marks p k s q r slot R3 fit tight other = inl (inl refl)
-row_marks p k s q r slot R4 fit tight other = inl (zero_stored s.locks (arrived_byte (layout_of p) q.slot) (parked_byte (layout_of p) slot) s.writes)
-row_marks p k s q r slot R5 fit tight other = tt
-row_marks p k s q r slot R6 fit tight other = by_slot (q.slot == slot) refl
-  where
-    by_slot : (b : Bool) → (q.slot == slot) ≡ b → Marks (parked_byte (layout_of p) slot) slot R6 q.slot s.writes (stored s.locks true (parked_byte (layout_of p) q.slot) 1 1 s.writes)
-    by_slot true is = elim (one_stored s.locks (parked_byte (layout_of p) q.slot) (parked_byte (layout_of p) slot) s.writes) [ inl e ↦ inl (inl e) | inr e ↦ inr (refl, same_place q.slot slot is, e) ]
-    by_slot false is = inl (inl (missed s.locks (parked_byte (layout_of p) q.slot) 1 1 (parked_byte (layout_of p) slot) s.writes (other_misses (tseg p) q.slot slot is)))
-row_marks p k s q r slot S0 fit tight other = absurd (other refl)
-row_marks p k s q r slot S1 fit tight other = absurd (other refl)
-row_marks p k s q r slot S2 fit tight other = absurd (other refl)
-row_marks p k s q r slot S3 fit tight other = absurd (other refl)
-row_marks p k s q r slot S4 fit tight other = absurd (other refl)
-row_marks p k s q r slot C1 fit tight other = absurd (other refl)
-row_marks p k s q r slot C2 fit tight other = absurd (other refl)
-row_marks p k s q r slot C3 fit tight other = absurd (other refl)
-row_marks p k s q r slot C4 fit tight other = absurd (other refl)
-row_marks p k s q r slot C5 fit tight other = absurd (other refl)
-row_marks p k s q r slot C6 fit tight other = absurd (other refl)
-row_marks p k s q r slot NB fit tight other = absurd (other refl)
-row_marks p k s q r slot N0 fit tight other = absurd (other refl)
-row_marks p k s q r slot N1 fit tight other = absurd (other refl)
-row_marks p k s q r slot N2 fit tight other = absurd (other refl)
-row_marks p k s q r slot N3 fit tight other = absurd (other refl)
-row_marks p k s q r slot N4 fit tight other = absurd (other refl)
-row_marks p k s q r slot N5 fit tight other = absurd (other refl)
-row_marks p k s q r slot N6 fit tight other = absurd (other refl)
-row_marks p k s q r slot N7 fit tight other = absurd (other refl)
-row_marks p k s q r slot N8a fit tight other = absurd (other refl)
-row_marks p k s q r slot N8b fit tight other = absurd (other refl)
-row_marks p k s q r slot N9 fit tight other = absurd (other refl)
-row_marks p k s q r slot N10 fit tight other = absurd (other refl)
-row_marks p k s q r slot N11 fit tight other = absurd (other refl)
-row_marks p k s q r slot E0 fit tight other = absurd (other refl)
-row_marks p k s q r slot E1 fit tight other = absurd (other refl)
-row_marks p k s q r slot E2 fit tight other = absurd (other refl)
-row_marks p k s q r slot E3 fit tight other = absurd (other refl)
-row_marks p k s q r slot E4a fit tight other = absurd (other refl)
-row_marks p k s q r slot E4b fit tight other = absurd (other refl)
-row_marks p k s q r slot E4c fit tight other = absurd (other refl)
-row_marks p k s q r slot E4d fit tight other = absurd (other refl)
-row_marks p k s q r slot E4e fit tight other = absurd (other refl)
-row_marks p k s q r slot E4f fit tight other = absurd (other refl)
-row_marks p k s q r slot E4g fit tight other = absurd (other refl)
-row_marks p k s q r slot E4h fit tight other = absurd (other refl)
-row_marks p k s q r slot T fit tight other = absurd (other refl)
-row_marks p k s q r slot E5 fit tight other = absurd (other refl)
-row_marks p k s q r slot E6 fit tight other = absurd (other refl)
-row_marks p k s q r slot E7 fit tight other = absurd (other refl)
-
-module _ (p : Platform) (s : State) (slot : ℕ) (fit : Sound p) (standing : IsStood p s) (small : slot < 0x1000) where
-  abbrev x : ℕ
-  x = parked_byte (layout_of p) slot
-
-  pub marks_other : (k : ℕ) (l : Label) (a : Access) → AtOther p s k l → want_at (layout_of p) (seat p s k) s.monarch l ≡ Some (want.Do a) → Marks x slot l (seat p s k).slot s.writes (access_effect p k true a s).writes
-  marks_other k l a here wants =
-      subst (MarksBy p k s x slot l (seat p s k).slot) wants
-      (row_marks p k s (seat p s k) s.monarch slot l fit (λ f. slot_small p k (at s k).smbase fit (subst (λ q. runs_at (layout_of p) q k (at s k).smbase ≡ true) f here.runs)) here.part)
-
-  pub left_outside : (k : ℕ) (a : Access) → byte_at (access_effect p k false a s).writes x ≡ byte_at s.writes x
-  left_outside k a = (left_acted p k a s x (tseg_locked p s.locks x fit standing.locks (inside (tseg p) p.low_memory (0x100000 * p.tseg_mib) slot (0x10000 * count_of p) fit.top fit.room small))).byte
-    where
-      inside : (base top size slot n : ℕ) → top ≡ base + size → n + 0x20000 ≤ size → slot < 0x1000 → (nat_le base (base + 0x3000 + slot) && nat_lt (base + 0x3000 + slot) top) ≡ true
-      inside base top size slot n is room small = grind (arith, nat_tests)
-
-  pub left_entering : (k : ℕ) → (at s k).present ≡ true → byte_at (enter_smm k s).writes x ≡ byte_at s.writes x
-  left_entering k present =
-      let whole = fit.whole in
-      (left_other s.locks (at s k) s.writes x base.unit fit.unit base.whole (apart (at s k).smbase (tseg p) base.unit fit.unit base.whole fit.whole fit.above base.area) (omega (arith, whole)) (omega (arith, whole, small))).byte
-    where
-      base : Base p (at s k).smbase
-      base = base_based p k (at s k).smbase fit (standing.based k present)
-
-      apart : (b t m n : ℕ) → b ≡ 0x10000 * m → t ≡ 0x10000 * n → 0x800000 ≤ t → (b ≡ 0x30000) ⊎ (t + 0x20000 ≤ b) → m ≡ n → ⊥
-      apart b t m n e f g (inl i) same = omega (arith, e, f, g, i, same)
-      apart b t m n e f g (inr i) same = omega (arith, e, f, g, i, same)
-
-  pub in_ram : is_hole s.locks true x 1 ≡ false
-  in_ram = in_reach 1 x s.locks (let same = standing.locks.low_memory in let top = fit.top in let more = fit.room in omega (arith, same, top, more, small))
-
-  -- what a load of it answers
-  pub loads_parked : value_in (answer_to true (Load x 1) s) ≡ byte_at s.writes x
-  unfolding value_from
-  loads_parked = let reach = in_ram in rw reach (omega arith)
-
-  -- E0 and E1
-  pub cleared : byte_at (stored s.locks true x 1 0 s.writes) x ≡ 0
-  cleared = zero_here s.locks x s.writes in_ram
-
-  pub map_leaves : byte_at (stored s.locks true (map_byte (layout_of p) slot) 1 1 s.writes) x ≡ byte_at s.writes x
-  map_leaves = missed s.locks (map_byte (layout_of p) slot) 1 1 x s.writes (map_misses (tseg p) slot slot small)
-
-leaves_bit : (n m : ℕ) → (n ≡ m) ⊎ (n ≡ 0) → m ≤ 1 → n ≤ 1
-leaves_bit n m (inl e) h = omega (arith, e, h)
-leaves_bit n m (inr e) h = omega (arith, e)
-
-is_0 : (k : ℕ) → k ≢ 0 → (k == 0) ≡ false
-is_0 k n = grind (arith, nat_tests)
+said_fresh p own d ws r _ e = tt
 
 module _ (p : Platform) (fit : Sound p) (past : List Transition) (s : State) (standing : IsStood p s) (polled : 1 ≤ p.polls)
     (small : is_among s.monarch.label ejecting ≡ true → s.monarch.eject.slot < 0x1000)
@@ -565,9 +101,6 @@ module _ (p : Platform) (fit : Sound p) (past : List Transition) (s : State) (st
       subst (λ r. SaidAt p (entries_of (own_of p (made s e t ∷ past))) t.disturbed t.writes r r.label) (sym same)
       (said_same p (entries_of (own_of p past)) (entries_of (own_of p (made s e t ∷ past))) s.disturbed t.disturbed s.writes t.writes s.monarch
       (ap (values_at p E2) own ∙ values_past p E2 e (entries_of (own_of p past)) (unseen E2 refl)) (ap (values_at p E4g) own ∙ values_past p E4g e (entries_of (own_of p past)) (unseen E4g refl)) quiet s.monarch.label bit said)
-
-  out_of : (k : ℕ) → is_outside (at s k).mode ≡ true → smm_address (at s k) ≡ None
-  out_of k e = none_outside (at s k) (outside_in (at s k).mode e)
 
   inserts : (k : ℕ) (g : Stage) → k < count_of p → (at s k).present ≡ false → Follows (entry_by s (Insert k)) (ends (insert k s) g s.disturbed)
   inserts k g less gone owns = same_said (entry_by s (Insert k)) (ends (insert k s) g s.disturbed) (λ m part. at_none p m (entry_by s (Insert k)) refl) refl refl refl (λ e. e) (λ e b. b)
@@ -606,11 +139,11 @@ module _ (p : Platform) (fit : Sound p) (past : List Transition) (s : State) (st
   inits : (k : ℕ) (g : Stage) → may_take_init (at s k) ≡ true → Follows (entry_by s (TakeInit k)) (ends (set_cpu k (take_init (at s k)) s) g s.disturbed)
   inits k g may owns =
       same_said (entry_by s (TakeInit k)) (ends (set_cpu k (take_init (at s k)) s) g s.disturbed)
-      (λ m part. at_none p m (entry_by s (TakeInit k)) (out_of k (and_parts (at s k).init (is_outside (at s k).mode) (and_parts (not (at s k).smi) ((at s k).init && is_outside (at s k).mode) (and_parts (at s k).present (not (at s k).smi && ((at s k).init && is_outside (at s k).mode)) may).1).1).1)) refl refl refl (λ e. e) (λ e b. b)
+      (λ m part. at_none p m (entry_by s (TakeInit k)) (init_outside (at s k) may)) refl refl refl (λ e. e) (λ e b. b)
 
   returns : (k : ℕ) (l : Label) (g : Stage) → AtOther p s k l → (l ≡ F6) ⊎ (l ≡ R5) → Follows (entry_by s (Resume k)) (ends (leave_smm k s) g s.disturbed)
   returns k l g here where_is owns =
-      same_said (entry_by s (Resume k)) (ends (leave_smm k s) g s.disturbed) (λ m part. at_other p l m (entry_by s (Resume k)) k (at s k).smbase fit here.runs here.part here.place part) refl (is_0 k here.other) refl (λ e. e) (λ e b. b)
+      same_said (entry_by s (Resume k)) (ends (leave_smm k s) g s.disturbed) (λ m part. at_other p l m (entry_by s (Resume k)) k (at s k).smbase fit here.runs here.part here.place part) refl (is_other k here.other) refl (λ e. e) (λ e b. b)
 
   rests : (g : Stage) → AtMonarch p s E7 → Follows (entry_by s (Resume 0)) (ends (leave_smm 0 s) g s.disturbed)
   rests g here owns = said_fresh p (entries_of (own_of p (made s (entry_by s (Resume 0)) (ends (leave_smm 0 s) g s.disturbed) ∷ past))) s.disturbed s.writes s.monarch s.monarch.label (let label = here.label in rw label refl)
@@ -628,7 +161,7 @@ module _ (p : Platform) (fit : Sound p) (past : List Transition) (s : State) (st
       there = and_parts (at s k).present ((at s k).smi && is_outside (at s k).mode) may
 
       out : smm_address (at s k) ≡ None
-      out = out_of k (and_parts (at s k).smi (is_outside (at s k).mode) there.1).1
+      out = may_outside (at s k) may
 
       begins : Follows e (to true)
       begins owns = tt
@@ -690,59 +223,9 @@ module _ (p : Platform) (fit : Sound p) (past : List Transition) (s : State) (st
           was f is = subst (λ m. (not (same_label m S2) && s.disturbed) ≡ false) is f
 
           by_two : (m : Label) → l ≡ m → is_among m (E1 ∷ E2 ∷ []) ≡ true → byte_at (access_effect p 0 true a s).writes (parked_byte (layout_of p) s.monarch.eject.slot) ≡ byte_at s.writes (parked_byte (layout_of p) s.monarch.eject.slot)
-          by_two F1 is f = absurd cc
-          by_two F2 is f = absurd cc
-          by_two F3 is f = absurd cc
-          by_two F4 is f = absurd cc
-          by_two F5 is f = absurd cc
-          by_two F6 is f = absurd cc
-          by_two R1 is f = absurd cc
-          by_two R2 is f = absurd cc
-          by_two R3 is f = absurd cc
-          by_two R4 is f = absurd cc
-          by_two R5 is f = absurd cc
-          by_two R6 is f = absurd cc
-          by_two S0 is f = absurd cc
-          by_two S1 is f = absurd cc
-          by_two S2 is f = absurd cc
-          by_two S3 is f = absurd cc
-          by_two S4 is f = absurd cc
-          by_two C1 is f = absurd cc
-          by_two C2 is f = absurd cc
-          by_two C3 is f = absurd cc
-          by_two C4 is f = absurd cc
-          by_two C5 is f = absurd cc
-          by_two C6 is f = absurd cc
-          by_two NB is f = absurd cc
-          by_two N0 is f = absurd cc
-          by_two N1 is f = absurd cc
-          by_two N2 is f = absurd cc
-          by_two N3 is f = absurd cc
-          by_two N4 is f = absurd cc
-          by_two N5 is f = absurd cc
-          by_two N6 is f = absurd cc
-          by_two N7 is f = absurd cc
-          by_two N8a is f = absurd cc
-          by_two N8b is f = absurd cc
-          by_two N9 is f = absurd cc
-          by_two N10 is f = absurd cc
-          by_two N11 is f = absurd cc
-          by_two E0 is f = absurd cc
           by_two E1 is f = at_want p s (λ a. byte_at (access_effect p 0 true a s).writes (parked_byte (layout_of p) s.monarch.eject.slot) ≡ byte_at s.writes (parked_byte (layout_of p) s.monarch.eject.slot)) l E1 a is wants (map_leaves p s s.monarch.eject.slot fit standing (tight (rw is refl)))
           by_two E2 is f = at_want p s (λ a. byte_at (access_effect p 0 true a s).writes (parked_byte (layout_of p) s.monarch.eject.slot) ≡ byte_at s.writes (parked_byte (layout_of p) s.monarch.eject.slot)) l E2 a is wants refl
-          by_two E3 is f = absurd cc
-          by_two E4a is f = absurd cc
-          by_two E4b is f = absurd cc
-          by_two E4c is f = absurd cc
-          by_two E4d is f = absurd cc
-          by_two E4e is f = absurd cc
-          by_two E4f is f = absurd cc
-          by_two E4g is f = absurd cc
-          by_two E4h is f = absurd cc
-          by_two T is f = absurd cc
-          by_two E5 is f = absurd cc
-          by_two E6 is f = absurd cc
-          by_two E7 is f = absurd cc
+          by_two _ is f = absurd cc
 
   -- an outcome is told
   tells_it : (o : Outcome) (g : Stage) → AtMonarch p s T → same_outcome o s.monarch.outcome ≡ true → Follows (entry_by s (Tell o)) (ends (led_on p s 0 T 0 s) g s.disturbed)

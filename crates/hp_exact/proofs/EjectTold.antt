@@ -1,16 +1,15 @@
 -- Every state of a run: what its entries tell of an eject so far; and so refusals of ejects show.
-use Rattle.std.proofs.Common.{ℕ, ◌≡◌, ◌<◌, ◌≤◌, Bool, true, false, cond, not, nat_le, List, [], ◌∷◌, Option, Some, None, refl, sym, ap, subst, ◌∙◌, arith}
-use Rattle.std.proofs.lemmas.Bool.{and_parts, eqb-true, ltb-true}
-use Rattle.std.proofs.lemmas.Bool.Decides.{nat_tests}
+use Rattle.std.proofs.Common.{ℕ, ◌≡◌, ◌<◌, ◌≤◌, Bool, true, false, List, [], ◌∷◌, Option, Some, None, refl, sym, ap, subst, ◌∙◌, arith}
+use Rattle.std.proofs.lemmas.Bool.{eqb-true, ltb-true}
 use Rattle.hp_model.specs.declared.platforms.Platform.{Platform}
 use Rattle.hp_model.specs.declared.labels.Label.{Label}
-use Rattle.hp_model.specs.declared.labels.Label.TheVariants.{F1, F2, F3, F4, F5, F6, R1, R2, R3, R4, R5, R6, S0, S1, S2, S3, S4, C1, C2, C3, C4, C5, C6, NB, N0, N1, N2, N3, N4, N5, N6, N7, N8a, N8b, N9, N10, N11, E0, E1, E2, E3, E4a, E4b, E4c, E4d, E4e, E4f, E4g, E4h, T, E5, E6, E7}
+use Rattle.hp_model.specs.declared.labels.Label.TheVariants.{E0, E1, E2, E3, E4a, E4b, E4c, E4d, E4e, E4f, E4g, E4h, T}
 use Rattle.hp_model.specs.declared.outcomes.Outcome.{Outcome}
 use Rattle.hp_model.specs.declared.outcomes.Outcome.TheVariants.{Refused}
 use Rattle.hp_model.specs.declared.outcomes.Refusal.{Refusal}
 use Rattle.hp_model.specs.declared.outcomes.Refusal.TheVariants.{Disabled, Both, AlreadyKnown, GateHeld, NotAtGate, NotCheckedIn, NoUnplug, NotKnown, NotArrived, NotParked, Foreign, StillPending}
 use Rattle.hp_model.specs.declared.entries.Entry.{Entry}
-use Rattle.hp_model.specs.Platform.{IsFit, count_of, apic_of, polls_fit, counts_fit, ids_fit, boot_fits, memory_fits, tseg_fits, tiles_fit, features_fit}
+use Rattle.hp_model.specs.Platform.{IsFit, count_of, apic_of}
 use Rattle.hp_model.specs.Cpu.{smm_address}
 use Rattle.hp_model.specs.Boot.{is_handed}
 use Rattle.hp_model.specs.Labels.{Part, First, Relocated, Monarch as Monarchs, part_of, mark_of}
@@ -29,55 +28,16 @@ use Rattle.hp_safety.proofs.Invariant.{Stands, AtCell, facts_of}
 use Rattle.hp_safety.proofs.Runs.{IsHanded}
 use Rattle.hp_exact.proofs.Stood.{stood}
 use Rattle.hp_exact.proofs.Monarchs.{is_among, ejecting}
-use Rattle.hp_exact.proofs.Naming.{Ids}
+use Rattle.hp_exact.proofs.Naming.{Ids, polled}
 use Rattle.hp_exact.proofs.Invariant.{is_reporting}
-use Rattle.hp_exact.proofs.Losing.{Losses}
-use Rattle.hp_exact.proofs.Lost.{losses_go}
-use Rattle.hp_exact.proofs.Reporting.{no_more}
-use Rattle.hp_exact.proofs.Beginning.{Whole, whole_begins, whole_goes, fresh_at_hand_over}
+use Rattle.hp_exact.proofs.Wholes.{fresh_at_hand_over}
 use Rattle.hp_exact.proofs.Quiet.{handed_of}
 use Rattle.hp_exact.proofs.Ejecting.{shows_reads, may_tell, SaidAt, Owns}
 use Rattle.hp_exact.proofs.EjectReads.{said_fresh, said_goes}
 use Rattle.hp_exact.specs.Ejects.{refusal_shows}
+use Rattle.hp_exact.proofs.LostLaw.{Lossless, lossless_begins, lossless_goes}
 
 ejecting_needs : (l : Label) → is_among l ejecting ≡ true → (part_of l ≡ Monarchs) × (need_of l ≡ Ejecting)
-ejecting_needs F1 e = absurd cc
-ejecting_needs F2 e = absurd cc
-ejecting_needs F3 e = absurd cc
-ejecting_needs F4 e = absurd cc
-ejecting_needs F5 e = absurd cc
-ejecting_needs F6 e = absurd cc
-ejecting_needs R1 e = absurd cc
-ejecting_needs R2 e = absurd cc
-ejecting_needs R3 e = absurd cc
-ejecting_needs R4 e = absurd cc
-ejecting_needs R5 e = absurd cc
-ejecting_needs R6 e = absurd cc
-ejecting_needs S0 e = absurd cc
-ejecting_needs S1 e = absurd cc
-ejecting_needs S2 e = absurd cc
-ejecting_needs S3 e = absurd cc
-ejecting_needs S4 e = absurd cc
-ejecting_needs C1 e = absurd cc
-ejecting_needs C2 e = absurd cc
-ejecting_needs C3 e = absurd cc
-ejecting_needs C4 e = absurd cc
-ejecting_needs C5 e = absurd cc
-ejecting_needs C6 e = absurd cc
-ejecting_needs NB e = absurd cc
-ejecting_needs N0 e = absurd cc
-ejecting_needs N1 e = absurd cc
-ejecting_needs N2 e = absurd cc
-ejecting_needs N3 e = absurd cc
-ejecting_needs N4 e = absurd cc
-ejecting_needs N5 e = absurd cc
-ejecting_needs N6 e = absurd cc
-ejecting_needs N7 e = absurd cc
-ejecting_needs N8a e = absurd cc
-ejecting_needs N8b e = absurd cc
-ejecting_needs N9 e = absurd cc
-ejecting_needs N10 e = absurd cc
-ejecting_needs N11 e = absurd cc
 ejecting_needs E0 e = (refl, refl)
 ejecting_needs E1 e = (refl, refl)
 ejecting_needs E2 e = (refl, refl)
@@ -90,84 +50,11 @@ ejecting_needs E4e e = (refl, refl)
 ejecting_needs E4f e = (refl, refl)
 ejecting_needs E4g e = (refl, refl)
 ejecting_needs E4h e = (refl, refl)
-ejecting_needs T e = absurd cc
-ejecting_needs E5 e = absurd cc
-ejecting_needs E6 e = absurd cc
-ejecting_needs E7 e = absurd cc
+ejecting_needs _ e = absurd cc
 
 telling_reports : (l : Label) → is_among l (T ∷ []) ≡ true → (is_after_broadcast l ≡ true) × (is_reporting l ≡ true)
-telling_reports F1 e = absurd cc
-telling_reports F2 e = absurd cc
-telling_reports F3 e = absurd cc
-telling_reports F4 e = absurd cc
-telling_reports F5 e = absurd cc
-telling_reports F6 e = absurd cc
-telling_reports R1 e = absurd cc
-telling_reports R2 e = absurd cc
-telling_reports R3 e = absurd cc
-telling_reports R4 e = absurd cc
-telling_reports R5 e = absurd cc
-telling_reports R6 e = absurd cc
-telling_reports S0 e = absurd cc
-telling_reports S1 e = absurd cc
-telling_reports S2 e = absurd cc
-telling_reports S3 e = absurd cc
-telling_reports S4 e = absurd cc
-telling_reports C1 e = absurd cc
-telling_reports C2 e = absurd cc
-telling_reports C3 e = absurd cc
-telling_reports C4 e = absurd cc
-telling_reports C5 e = absurd cc
-telling_reports C6 e = absurd cc
-telling_reports NB e = absurd cc
-telling_reports N0 e = absurd cc
-telling_reports N1 e = absurd cc
-telling_reports N2 e = absurd cc
-telling_reports N3 e = absurd cc
-telling_reports N4 e = absurd cc
-telling_reports N5 e = absurd cc
-telling_reports N6 e = absurd cc
-telling_reports N7 e = absurd cc
-telling_reports N8a e = absurd cc
-telling_reports N8b e = absurd cc
-telling_reports N9 e = absurd cc
-telling_reports N10 e = absurd cc
-telling_reports N11 e = absurd cc
-telling_reports E0 e = absurd cc
-telling_reports E1 e = absurd cc
-telling_reports E2 e = absurd cc
-telling_reports E3 e = absurd cc
-telling_reports E4a e = absurd cc
-telling_reports E4b e = absurd cc
-telling_reports E4c e = absurd cc
-telling_reports E4d e = absurd cc
-telling_reports E4e e = absurd cc
-telling_reports E4f e = absurd cc
-telling_reports E4g e = absurd cc
-telling_reports E4h e = absurd cc
 telling_reports T e = (refl, refl)
-telling_reports E5 e = absurd cc
-telling_reports E6 e = absurd cc
-telling_reports E7 e = absurd cc
-
-passed : (b : Bool) (n : ℕ) (rest : Option ℕ) → cond (not b) (Some n) rest ≡ None → (b ≡ true) × (rest ≡ None)
-passed true n rest e = (refl, e)
-passed false n rest e = absurd cc
-
-pub polls_some : (p : Platform) → IsFit p → 1 ≤ p.polls
-polls_some p e =
-    let a = passed (counts_fit p) 2 _ e in
-    let b = passed (ids_fit p) 3 _ a.1 in
-    let c = passed (boot_fits p) 4 _ b.1 in
-    let d = passed (memory_fits p) 5 _ c.1 in
-    let f = passed (tseg_fits p) 6 _ d.1 in
-    let g = passed (tiles_fit p) 7 _ f.1 in
-    let h = passed (features_fit p) 8 _ g.1 in
-    let i = passed (polls_fit p) 9 _ h.1 in
-    one p.polls (and_parts (nat_le 1 p.polls) (nat_le p.polls 4096) i.0).0
-  where
-    one : (n : ℕ) → nat_le 1 n ≡ true → 1 ≤ n
-    one n e = grind (arith, nat_tests)
+telling_reports _ e = absurd cc
 
 -- the slot of a running eject is one that a processor may get
 pub eject_slot : (p : Platform) (s : State) → IsHanded p s → is_among s.monarch.label ejecting ≡ true → s.monarch.eject.slot < count_of p
@@ -195,34 +82,26 @@ eject_slot p s h mine = by_address (smm_address (at s 0)) refl
 
 -- every state of a run
 pub record Refusing (p : Platform) (past : List Transition) (s : State) : Type 0 where
-  pub whole : Whole p past s
-  pub losses : is_handed s.stage ≡ true → is_after_broadcast s.monarch.label ≡ true → s.disturbed ≡ false → Losses p (own_of p past) s.block s.cpus s.monarch
+  pub lossless : Lossless p past s
   pub said : is_handed s.stage ≡ true → SaidAt p (entries_of (own_of p past)) s.disturbed s.writes s.monarch s.monarch.label
 
 pub refusing_begins : (p : Platform) → IsFit p → Refusing p [] (start p)
-refusing_begins p fits = record { whole = whole_begins p fits; losses = λ e after quiet. absurd cc; said = λ e. absurd cc }
+refusing_begins p fits = record { lossless = lossless_begins p fits; said = λ e. absurd cc }
 
 pub refusing_goes : (p : Platform) → Sound p → Ids p → 1 ≤ p.polls → (past : List Transition) (s t : State) (e : Entry) → Refusing p past s → run_on p s e ≡ Some t → Refusing p (made s e t ∷ past) t
-refusing_goes p fit ids polled past s t e h is = record { whole = whole; losses = by_losses (is_handed s.stage) refl; said = by_said (is_handed s.stage) refl }
+refusing_goes p fit ids polled past s t e h is = record { lossless = next; said = by_said (is_handed s.stage) refl }
   where
-    whole : Whole p (made s e t ∷ past) t
-    whole = whole_goes p fit ids past s t e h.whole is
-
-    fresh : is_handed s.stage ≡ false → is_handed t.stage ≡ true → is_after_broadcast t.monarch.label ≡ false
-    fresh before handed = fresh_at_hand_over p s t e fit h.whole.good before is handed
-
-    by_losses : (b : Bool) → is_handed s.stage ≡ b → is_handed t.stage ≡ true → is_after_broadcast t.monarch.label ≡ true → t.disturbed ≡ false → Losses p (own_of p (made s e t ∷ past)) t.block t.cpus t.monarch
-    by_losses true on over after quiet = losses_go p fit ids past s (stood p s fit (handed_of p s h.whole.good on)) (h.whole.handed on) (h.losses on) e t is after quiet
-    by_losses false on over after quiet = no_more (is_after_broadcast t.monarch.label) (fresh on over) after
+    next : Lossless p (made s e t ∷ past) t
+    next = lossless_goes p fit ids past s t e h.lossless is
 
     owns : is_handed t.stage ≡ true → Owns p t.disturbed t.monarch
-    owns over there quiet = let c = telling_reports t.monarch.label there in ((whole.handed over).undisturbed c.0 quiet).reported.own c.1
+    owns over there quiet = let c = telling_reports t.monarch.label there in ((next.whole.handed over).undisturbed c.0 quiet).reported.own c.1
 
     by_said : (b : Bool) → is_handed s.stage ≡ b → is_handed t.stage ≡ true → SaidAt p (entries_of (own_of p (made s e t ∷ past))) t.disturbed t.writes t.monarch t.monarch.label
     by_said true on over =
-        let handed = handed_of p s h.whole.good on in
-        said_goes p fit past s (stood p s fit handed) polled (λ mine. let less = eject_slot p s handed mine in let few = fit.few in omega (arith, less, few)) (λ after quiet. (h.losses on after quiet).never) (h.said on) e t is (owns over)
-    by_said false on over = said_fresh p (entries_of (own_of p (made s e t ∷ past))) t.disturbed t.writes t.monarch t.monarch.label (fresh on over)
+        let handed = handed_of p s h.lossless.whole.good on in
+        said_goes p fit past s (stood p s fit handed) polled (λ mine. let less = eject_slot p s handed mine in let few = fit.few in omega (arith, less, few)) (λ after quiet. (h.lossless.losses on after quiet).never) (h.said on) e t is (owns over)
+    by_said false on over = said_fresh p (entries_of (own_of p (made s e t ∷ past))) t.disturbed t.writes t.monarch t.monarch.label (fresh_at_hand_over p s t e fit h.lossless.whole.good on is over)
 
 -- what is told
 pub refused_by : (p : Platform) (past : List Transition) (s : State) (d : Bool) → is_disturbed p (entries_of past) ≡ d → (why : Refusal) → shows_reads p (entries_of (own_of p past)) (Refused why) ≡ true → (d ≡ false → may_tell (Refused why) ≡ true) → (u : Outcome) → refusal_shows p (telling p past s u) why ≡ true

@@ -7,7 +7,7 @@ use Rattle.std.proofs.lemmas.Bool.Decides.{nat_tests}
 use Rattle.std.proofs.lemmas.Slice.Eq.{bytes_eq-Decides}
 use Rattle.hp_model.specs.declared.platforms.Platform.{Platform}
 use Rattle.hp_model.specs.declared.labels.Label.{Label}
-use Rattle.hp_model.specs.declared.labels.Label.TheVariants.{F1, F2, F3, F4, F5, F6, R1, R2, R3, R4, R5, R6, S0, S1, S2, S3, S4, C1, C2, C3, C4, C5, C6, NB, N0, N1, N2, N3, N4, N5, N6, N7, N8a, N8b, N9, N10, N11, E0, E1, E2, E3, E4a, E4b, E4c, E4d, E4e, E4f, E4g, E4h, T, E5, E6, E7}
+use Rattle.hp_model.specs.declared.labels.Label.TheVariants.{F1, F2, F3, F4, F5, F6, R1, R2, R3, R4, R5, R6, S0, S1, S2, S3, S4, C1, C3, C4, C5, C6, N8a, N8b, N9, N11, E0, E1, E2, E3, E4a, E4b, E4c, E4e, E4f, E4g, E4h, T, E5, E6, E7}
 use Rattle.hp_model.specs.declared.outcomes.Outcome.{Outcome}
 use Rattle.hp_model.specs.declared.outcomes.Outcome.TheVariants.{Added, Ejected, Refused}
 use Rattle.hp_model.specs.declared.outcomes.Refusal.{Refusal}
@@ -82,59 +82,13 @@ IsBit p ws slot = byte_at ws (parked_byte (layout_of p) slot) ≤ 1
 
 -- by the label at which the monarch stands
 abbrev pub SaidAt : Platform → List Entry → Bool → List Write → Monarch → Label → Type 0
-SaidAt p own d ws r F1 = Unit {0}
-SaidAt p own d ws r F2 = Unit {0}
-SaidAt p own d ws r F3 = Unit {0}
-SaidAt p own d ws r F4 = Unit {0}
-SaidAt p own d ws r F5 = Unit {0}
-SaidAt p own d ws r F6 = Unit {0}
-SaidAt p own d ws r R1 = Unit {0}
-SaidAt p own d ws r R2 = Unit {0}
-SaidAt p own d ws r R3 = Unit {0}
-SaidAt p own d ws r R4 = Unit {0}
-SaidAt p own d ws r R5 = Unit {0}
-SaidAt p own d ws r R6 = Unit {0}
-SaidAt p own d ws r S0 = Unit {0}
-SaidAt p own d ws r S1 = Unit {0}
-SaidAt p own d ws r S2 = Unit {0}
-SaidAt p own d ws r S3 = Unit {0}
-SaidAt p own d ws r S4 = Unit {0}
-SaidAt p own d ws r C1 = Unit {0}
-SaidAt p own d ws r C2 = Unit {0}
-SaidAt p own d ws r C3 = Unit {0}
-SaidAt p own d ws r C4 = Unit {0}
-SaidAt p own d ws r C5 = Unit {0}
-SaidAt p own d ws r C6 = Unit {0}
-SaidAt p own d ws r NB = Unit {0}
-SaidAt p own d ws r N0 = Unit {0}
-SaidAt p own d ws r N1 = Unit {0}
-SaidAt p own d ws r N2 = Unit {0}
-SaidAt p own d ws r N3 = Unit {0}
-SaidAt p own d ws r N4 = Unit {0}
-SaidAt p own d ws r N5 = Unit {0}
-SaidAt p own d ws r N6 = Unit {0}
-SaidAt p own d ws r N7 = Unit {0}
-SaidAt p own d ws r N8a = Unit {0}
-SaidAt p own d ws r N8b = Unit {0}
-SaidAt p own d ws r N9 = Unit {0}
-SaidAt p own d ws r N10 = Unit {0}
-SaidAt p own d ws r N11 = Unit {0}
 SaidAt p own d ws r E0 = values_at p E2 own ≡ []
 SaidAt p own d ws r E1 = (values_at p E2 own ≡ []) × IsBit p ws r.eject.slot
 SaidAt p own d ws r E2 = Looked p own r.eject.polls × IsBit p ws r.eject.slot
 SaidAt p own d ws r E3 = values_at p E2 own ≡ replicate p.polls 0
-SaidAt p own d ws r E4a = Unit {0}
-SaidAt p own d ws r E4b = Unit {0}
-SaidAt p own d ws r E4c = Unit {0}
-SaidAt p own d ws r E4d = Unit {0}
-SaidAt p own d ws r E4e = Unit {0}
-SaidAt p own d ws r E4f = Unit {0}
-SaidAt p own d ws r E4g = Unit {0}
 SaidAt p own d ws r E4h = is_still_pending p r.eject.status own ≡ true
 SaidAt p own d ws r T = (shows_reads p own r.outcome ≡ true) × (d ≡ false → may_tell r.outcome ≡ true)
-SaidAt p own d ws r E5 = Unit {0}
-SaidAt p own d ws r E6 = Unit {0}
-SaidAt p own d ws r E7 = Unit {0}
+SaidAt p own d ws r _ = Unit {0}
 
 -- the report of a told outcome is a processor's own, where the session is undisturbed
 abbrev pub Owns : Platform → Bool → Monarch → Type 0
@@ -280,36 +234,19 @@ module _ (p : Platform) (own own2 : List Entry) (d d2 : Bool) (ws ws2 : List Wri
   said_row S2 mine is says = said_look p own2 d2 ws2 p.polls (known_from r.slots 1) r
   said_row S3 mine is says = pick Now ((v == 1) || nat_le r.polls 1) _ _ (said_look p own2 d2 ws2 p.polls (known_from r.slots (r.slot + 1)) (noted r.slot v r)) (λ owns. subst (λ m. SaidAt p own2 d2 ws2 (record r { polls = r.polls - 1; last = (noted r.slot v r).last }) m) (sym is) tt)
   said_row S4 mine is says = pick Now (v == 4) (record r { label = C1; collection = collection_start; taken = 0 }) (at_label E5 r) (λ owns. tt) (λ owns. tt)
-  said_row C1 mine is says = λ owns. tt
-  said_row C2 mine is says = λ owns. tt
   said_row C3 mine is says = pick (λ w. Now (collected p.apic w r)) (nat_lt v r.collection.cpu || not (nat_lt v (count_of p))) (CollectedAll r.collection) (CollectsAt C4 (record r.collection { cpu = v })) (said_next p own2 d2 ws2 (record r { collection = r.collection }) (says.anew refl)) (λ owns. tt)
   said_row C4 mine is says = pick (λ w. Now (collected p.apic w r)) (bit_and v 0x12 == 0) (next_processor (count_of p) r.collection) (CollectsAt C5 (record r.collection { status = v })) (said_processor p own2 d2 ws2 (count_of p) r r.collection (says.anew refl)) (λ owns. tt)
-  said_row C5 mine is says = λ owns. tt
   said_row C6 mine is says = said_processor p own2 d2 ws2 (count_of p) r (record r.collection { reports = r.collection.reports ++ record { cpu = r.collection.cpu; status = r.collection.status; apic = v } ∷ [] }) (says.anew refl)
-  said_row NB mine is says = λ owns. tt
-  said_row N0 mine is says = λ owns. tt
-  said_row N1 mine is says = λ owns. tt
-  said_row N2 mine is says = λ owns. tt
-  said_row N3 mine is says = λ owns. tt
-  said_row N4 mine is says = λ owns. tt
-  said_row N5 mine is says = λ owns. tt
-  said_row N6 mine is says = λ owns. tt
-  said_row N7 mine is says = λ owns. tt
   said_row N8a mine is says = pick (λ w. Now (led w r)) (v == 1) _ _ (λ owns. tt) (λ owns. tt)
   said_row N8b mine is says = pick (λ w. Now (led w (noted r.add.slot v r))) (v == 1) _ _ (λ owns. tt) (pick (λ w. Now (led w (noted r.add.slot v r))) (is_last_look r.add) _ _ (λ owns. tt) (λ owns. tt))
   said_row N9 mine is says = pick (λ w. Now (led w r)) r.add.seen _ _ (λ owns. tt) (said_failed p own2 d2 ws2 r r.last (NotAtGate r.add.cpu r.add.apic) refl refl)
-  said_row N10 mine is says = λ owns. tt
   said_row N11 mine is says = pick (λ w. Now (led w (noted r.add.slot v r))) (v == 1) _ _ (λ owns. (refl, λ quiet. refl)) (pick (λ w. Now (led w (noted r.add.slot v r))) (is_last_look r.add) _ _ (said_failed p own2 d2 ws2 r (noted r.add.slot v r).last (NotCheckedIn r.add.cpu r.add.apic) refl refl) (λ owns. tt))
   said_row E0 mine is says = λ owns. (says.same refl ∙ here E0 is, let z = says.zeroed refl in omega (arith, z))
   said_row E1 mine is says = λ owns. (record { looks = 0; zeros = says.same refl ∙ (here E1 is).0; all = omega arith; some = polled }, let k = says.still refl in let b = (here E1 is).1 in omega (arith, k, b))
   said_row E2 mine is says = let h = here E2 is in looks_once h.0 says h.1 (v == 1) refl (says.bit refl h.1)
   said_row E3 mine is says = λ owns. (let e = says.same refl ∙ here E3 is in same_list _ _ e, λ quiet. refl)
-  said_row E4a mine is says = λ owns. tt
   said_row E4b mine is says = pick (λ m. Now (at_label m r)) (is_late p.delivery) E4f E4c (λ owns. tt) (λ owns. tt)
-  said_row E4c mine is says = λ owns. tt
-  said_row E4d mine is says = λ owns. tt
   said_row E4e mine is says = λ owns. (refl, λ quiet. refl)
-  said_row E4f mine is says = λ owns. tt
   said_row E4g mine is says = pick_by (λ w. Now (eject_led w r)) (bit_and v 0x10 == 0x10) (EjectsAt E4h (record r.eject { status = v })) (EjectsAt E4c r.eject) (λ one owns. seen v (values_at p E4g own2) true (says.sees refl) one) (λ _ owns. tt)
   said_row E4h mine is says = λ owns. (let h = here E4h is in let e = says.waits refl in subst (λ xs. (is_in r.eject.status xs && (bit_and r.eject.status 0x10 == 0x10)) ≡ true) (sym e) h, λ quiet. absurd (says.never refl quiet))
   said_row T mine is says = by_told r.outcome
@@ -321,3 +258,4 @@ module _ (p : Platform) (own own2 : List Entry) (d d2 : Bool) (ws ws2 : List Wri
   said_row E5 mine is says = pick Now (nat_lt 1 (length r.slots.bound)) (record r { label = E6; slot = 1 }) (at_label E7 r) (λ owns. tt) (λ owns. tt)
   said_row E6 mine is says = pick Now (nat_lt (r.slot + 1) (length r.slots.bound)) (record r { label = E6; slot = r.slot + 1 }) (at_label E7 r) (λ owns. tt) (λ owns. tt)
   said_row E7 mine is says = λ owns. subst (SaidAt p own2 d2 ws2 r) (sym is) tt
+  said_row _ mine is says = λ owns. tt

@@ -19,21 +19,22 @@ use Rattle.hp_model.specs.Sessions.{is_disturbed}
 use Rattle.hp_model.specs.Outcomes.{own_of, telling, when_told, each_told, departures, is_eject_of, is_only}
 use Rattle.hp_model.proofs.AtEach.{made, each_passes}
 use Rattle.hp_sealed.specs.Left.{Sound}
-use Rattle.hp_sealed.proofs.Same.{same_outcome-is}
+use Rattle.hp_model.proofs.Same.{same_outcome-equal}
 use Rattle.hp_sealed.proofs.Starts.{sound}
 use Rattle.hp_safety.proofs.Ties.{session_of, TiedAt, tie_of}
 use Rattle.hp_safety.proofs.Named.{Accounted}
 use Rattle.hp_safety.proofs.Held.{Knows, knows_first, knows_on}
 use Rattle.hp_exact.proofs.Stood.{IsStood, stood}
-use Rattle.hp_exact.proofs.Stepping.{AtMonarch, Kinds, by_kind}
-use Rattle.hp_exact.proofs.Naming.{ids_of}
+use Rattle.hp_exact.proofs.Stepping.{AtMonarch, told_by}
+use Rattle.hp_exact.proofs.Naming.{ids_of, polled}
 use Rattle.hp_exact.proofs.Invariant.{Invariant}
-use Rattle.hp_exact.proofs.Beginning.{access_before, fresh_at_hand_over}
+use Rattle.hp_exact.proofs.Wholes.{fresh_at_hand_over, silent_before}
 use Rattle.hp_exact.proofs.Quiet.{handed_of}
 use Rattle.hp_exact.proofs.Ejecting.{shows_reads, may_tell, SaidAt}
-use Rattle.hp_exact.proofs.EjectTold.{polls_some, eject_slot, Refusing, refusing_begins, refusing_goes, refused_by}
+use Rattle.hp_exact.proofs.EjectTold.{eject_slot, Refusing, refusing_begins, refusing_goes, refused_by}
 use Rattle.hp_exact.proofs.Parting.{Gone, PartsAt}
-use Rattle.hp_exact.proofs.PartSteps.{parts_fresh, parts_go}
+use Rattle.hp_exact.proofs.PartSteps.{parts_go}
+use Rattle.hp_exact.proofs.Parked.{parts_fresh}
 use Rattle.hp_exact.specs.Ejects.{eject_shows_in, eject_shows}
 
 -- every state of a run
@@ -58,15 +59,15 @@ goes p fits past s t e h is = record { refusing = next; knows = knows_on p fits 
     fit = sound p fits
 
     next : Refusing p (made s e t ∷ past) t
-    next = refusing_goes p fit (ids_of p fits) (polls_some p fits) past s t e h.refusing is
+    next = refusing_goes p fit (ids_of p fits) (polled p fits) past s t e h.refusing is
 
     by_stage : (b : Bool) → is_handed s.stage ≡ b → is_handed t.stage ≡ true → PartsAt p (own_of p (made s e t ∷ past)) t.disturbed t.cpus t.writes t.monarch t.monarch.label
     by_stage true on over =
-        let whole = h.refusing.whole in
+        let whole = h.refusing.lossless.whole in
         let handed = handed_of p s whole.good on in
-        parts_go p fit (ids_of p fits) past s (stood p s fit handed) (whole.handed on) (h.refusing.losses on) (λ mine. let less = eject_slot p s handed mine in let few = fit.few in omega (arith, less, few)) handed.slots.slotted (h.parts on) e t is
-        (handed_of p t next.whole.good over).recorded.1
-    by_stage false on over = parts_fresh p (own_of p (made s e t ∷ past)) t.disturbed t.cpus t.writes t.monarch t.monarch.label (fresh_at_hand_over p s t e fit h.refusing.whole.good on is over)
+        parts_go p fit (ids_of p fits) past s (stood p s fit handed) (whole.handed on) (h.refusing.lossless.losses on) (λ mine. let less = eject_slot p s handed mine in let few = fit.few in omega (arith, less, few)) handed.slots.slotted (h.parts on) e t is
+        (handed_of p t next.lossless.whole.good over).recorded.1
+    by_stage false on over = parts_fresh p (own_of p (made s e t ∷ past)) t.disturbed t.cpus t.writes t.monarch t.monarch.label (fresh_at_hand_over p s t e fit h.refusing.lossless.whole.good on is over)
 
 -- what is told
 eject_by : (p : Platform) (past : List Transition) (s : State) (d : Bool) → is_disturbed p (entries_of past) ≡ d → s.monarch.slots.bound ≡ bound p (entries_of past) → (o u : Outcome) → Gone p (own_of p past) d s.monarch o → shows_reads p (entries_of (own_of p past)) o ≡ true → (d ≡ false → may_tell o ≡ true) → eject_shows_in p (telling p past s u) o ≡ true
@@ -82,41 +83,24 @@ eject_by p past s d is same (Refused why) u gone shows may = refused_by p past s
 
 module _ (p : Platform) (past : List Transition) (s : State) (standing : IsStood p s) (h : Invariant p past s) (accounted : Accounted p past s) (said : SaidAt p (entries_of (own_of p past)) s.disturbed s.writes s.monarch s.monarch.label)
     (parts : PartsAt p (own_of p past) s.disturbed s.cpus s.writes s.monarch s.monarch.label) where
-  abbrev Test : Entry → State → Type 0
-  Test e t = when_told p (eject_shows p) past s (outcome_in e.event) ≡ true
-
   told_test : (o : Outcome) → AtMonarch p s T → same_outcome o s.monarch.outcome ≡ true → eject_shows p (telling p past s o) ≡ true
   told_test o here same =
       let now : SaidAt p (entries_of (own_of p past)) s.disturbed s.writes s.monarch T = subst (SaidAt p (entries_of (own_of p past)) s.disturbed s.writes s.monarch) here.label said in
       let gone : PartsAt p (own_of p past) s.disturbed s.cpus s.writes s.monarch T = subst (PartsAt p (own_of p past) s.disturbed s.cpus s.writes s.monarch) here.label parts in
       let tied : TiedAt (bound p (entries_of past)) (session_of p (entries_of past)) s.monarch (tie_of T) = subst (λ l. TiedAt (bound p (entries_of past)) (session_of p (entries_of past)) s.monarch (tie_of l)) here.label accounted.tied in
       let flag = (h.tied.called (let label = here.label in rw label refl)).2 in
-      subst (λ w. eject_shows_in p (telling p past s o) w ≡ true) (sym (same_outcome-is o s.monarch.outcome same))
+      subst (λ w. eject_shows_in p (telling p past s o) w ≡ true) (sym (same_outcome-equal o s.monarch.outcome same))
       (eject_by p past s s.disturbed flag tied.0 s.monarch.outcome o gone now.0 now.1)
 
-  tests : Kinds p s Test
-  tests = record {
-    inserts = λ k g less gone. refl;
-    removes = λ k g. refl;
-    outside = λ k a g free out. refl;
-    monarchs = λ l a g here wants. refl;
-    others = λ k l a g here wants. refl;
-    enters = λ k g may. refl;
-    inits = λ k g may. refl;
-    rests = λ g here. refl;
-    returns = λ k l g here where_is. refl;
-    tells = λ o g here same. told_test o here same;
-  }
-
-  told_after : (e : Entry) (t : State) → run_on p s e ≡ Some t → Test e t
-  told_after e t is = by_kind p s Test standing tests e t is
+  told_after : (e : Entry) (t : State) → run_on p s e ≡ Some t → when_told p (eject_shows p) past s (outcome_in e.event) ≡ true
+  told_after e t is = told_by p (eject_shows p) past s standing told_test e t is
 
 test_passes : (p : Platform) → Sound p → (past : List Transition) (s t : State) (e : Entry) → Ejecting p past s → run_on p s e ≡ Some t → when_told p (eject_shows p) past s (outcome_in e.event) ≡ true
 test_passes p fit past s t e h is = by_stage (is_handed s.stage) refl
   where
     by_stage : (b : Bool) → is_handed s.stage ≡ b → when_told p (eject_shows p) past s (outcome_in e.event) ≡ true
-    by_stage true on = let whole = h.refusing.whole in told_after p past s (stood p s fit (handed_of p s whole.good on)) (whole.handed on) (accounted_of p past s h.knows on) (h.refusing.said on) (h.parts on) e t is
-    by_stage false on = let boots = access_before p s t e h.refusing.whole.good on is in subst (λ v. when_told p (eject_shows p) past s (outcome_in v) ≡ true) (sym boots.1) refl
+    by_stage true on = let whole = h.refusing.lossless.whole in told_after p past s (stood p s fit (handed_of p s whole.good on)) (whole.handed on) (accounted_of p past s h.knows on) (h.refusing.said on) (h.parts on) e t is
+    by_stage false on = silent_before p (eject_shows p) past s t e h.refusing.lossless.whole.good on is
 
 pub law : (p : Platform) (es : List Entry) → IsFit p → each_told p (eject_shows p) (transitions p es) ≡ true
 law p es fits =

@@ -23,7 +23,7 @@ use Rattle.hp_exact.specs.Adds.{shows_add, shows_refused}
 use Rattle.hp_exact.specs.Ejects.{eject_shows, refusal_shows}
 use Rattle.hp_exact.proofs.Quiet.{law as quiet_law}
 use Rattle.hp_exact.proofs.Truth.{law as reports_law}
-use Rattle.hp_exact.proofs.Lost.{law as lost_law}
+use Rattle.hp_exact.proofs.LostLaw.{law as lost_law}
 use Rattle.hp_exact.proofs.AddingLaw.{adds_law}
 use Rattle.hp_exact.proofs.EjectsLaw.{law as ejects_law}
 
@@ -56,8 +56,8 @@ each p (x ∷ older) a e =
     let adds = and_parts (when_told p (shows_add p) older x.before (outcome_in x.entry.event)) (each_told p (shows_add p) older) a in
     let ejects = and_parts (when_told p (eject_shows p) older x.before (outcome_in x.entry.event)) (each_told p (eject_shows p) older) e in
     and_from (when_told p (shows p) older x.before (outcome_in x.entry.event)) (each_told p (shows p) older)
-      (told p older x.before (outcome_in x.entry.event) adds.0 ejects.0)
-      (each p older adds.1 ejects.1)
+    (told p older x.before (outcome_in x.entry.event) adds.0 ejects.0)
+    (each p older adds.1 ejects.1)
 
 pub shows_law : (p : Platform) (es : List Entry) → IsFit p → each_told p (shows p) (transitions p es) ≡ true
 shows_law p es fits = each p (transitions p es) (adds_law p es fits) (ejects_law p es fits)

@@ -11,7 +11,7 @@ use Rattle.hp_model.specs.declared.accesses.Access.TheVariants.{Load, Store, Swa
 use Rattle.hp_model.specs.declared.accesses.Want.{Want}
 use Rattle.hp_model.specs.declared.accesses.Want.TheVariants as want
 use Rattle.hp_model.specs.declared.labels.Label.{Label}
-use Rattle.hp_model.specs.declared.labels.Label.TheVariants.{F1, F2, F3, F4, F5, F6, R1, R2, R3, R4, R5, R6, S0, S1, S2, S3, S4, C1, C2, C3, C4, C5, C6, NB, N0, N1, N2, N3, N4, N5, N6, N7, N8a, N8b, N9, N10, N11, E0, E1, E2, E3, E4a, E4b, E4c, E4d, E4e, E4f, E4g, E4h, T, E5, E6, E7}
+use Rattle.hp_model.specs.declared.labels.Label.TheVariants.{F5, F6, R5, S2, C1, C2, C5, N3, N4, N5, N6, E4a, E4b, E4f, T, E7}
 use Rattle.hp_model.specs.Platform.{apic_of}
 use Rattle.hp_model.specs.Cpu.{absent, cpu_at, is_waiting, halt, hit}
 use Rattle.hp_model.specs.Block.{block_write, ejected_by}
@@ -87,59 +87,23 @@ AllAlike p k s (Some (want.Tell o)) = Unit {0}
 AllAlike p k s (Some want.Resume) = Unit {0}
 
 pub row_alike : (p : Platform) (k : ℕ) (s : State) (q : Seat) (r : Monarch) (l : Label) → is_among l (N5 ∷ N6 ∷ E4b ∷ []) ≡ false → AllAlike p k s (want_at (layout_of p) q r l)
-row_alike p k s q r F1 other = λ j. alike_same (at s j)
-row_alike p k s q r F2 other = λ j. alike_same (at s j)
-row_alike p k s q r F3 other = λ j. alike_same (at s j)
-row_alike p k s q r F4 other = λ j. alike_same (at s j)
 row_alike p k s q r F5 other = alike_each _ Smi p.apic s.cpus (inl refl)
 row_alike p k s q r F6 other = tt
-row_alike p k s q r R1 other = λ j. alike_same (at s j)
-row_alike p k s q r R2 other = λ j. alike_same (at s j)
-row_alike p k s q r R3 other = λ j. alike_same (at s j)
-row_alike p k s q r R4 other = λ j. alike_same (at s j)
 row_alike p k s q r R5 other = tt
-row_alike p k s q r R6 other = λ j. alike_same (at s j)
-row_alike p k s q r S0 other = λ j. alike_same (at s j)
-row_alike p k s q r S1 other = λ j. alike_same (at s j)
 row_alike p k s q r S2 other = alike_each _ Smi p.apic s.cpus (inl refl)
-row_alike p k s q r S3 other = λ j. alike_same (at s j)
-row_alike p k s q r S4 other = λ j. alike_same (at s j)
 row_alike p k s q r C1 other = alike_block 0 4 (r.collection.cpu) s refl
 row_alike p k s q r C2 other = alike_block 5 1 (0) s refl
-row_alike p k s q r C3 other = λ j. alike_same (at s j)
-row_alike p k s q r C4 other = λ j. alike_same (at s j)
 row_alike p k s q r C5 other = alike_block 5 1 (3) s refl
-row_alike p k s q r C6 other = λ j. alike_same (at s j)
-row_alike p k s q r NB other = λ j. alike_same (at s j)
-row_alike p k s q r N0 other = λ j. alike_same (at s j)
-row_alike p k s q r N1 other = λ j. alike_same (at s j)
-row_alike p k s q r N2 other = λ j. alike_same (at s j)
 row_alike p k s q r N3 other = alike_each _ Smi p.apic s.cpus (inl refl)
 row_alike p k s q r N4 other = alike_each _ Init p.apic s.cpus (inr refl)
 row_alike p k s q r N5 other = absurd cc
 row_alike p k s q r N6 other = absurd cc
-row_alike p k s q r N7 other = λ j. alike_same (at s j)
-row_alike p k s q r N8a other = λ j. alike_same (at s j)
-row_alike p k s q r N8b other = λ j. alike_same (at s j)
-row_alike p k s q r N9 other = λ j. alike_same (at s j)
-row_alike p k s q r N10 other = λ j. alike_same (at s j)
-row_alike p k s q r N11 other = λ j. alike_same (at s j)
-row_alike p k s q r E0 other = λ j. alike_same (at s j)
-row_alike p k s q r E1 other = λ j. alike_same (at s j)
-row_alike p k s q r E2 other = λ j. alike_same (at s j)
-row_alike p k s q r E3 other = λ j. alike_same (at s j)
 row_alike p k s q r E4a other = alike_block 0 4 (r.eject.cpu) s refl
 row_alike p k s q r E4b other = absurd cc
-row_alike p k s q r E4c other = λ j. alike_same (at s j)
-row_alike p k s q r E4d other = λ j. alike_same (at s j)
-row_alike p k s q r E4e other = λ j. alike_same (at s j)
 row_alike p k s q r E4f other = alike_block 0 4 (r.eject.cpu) s refl
-row_alike p k s q r E4g other = λ j. alike_same (at s j)
-row_alike p k s q r E4h other = λ j. alike_same (at s j)
 row_alike p k s q r T other = tt
-row_alike p k s q r E5 other = λ j. alike_same (at s j)
-row_alike p k s q r E6 other = λ j. alike_same (at s j)
 row_alike p k s q r E7 other = tt
+row_alike p k s q r _ other = λ j. alike_same (at s j)
 
 -- an access of anybody: whoever has its SMI latch set keeps it, or is gone
 abbrev pub Keeps : Cpu → Cpu → Type 0

@@ -5,9 +5,7 @@ use Rattle.std.proofs.lemmas.Bool.{and_parts}
 use Rattle.hp_model.specs.declared.platforms.Platform.{Platform}
 use Rattle.hp_model.specs.declared.processors.Cpu.{Cpu}
 use Rattle.hp_model.specs.declared.labels.Label.{Label}
-use Rattle.hp_model.specs.declared.labels.Label.TheVariants.{F1, F2, F3, F4, F5, F6, R1, R2, R3, R4, R5, R6, S0, S1, S2, S3, S4, C1, C2, C3, C4, C5, C6, NB, N0, N1, N2, N3, N4, N5, N6, N7, N8a, N8b, N9, N10, N11, E0, E1, E2, E3, E4a, E4b, E4c, E4d, E4e, E4f, E4g, E4h, T, E5, E6, E7}
-use Rattle.hp_model.specs.declared.outcomes.Outcome.{Outcome}
-use Rattle.hp_model.specs.declared.outcomes.Outcome.TheVariants.{Added, Ejected, Refused}
+use Rattle.hp_model.specs.declared.labels.Label.TheVariants.{S0, S1, S2, S3, S4, C1, C2, C3, C4, C5, C6, NB, N0, N1, N2, N3, N4, N5, N6, N7, N8a, N8b, N9, N10, N11, E0, E1, E2, E3, E4a, E4b, E4c, E4d, E4e, E4f, E4g, E4h, T, E5, E6, E7}
 use Rattle.hp_model.specs.Platform.{count_of, is_late}
 use Rattle.hp_model.specs.Cpu.{cpu_at}
 use Rattle.hp_model.specs.Block.{Block, slot_at}
@@ -22,11 +20,11 @@ use Rattle.hp_model.specs.Step.{is_after_broadcast}
 use Rattle.hp_model.specs.Transitions.{Transition}
 use Rattle.hp_model.specs.Outcomes.{departures, may_lose, is_none}
 use Rattle.hp_sealed.proofs.Left.{pick, pick_by}
-use Rattle.hp_exact.specs.Refusals.{is_blaming}
+use Rattle.hp_exact.proofs.Refusals.{is_blaming}
 use Rattle.hp_exact.proofs.Monarchs.{is_among, adding, ejecting, AddsOn, adds_on, next_by_class, class_tame}
 use Rattle.hp_exact.proofs.Stages.{adding_alone}
 use Rattle.hp_exact.proofs.Naming.{own_is}
-use Rattle.hp_exact.proofs.Reporting.{no_more}
+use Rattle.hp_exact.proofs.Reporting.{no_more, told_same}
 use Rattle.hp_exact.proofs.Invariant.{is_there}
 
 -- an eject whose processor is still there, and one that is handed to the register block
@@ -97,43 +95,6 @@ module _ (p : Platform) (own : List Transition) (b : Block) (cs : List Cpu) wher
       losses_plain t (part t.label alone).0 (part t.label alone).1 (part t.label alone).2 (part t.label alone).3 (λ e. none) on.told
     where
       part : (l : Label) → is_among l ejecting ≡ false → (is_among l pending ≡ false) × (is_among l handed ≡ false) × (is_among l (E4g ∷ []) ≡ false) × (is_among l (E4h ∷ []) ≡ false)
-      part F1 e = (refl, refl, refl, refl)
-      part F2 e = (refl, refl, refl, refl)
-      part F3 e = (refl, refl, refl, refl)
-      part F4 e = (refl, refl, refl, refl)
-      part F5 e = (refl, refl, refl, refl)
-      part F6 e = (refl, refl, refl, refl)
-      part R1 e = (refl, refl, refl, refl)
-      part R2 e = (refl, refl, refl, refl)
-      part R3 e = (refl, refl, refl, refl)
-      part R4 e = (refl, refl, refl, refl)
-      part R5 e = (refl, refl, refl, refl)
-      part R6 e = (refl, refl, refl, refl)
-      part S0 e = (refl, refl, refl, refl)
-      part S1 e = (refl, refl, refl, refl)
-      part S2 e = (refl, refl, refl, refl)
-      part S3 e = (refl, refl, refl, refl)
-      part S4 e = (refl, refl, refl, refl)
-      part C1 e = (refl, refl, refl, refl)
-      part C2 e = (refl, refl, refl, refl)
-      part C3 e = (refl, refl, refl, refl)
-      part C4 e = (refl, refl, refl, refl)
-      part C5 e = (refl, refl, refl, refl)
-      part C6 e = (refl, refl, refl, refl)
-      part NB e = (refl, refl, refl, refl)
-      part N0 e = (refl, refl, refl, refl)
-      part N1 e = (refl, refl, refl, refl)
-      part N2 e = (refl, refl, refl, refl)
-      part N3 e = (refl, refl, refl, refl)
-      part N4 e = (refl, refl, refl, refl)
-      part N5 e = (refl, refl, refl, refl)
-      part N6 e = (refl, refl, refl, refl)
-      part N7 e = (refl, refl, refl, refl)
-      part N8a e = (refl, refl, refl, refl)
-      part N8b e = (refl, refl, refl, refl)
-      part N9 e = (refl, refl, refl, refl)
-      part N10 e = (refl, refl, refl, refl)
-      part N11 e = (refl, refl, refl, refl)
       part E0 e = absurd cc
       part E1 e = absurd cc
       part E2 e = absurd cc
@@ -146,15 +107,7 @@ module _ (p : Platform) (own : List Transition) (b : Block) (cs : List Cpu) wher
       part E4f e = absurd cc
       part E4g e = absurd cc
       part E4h e = absurd cc
-      part T e = (refl, refl, refl, refl)
-      part E5 e = (refl, refl, refl, refl)
-      part E6 e = (refl, refl, refl, refl)
-      part E7 e = (refl, refl, refl, refl)
-
-told_same : (o : Outcome) (r : Monarch) → ((told o r).collection ≡ r.collection) × ((told o r).taken ≡ r.taken)
-told_same (Added cpu apic slot) r = (refl, refl)
-told_same (Ejected cpu apic slot) r = (refl, refl)
-told_same (Refused why) r = (refl, refl)
+      part _ e = (refl, refl, refl, refl)
 
 -- what a row does where the session is undisturbed: with own2, b2 and cs2 after it
 pub record Deeds (p : Platform) (own own2 : List Transition) (b2 : Block) (cs2 : List Cpu) (r : Monarch) (l : Label) (v : ℕ) : Type 0 where
@@ -175,18 +128,6 @@ module _ (p : Platform) (own own2 : List Transition) (b b2 : Block) (cs cs2 : Li
   Then t = Losses p own2 b2 cs2 t
 
   pub losses_row : (l : Label) → part_of l ≡ Monarchs → r.label ≡ l → Deeds p own own2 b2 cs2 r l v → is_after_broadcast (next_at (layout_of p) q r l v).monarch.label ≡ true → Then (next_at (layout_of p) q r l v).monarch
-  losses_row F1 mine is deeds after = absurd cc
-  losses_row F2 mine is deeds after = absurd cc
-  losses_row F3 mine is deeds after = absurd cc
-  losses_row F4 mine is deeds after = absurd cc
-  losses_row F5 mine is deeds after = absurd cc
-  losses_row F6 mine is deeds after = absurd cc
-  losses_row R1 mine is deeds after = absurd cc
-  losses_row R2 mine is deeds after = absurd cc
-  losses_row R3 mine is deeds after = absurd cc
-  losses_row R4 mine is deeds after = absurd cc
-  losses_row R5 mine is deeds after = absurd cc
-  losses_row R6 mine is deeds after = absurd cc
   losses_row S0 mine is deeds after = pick (λ (t : Monarch). is_after_broadcast t.label ≡ true → Then t) (nat_lt 1 (length r.slots.bound)) (record r { label = S1; slot = 1 }) (at_label S2 r) (λ e. absurd cc) (λ e. absurd cc) after
   losses_row S1 mine is deeds after = pick (λ (t : Monarch). is_after_broadcast t.label ≡ true → Then t) (nat_lt (r.slot + 1) (length r.slots.bound)) (record r { label = S1; slot = r.slot + 1 }) (at_label S2 r) (λ e. absurd cc) (λ e. absurd cc) after
   losses_row S2 mine is deeds after = losses_look p own2 b2 cs2 p.polls (known_from r.slots 1) r
@@ -249,3 +190,4 @@ module _ (p : Platform) (own own2 : List Transition) (b b2 : Block) (cs cs2 : Li
   losses_row E5 mine is deeds after = pick (λ (t : Monarch). is_after_broadcast t.label ≡ true → Then t) (nat_lt 1 (length r.slots.bound)) (record r { label = E6; slot = 1 }) (at_label E7 r) (λ e. absurd cc) (λ e. absurd cc) after
   losses_row E6 mine is deeds after = pick (λ (t : Monarch). is_after_broadcast t.label ≡ true → Then t) (nat_lt (r.slot + 1) (length r.slots.bound)) (record r { label = E6; slot = r.slot + 1 }) (at_label E7 r) (λ e. absurd cc) (λ e. absurd cc) after
   losses_row E7 mine is deeds after = absurd (let f : is_after_broadcast E7 ≡ true = subst (λ m. is_after_broadcast m ≡ true) is after in cc)
+  losses_row _ mine is deeds after = absurd cc

@@ -1,297 +1,66 @@
--- The law: nobody leaves in the entries of an outcome but by an eject, while the session is undisturbed.
-use Rattle.std.proofs.Common.{ℕ, zero, suc, ◌≡◌, ◌≢◌, ◌+◌, ◌*◌, ◌<◌, ◌==◌, ◌⊎◌, Bool, true, false, cond, not, ◌&&◌, ◌||◌, nat_lt, List, [], ◌∷◌, length, slice_set, Some, None, refl, sym, ap, subst, ◌∙◌, arith, ◌++◌}
-use Rattle.std.proofs.lemmas.Bool.{and_parts, or_right, eqb-true}
-use Rattle.std.proofs.lemmas.Bool.Decides.{nat_tests}
+-- Over each kind of step: nobody leaves in the entries of an outcome but by an eject, while the session is undisturbed.
+use Rattle.std.proofs.Common.{ℕ, ◌≡◌, ◌<◌, ◌==◌, ◌⊎◌, Bool, true, false, cond, not, ◌&&◌, ◌||◌, List, [], ◌∷◌, length, Some, None, refl, sym, ap, subst, ◌∙◌, arith, ◌++◌}
+use Rattle.std.proofs.lemmas.Bool.{or_right, eqb-true}
 use Rattle.hp_model.specs.declared.platforms.Platform.{Platform}
 use Rattle.hp_model.specs.declared.processors.Cpu.{Cpu}
 use Rattle.hp_model.specs.declared.accesses.Access.{Access}
 use Rattle.hp_model.specs.declared.accesses.Want.TheVariants as want
 use Rattle.hp_model.specs.declared.outcomes.Outcome.{Outcome}
 use Rattle.hp_model.specs.declared.labels.Label.{Label}
-use Rattle.hp_model.specs.declared.labels.Label.TheVariants.{F1, F2, F3, F4, F5, F6, R1, R2, R3, R4, R5, R6, S0, S1, S2, S3, S4, C1, C2, C3, C4, C5, C6, NB, N0, N1, N2, N3, N4, N5, N6, N7, N8a, N8b, N9, N10, N11, E0, E1, E2, E3, E4a, E4b, E4c, E4d, E4e, E4f, E4g, E4h, T, E5, E6, E7}
+use Rattle.hp_model.specs.declared.labels.Label.TheVariants.{F6, R5, S2, C3, C4, C6, NB, N0, N1, N2, N3, N4, N5, N6, N7, N8a, N8b, N9, N10, N11, E0, E1, E2, E3, E4a, E4b, E4f, E4g, T, E7}
 use Rattle.hp_model.specs.declared.entries.Event.TheVariants.{Insert, Remove, Do, TakeSmi, TakeInit, Resume, Tell}
 use Rattle.hp_model.specs.declared.entries.Entry.{Entry}
-use Rattle.hp_model.specs.Platform.{count_of, tile, is_late}
-use Rattle.hp_model.specs.Cpu.{inserted, cpu_at, is_outside, is_in_smm, is_free, smm_address, may_take_smi, take_smi, may_take_init, take_init, resumed}
-use Rattle.hp_model.specs.Block.{Block}
+use Rattle.hp_model.specs.Platform.{count_of, tile, is_late, apic_of}
+use Rattle.hp_model.specs.Cpu.{inserted, cpu_at, is_in_smm, is_free, smm_address, may_take_smi, take_smi, may_take_init, take_init, resumed}
+use Rattle.hp_model.specs.Block.{Block, slot_at, Slot, block_write}
 use Rattle.hp_model.specs.Boot.{Stage, value_in}
 use Rattle.hp_model.specs.Labels.{Monarch as Monarchs, part_of, index_of, same_label}
 use Rattle.hp_model.specs.SharedBytes.{layout_of}
 use Rattle.hp_model.specs.SaveArea.{saved_smbase, saved_rip}
-use Rattle.hp_model.specs.Monarch.{Monarch, restarted}
+use Rattle.hp_model.specs.Monarch.{Monarch, restarted, is_own}
 use Rattle.hp_model.specs.Handlers.{Next, want_at, next_at}
 use Rattle.hp_model.specs.Step.{State, at, set_cpu, seat, access_effect, answer_to, insert, request_removal, enter_smm, leave_smm, go_on, with_session, is_after_broadcast, writes_block, same_outcome}
 use Rattle.hp_model.specs.Runs.{run_on}
 use Rattle.hp_model.specs.Transitions.{Transition, entries_of}
 use Rattle.hp_model.specs.Account.{is_at}
-use Rattle.hp_model.specs.Sessions.{bounds_session}
+use Rattle.hp_model.specs.Sessions.{ends_outcome, is_disturbed}
 use Rattle.hp_model.proofs.AtEach.{made}
 use Rattle.hp_sealed.specs.Left.{Sound}
 use Rattle.hp_sealed.proofs.Stay.{at_set}
 use Rattle.hp_sealed.proofs.Outside.{acts}
 use Rattle.hp_safety.proofs.Marked.{at_none, at_monarch, at_other}
-use Rattle.hp_exact.specs.Refusals.{is_blaming, blames_rightly}
 use Rattle.hp_exact.proofs.Reports.{all_drop, all_last}
-use Rattle.hp_exact.proofs.Naming.{is_own-is}
-use Rattle.hp_exact.proofs.Rows.{reads_row}
-use Rattle.hp_model.specs.Monarch.{is_own}
+use Rattle.hp_exact.proofs.Naming.{is_own-is, Ids}
+use Rattle.hp_exact.proofs.Rows.{reads_row, stays_row, reported_still, access_of, at_want, Unwritten, other_unwritten}
 use Rattle.hp_model.specs.Collection.{Report}
-use Rattle.hp_model.specs.Platform.{apic_of}
 use Rattle.hp_exact.proofs.Stood.{IsStood}
-use Rattle.hp_exact.proofs.Stepping.{AtMonarch, AtOther, Kinds, entry_by, ends, led_on, by_kind}
+use Rattle.hp_exact.proofs.Stepping.{AtMonarch, AtOther, Kinds, entry_by, ends, led_on, by_kind, is_other, still_clear, told_by}
 use Rattle.hp_exact.proofs.Monarchs.{is_among, adding, ejecting, next_other}
-use Rattle.hp_exact.proofs.Naming.{Ids}
 use Rattle.hp_exact.proofs.Agreeing.{block_kept, present_kept}
-use Rattle.hp_exact.proofs.Reporting.{no_more}
-use Rattle.hp_exact.proofs.Rows.{stays_row, reported_still}
-use Rattle.hp_exact.proofs.Keeping.{none_outside, outside_in, was_quiet, not_broadcast, present_set, present_go, Unwritten, other_unwritten}
+use Rattle.hp_exact.proofs.Reporting.{no_more, all_drop_last}
+use Rattle.hp_exact.proofs.CalledIn.{was_quiet, not_broadcast, present_set}
+use Rattle.hp_exact.proofs.InSmm.{none_outside, present_go, init_outside}
 use Rattle.hp_exact.proofs.Reading.{select_is, read_status}
-use Rattle.hp_exact.proofs.Losing.{pending, handed, is_keeping, Losses, Deeds, losses_row}
-use Rattle.hp_exact.proofs.Beginning.{Whole, whole_begins, whole_goes, access_before, fresh_at_hand_over}
-use Rattle.hp_exact.proofs.Quiet.{handed_of}
-use Rattle.hp_exact.proofs.Stood.{stood}
-use Rattle.hp_exact.proofs.Naming.{ids_of}
-use Rattle.hp_exact.proofs.Rows.{access_of, at_want}
-use Rattle.hp_exact.proofs.Reporting.{all_drop_last}
-use Rattle.hp_sealed.proofs.Same.{same_outcome-is}
-use Rattle.hp_sealed.proofs.Starts.{sound}
-use Rattle.hp_model.specs.Outcomes.{own_of, when_told, each_told, departures, may_lose, is_none, loses_none}
+use Rattle.hp_exact.proofs.Losing.{pending, is_keeping, Losses, Deeds, losses_row}
+use Rattle.hp_model.proofs.Same.{same_outcome-equal}
+use Rattle.hp_model.specs.Outcomes.{own_of, when_told, departures, may_lose, is_none, loses_none}
 use Rattle.hp_model.specs.Events.{outcome_in}
-use Rattle.hp_model.specs.Sessions.{tells, ends_outcome, is_disturbed}
-use Rattle.hp_model.specs.Transitions.{since, places, has_left, left_in, transitions}
-use Rattle.hp_model.proofs.AtEach.{each_passes}
-use Rattle.hp_model.specs.Platform.{IsFit}
-use Rattle.hp_model.specs.Step.{start}
-use Rattle.hp_model.specs.Boot.{is_handed}
-use Rattle.hp_model.specs.Block.{slot_at, Slot, no_slot, is_selected, controlled, bit, status, write_control, block_write}
-use Rattle.std.specs.List.{list_any}
-use Rattle.std.specs.Prelude.{slice_index_or, filter, bit_and}
-use Rattle.hp_exact.proofs.Invariant.{is_reporting, is_there}
-use Rattle.hp_exact.proofs.Invariant.{Reported, last_read, Undisturbed, Invariant}
-
--- nobody left
-filter_none : (f : ℕ → Bool) → ((k : ℕ) → f k ≡ false) → (xs : List ℕ) → filter f xs ≡ []
-filter_none f none [] = refl
-filter_none f none (x ∷ xs) = rw (none x) (filter_none f none xs)
-
-kept_more : (p : Platform) (x : Transition) (own : List Transition) → ((k : ℕ) → (at x.before k).present ≡ true → (at x.after k).present ≡ true) → is_none (departures p own) ≡ true → is_none (departures p (x ∷ own)) ≡ true
-kept_more p x own stays none =
-    let left : left_in p x ≡ [] = filter_none (has_left x) (λ k. here (at x.before k).present (at x.after k).present (stays k)) (places (count_of p)) in
-    rw left none
-  where
-    here : (a b : Bool) → (a ≡ true → b ≡ true) → (a && not b) ≡ false
-    here true b h = rw (h refl) refl
-    here false b h = refl
-
--- the entries of an outcome, with one more
-pub own_more : (p : Platform) (x : Transition) (past : List Transition) → ends_outcome p x.entry ≡ false → own_of p (x ∷ past) ≡ x ∷ own_of p past
-unfolding since
-own_more p x past is = subst (λ b. (elim b as (λ _. List Transition) [ true ↦ [] | false ↦ x ∷ since (λ y. ends_outcome p y.entry) past ]) ≡ x ∷ since (λ y. ends_outcome p y.entry) past) (sym is) refl
-
-pub own_none : (p : Platform) (x : Transition) (past : List Transition) → ends_outcome p x.entry ≡ true → own_of p (x ∷ past) ≡ []
-unfolding since
-own_none p x past is = subst (λ b. (elim b as (λ _. List Transition) [ true ↦ [] | false ↦ x ∷ since (λ y. ends_outcome p y.entry) past ]) ≡ []) (sym is) refl
-
--- an entry elsewhere is none of the collection's
-pub elsewhere : (p : Platform) (e : Entry) → ((m : Label) → part_of m ≡ Monarchs → is_at p m e ≡ false) → tells e ≡ false → bounds_session e ≡ false → ends_outcome p e ≡ false
-elsewhere p e unseen silent within = rw (silent, unseen C1 refl, unseen C2 refl, unseen C3 refl, unseen C4 refl, unseen C5 refl, unseen C6 refl, within) refl
-
--- and one of the monarch's is by its label
-abbrev pub is_collects : Label → Bool
-is_collects l = list_any (λ m. index_of l == index_of m) (C1 ∷ C2 ∷ C3 ∷ C4 ∷ C5 ∷ C6 ∷ [])
-
-pub by_label : (p : Platform) (e : Entry) (l : Label) → ((m : Label) → part_of m ≡ Monarchs → is_at p m e ≡ (index_of l == index_of m)) → tells e ≡ false → bounds_session e ≡ false → ends_outcome p e ≡ (is_collects l || false)
-by_label p e l seen silent within = rw (silent, seen C1 refl, seen C2 refl, seen C3 refl, seen C4 refl, seen C5 refl, seen C6 refl, within) refl
-
-adding_goes : (l : Label) → is_among l adding ≡ true → (is_collects l || false) ≡ false
-adding_goes F1 e = absurd cc
-adding_goes F2 e = absurd cc
-adding_goes F3 e = absurd cc
-adding_goes F4 e = absurd cc
-adding_goes F5 e = absurd cc
-adding_goes F6 e = absurd cc
-adding_goes R1 e = absurd cc
-adding_goes R2 e = absurd cc
-adding_goes R3 e = absurd cc
-adding_goes R4 e = absurd cc
-adding_goes R5 e = absurd cc
-adding_goes R6 e = absurd cc
-adding_goes S0 e = absurd cc
-adding_goes S1 e = absurd cc
-adding_goes S2 e = absurd cc
-adding_goes S3 e = absurd cc
-adding_goes S4 e = absurd cc
-adding_goes C1 e = absurd cc
-adding_goes C2 e = absurd cc
-adding_goes C3 e = absurd cc
-adding_goes C4 e = absurd cc
-adding_goes C5 e = absurd cc
-adding_goes C6 e = absurd cc
-adding_goes NB e = refl
-adding_goes N0 e = refl
-adding_goes N1 e = refl
-adding_goes N2 e = refl
-adding_goes N3 e = refl
-adding_goes N4 e = refl
-adding_goes N5 e = refl
-adding_goes N6 e = refl
-adding_goes N7 e = refl
-adding_goes N8a e = refl
-adding_goes N8b e = refl
-adding_goes N9 e = refl
-adding_goes N10 e = refl
-adding_goes N11 e = refl
-adding_goes E0 e = absurd cc
-adding_goes E1 e = absurd cc
-adding_goes E2 e = absurd cc
-adding_goes E3 e = absurd cc
-adding_goes E4a e = absurd cc
-adding_goes E4b e = absurd cc
-adding_goes E4c e = absurd cc
-adding_goes E4d e = absurd cc
-adding_goes E4e e = absurd cc
-adding_goes E4f e = absurd cc
-adding_goes E4g e = absurd cc
-adding_goes E4h e = absurd cc
-adding_goes T e = absurd cc
-adding_goes E5 e = absurd cc
-adding_goes E6 e = absurd cc
-adding_goes E7 e = absurd cc
-
-waiting_goes : (l : Label) → is_among l (E0 ∷ E1 ∷ E2 ∷ E3 ∷ E4a ∷ []) ≡ true → (is_collects l || false) ≡ false
-waiting_goes F1 e = absurd cc
-waiting_goes F2 e = absurd cc
-waiting_goes F3 e = absurd cc
-waiting_goes F4 e = absurd cc
-waiting_goes F5 e = absurd cc
-waiting_goes F6 e = absurd cc
-waiting_goes R1 e = absurd cc
-waiting_goes R2 e = absurd cc
-waiting_goes R3 e = absurd cc
-waiting_goes R4 e = absurd cc
-waiting_goes R5 e = absurd cc
-waiting_goes R6 e = absurd cc
-waiting_goes S0 e = absurd cc
-waiting_goes S1 e = absurd cc
-waiting_goes S2 e = absurd cc
-waiting_goes S3 e = absurd cc
-waiting_goes S4 e = absurd cc
-waiting_goes C1 e = absurd cc
-waiting_goes C2 e = absurd cc
-waiting_goes C3 e = absurd cc
-waiting_goes C4 e = absurd cc
-waiting_goes C5 e = absurd cc
-waiting_goes C6 e = absurd cc
-waiting_goes NB e = absurd cc
-waiting_goes N0 e = absurd cc
-waiting_goes N1 e = absurd cc
-waiting_goes N2 e = absurd cc
-waiting_goes N3 e = absurd cc
-waiting_goes N4 e = absurd cc
-waiting_goes N5 e = absurd cc
-waiting_goes N6 e = absurd cc
-waiting_goes N7 e = absurd cc
-waiting_goes N8a e = absurd cc
-waiting_goes N8b e = absurd cc
-waiting_goes N9 e = absurd cc
-waiting_goes N10 e = absurd cc
-waiting_goes N11 e = absurd cc
-waiting_goes E0 e = refl
-waiting_goes E1 e = refl
-waiting_goes E2 e = refl
-waiting_goes E3 e = refl
-waiting_goes E4a e = refl
-waiting_goes E4b e = absurd cc
-waiting_goes E4c e = absurd cc
-waiting_goes E4d e = absurd cc
-waiting_goes E4e e = absurd cc
-waiting_goes E4f e = absurd cc
-waiting_goes E4g e = absurd cc
-waiting_goes E4h e = absurd cc
-waiting_goes T e = absurd cc
-waiting_goes E5 e = absurd cc
-waiting_goes E6 e = absurd cc
-waiting_goes E7 e = absurd cc
+use Rattle.std.specs.Prelude.{bit_and}
+use Rattle.hp_exact.proofs.Invariant.{is_reporting, is_there, Reported, last_read, Undisturbed, Invariant}
+use Rattle.hp_exact.proofs.OwnEntries.{adding_goes, anew_row, by_label, elsewhere, is_collects, own_more, own_none, waiting_goes}
+use Rattle.hp_exact.proofs.Departures.{kept_more}
+use Rattle.hp_exact.proofs.EjectedSlots.{eject_is, slot_same, status_calm}
+use Rattle.hp_safety.proofs.Entering.{may_outside}
 
 waiting_pending : (l : Label) → is_among l (E0 ∷ E1 ∷ E2 ∷ E3 ∷ E4a ∷ []) ≡ true → (is_after_broadcast l ≡ true) × (is_among l pending ≡ true) × (is_among l (E4b ∷ []) ≡ false)
-waiting_pending F1 e = absurd cc
-waiting_pending F2 e = absurd cc
-waiting_pending F3 e = absurd cc
-waiting_pending F4 e = absurd cc
-waiting_pending F5 e = absurd cc
-waiting_pending F6 e = absurd cc
-waiting_pending R1 e = absurd cc
-waiting_pending R2 e = absurd cc
-waiting_pending R3 e = absurd cc
-waiting_pending R4 e = absurd cc
-waiting_pending R5 e = absurd cc
-waiting_pending R6 e = absurd cc
-waiting_pending S0 e = absurd cc
-waiting_pending S1 e = absurd cc
-waiting_pending S2 e = absurd cc
-waiting_pending S3 e = absurd cc
-waiting_pending S4 e = absurd cc
-waiting_pending C1 e = absurd cc
-waiting_pending C2 e = absurd cc
-waiting_pending C3 e = absurd cc
-waiting_pending C4 e = absurd cc
-waiting_pending C5 e = absurd cc
-waiting_pending C6 e = absurd cc
-waiting_pending NB e = absurd cc
-waiting_pending N0 e = absurd cc
-waiting_pending N1 e = absurd cc
-waiting_pending N2 e = absurd cc
-waiting_pending N3 e = absurd cc
-waiting_pending N4 e = absurd cc
-waiting_pending N5 e = absurd cc
-waiting_pending N6 e = absurd cc
-waiting_pending N7 e = absurd cc
-waiting_pending N8a e = absurd cc
-waiting_pending N8b e = absurd cc
-waiting_pending N9 e = absurd cc
-waiting_pending N10 e = absurd cc
-waiting_pending N11 e = absurd cc
 waiting_pending E0 e = (refl, refl, refl)
 waiting_pending E1 e = (refl, refl, refl)
 waiting_pending E2 e = (refl, refl, refl)
 waiting_pending E3 e = (refl, refl, refl)
 waiting_pending E4a e = (refl, refl, refl)
-waiting_pending E4b e = absurd cc
-waiting_pending E4c e = absurd cc
-waiting_pending E4d e = absurd cc
-waiting_pending E4e e = absurd cc
-waiting_pending E4f e = absurd cc
-waiting_pending E4g e = absurd cc
-waiting_pending E4h e = absurd cc
-waiting_pending T e = absurd cc
-waiting_pending E5 e = absurd cc
-waiting_pending E6 e = absurd cc
-waiting_pending E7 e = absurd cc
+waiting_pending _ e = absurd cc
 
 adding_called : (l : Label) → is_among l adding ≡ true → (is_after_broadcast l ≡ true) × (is_among l (E4b ∷ []) ≡ false)
-adding_called F1 e = absurd cc
-adding_called F2 e = absurd cc
-adding_called F3 e = absurd cc
-adding_called F4 e = absurd cc
-adding_called F5 e = absurd cc
-adding_called F6 e = absurd cc
-adding_called R1 e = absurd cc
-adding_called R2 e = absurd cc
-adding_called R3 e = absurd cc
-adding_called R4 e = absurd cc
-adding_called R5 e = absurd cc
-adding_called R6 e = absurd cc
-adding_called S0 e = absurd cc
-adding_called S1 e = absurd cc
-adding_called S2 e = absurd cc
-adding_called S3 e = absurd cc
-adding_called S4 e = absurd cc
-adding_called C1 e = absurd cc
-adding_called C2 e = absurd cc
-adding_called C3 e = absurd cc
-adding_called C4 e = absurd cc
-adding_called C5 e = absurd cc
-adding_called C6 e = absurd cc
 adding_called NB e = (refl, refl)
 adding_called N0 e = (refl, refl)
 adding_called N1 e = (refl, refl)
@@ -306,179 +75,13 @@ adding_called N8b e = (refl, refl)
 adding_called N9 e = (refl, refl)
 adding_called N10 e = (refl, refl)
 adding_called N11 e = (refl, refl)
-adding_called E0 e = absurd cc
-adding_called E1 e = absurd cc
-adding_called E2 e = absurd cc
-adding_called E3 e = absurd cc
-adding_called E4a e = absurd cc
-adding_called E4b e = absurd cc
-adding_called E4c e = absurd cc
-adding_called E4d e = absurd cc
-adding_called E4e e = absurd cc
-adding_called E4f e = absurd cc
-adding_called E4g e = absurd cc
-adding_called E4h e = absurd cc
-adding_called T e = absurd cc
-adding_called E5 e = absurd cc
-adding_called E6 e = absurd cc
-adding_called E7 e = absurd cc
+adding_called _ e = absurd cc
 
 reports_called : (l : Label) → is_among l (C3 ∷ C4 ∷ T ∷ []) ≡ true → (is_after_broadcast l ≡ true) × (is_reporting l ≡ true) × (is_among l (E4b ∷ []) ≡ false)
-reports_called F1 e = absurd cc
-reports_called F2 e = absurd cc
-reports_called F3 e = absurd cc
-reports_called F4 e = absurd cc
-reports_called F5 e = absurd cc
-reports_called F6 e = absurd cc
-reports_called R1 e = absurd cc
-reports_called R2 e = absurd cc
-reports_called R3 e = absurd cc
-reports_called R4 e = absurd cc
-reports_called R5 e = absurd cc
-reports_called R6 e = absurd cc
-reports_called S0 e = absurd cc
-reports_called S1 e = absurd cc
-reports_called S2 e = absurd cc
-reports_called S3 e = absurd cc
-reports_called S4 e = absurd cc
-reports_called C1 e = absurd cc
-reports_called C2 e = absurd cc
 reports_called C3 e = (refl, refl, refl)
 reports_called C4 e = (refl, refl, refl)
-reports_called C5 e = absurd cc
-reports_called C6 e = absurd cc
-reports_called NB e = absurd cc
-reports_called N0 e = absurd cc
-reports_called N1 e = absurd cc
-reports_called N2 e = absurd cc
-reports_called N3 e = absurd cc
-reports_called N4 e = absurd cc
-reports_called N5 e = absurd cc
-reports_called N6 e = absurd cc
-reports_called N7 e = absurd cc
-reports_called N8a e = absurd cc
-reports_called N8b e = absurd cc
-reports_called N9 e = absurd cc
-reports_called N10 e = absurd cc
-reports_called N11 e = absurd cc
-reports_called E0 e = absurd cc
-reports_called E1 e = absurd cc
-reports_called E2 e = absurd cc
-reports_called E3 e = absurd cc
-reports_called E4a e = absurd cc
-reports_called E4b e = absurd cc
-reports_called E4c e = absurd cc
-reports_called E4d e = absurd cc
-reports_called E4e e = absurd cc
-reports_called E4f e = absurd cc
-reports_called E4g e = absurd cc
-reports_called E4h e = absurd cc
 reports_called T e = (refl, refl, refl)
-reports_called E5 e = absurd cc
-reports_called E6 e = absurd cc
-reports_called E7 e = absurd cc
-
-anew_row : (p : Platform) (s : State) (l : Label) (a : Access) → want_at (layout_of p) (seat p s 0) s.monarch l ≡ Some (want.Do a) → is_among l (C3 ∷ C4 ∷ C6 ∷ T ∷ []) ≡ true → (is_collects l || false) ≡ true
-anew_row p s F1 a wants e = absurd cc
-anew_row p s F2 a wants e = absurd cc
-anew_row p s F3 a wants e = absurd cc
-anew_row p s F4 a wants e = absurd cc
-anew_row p s F5 a wants e = absurd cc
-anew_row p s F6 a wants e = absurd cc
-anew_row p s R1 a wants e = absurd cc
-anew_row p s R2 a wants e = absurd cc
-anew_row p s R3 a wants e = absurd cc
-anew_row p s R4 a wants e = absurd cc
-anew_row p s R5 a wants e = absurd cc
-anew_row p s R6 a wants e = absurd cc
-anew_row p s S0 a wants e = absurd cc
-anew_row p s S1 a wants e = absurd cc
-anew_row p s S2 a wants e = absurd cc
-anew_row p s S3 a wants e = absurd cc
-anew_row p s S4 a wants e = absurd cc
-anew_row p s C1 a wants e = absurd cc
-anew_row p s C2 a wants e = absurd cc
-anew_row p s C3 a wants e = refl
-anew_row p s C4 a wants e = refl
-anew_row p s C5 a wants e = absurd cc
-anew_row p s C6 a wants e = refl
-anew_row p s NB a wants e = absurd cc
-anew_row p s N0 a wants e = absurd cc
-anew_row p s N1 a wants e = absurd cc
-anew_row p s N2 a wants e = absurd cc
-anew_row p s N3 a wants e = absurd cc
-anew_row p s N4 a wants e = absurd cc
-anew_row p s N5 a wants e = absurd cc
-anew_row p s N6 a wants e = absurd cc
-anew_row p s N7 a wants e = absurd cc
-anew_row p s N8a a wants e = absurd cc
-anew_row p s N8b a wants e = absurd cc
-anew_row p s N9 a wants e = absurd cc
-anew_row p s N10 a wants e = absurd cc
-anew_row p s N11 a wants e = absurd cc
-anew_row p s E0 a wants e = absurd cc
-anew_row p s E1 a wants e = absurd cc
-anew_row p s E2 a wants e = absurd cc
-anew_row p s E3 a wants e = absurd cc
-anew_row p s E4a a wants e = absurd cc
-anew_row p s E4b a wants e = absurd cc
-anew_row p s E4c a wants e = absurd cc
-anew_row p s E4d a wants e = absurd cc
-anew_row p s E4e a wants e = absurd cc
-anew_row p s E4f a wants e = absurd cc
-anew_row p s E4g a wants e = absurd cc
-anew_row p s E4h a wants e = absurd cc
-anew_row p s T a wants e = absurd cc
-anew_row p s E5 a wants e = absurd cc
-anew_row p s E6 a wants e = absurd cc
-anew_row p s E7 a wants e = absurd cc
-
--- slots that keep their firmware eject
-slot_same : (f : Slot → Bool) (ss : List Slot) (k j : ℕ) (t : Slot) → f t ≡ f (slice_index_or ss k no_slot) → f (slice_index_or (slice_set ss k t) j no_slot) ≡ f (slice_index_or ss j no_slot)
-slot_same f [] k j t e = refl
-slot_same f (s ∷ ss) zero zero t e = e
-slot_same f (s ∷ ss) zero (suc j) t e = refl
-slot_same f (s ∷ ss) (suc k) zero t e = refl
-slot_same f (s ∷ ss) (suc k) (suc j) t e = slot_same f ss k j t e
-
-slot_there : (ss : List Slot) (k : ℕ) (t : Slot) → k < length ss → slice_index_or (slice_set ss k t) k no_slot ≡ t
-slot_there [] k t less = absurd (omega (arith, less))
-slot_there (s ∷ ss) zero t less = refl
-slot_there (s ∷ ss) (suc k) t less = slot_there ss k t (omega (arith, less))
-
-selected_is : (b : Block) → b.selector < length b.slots → is_selected b ≡ true
-selected_is b less = plain b.selector (length b.slots) less
-  where
-    plain : (a n : ℕ) → a < n → nat_lt a n ≡ true
-    plain a n less = grind (arith, nat_tests)
-
--- control 8 clears it
-eject_is : (b : Block) → b.modern ≡ true → b.selector < length b.slots → b.selector ≢ 0 → (slot_at b b.selector).enabled ≡ true → (slot_at (block_write b 4 1 8) b.selector).ejecting ≡ false
-eject_is b modern less other enabled =
-    let chosen = selected_is b less in
-    let first = is_other b.selector other in
-    let slot = slot_there b.slots b.selector (controlled (slot_at b b.selector) (b.selector == 0) 8) less in
-    let gone : (controlled (slot_at b b.selector) (b.selector == 0) 8).ejecting ≡ false = rw (first, enabled) refl in
-    let written : block_write b 4 1 8 ≡ write_control b 8 = rw (modern, chosen) refl in
-    ap (λ (c : Block). (slot_at c b.selector).ejecting) written ∙ (ap (λ (t : Slot). t.ejecting) slot ∙ gone)
-  where
-    is_other : (k : ℕ) → k ≢ 0 → (k == 0) ≡ false
-    is_other k n = grind (arith, nat_tests)
-
--- and without it bit 4 of the status byte is clear
-status_calm : (s : Slot) → s.ejecting ≡ false → (bit_and (status s) 0x10 == 0x10) ≡ false
-status_calm s e = by_bits s.enabled s.inserting s.removing s.ejecting e
-  where
-    by_bits : (a b c d : Bool) → d ≡ false → (bit_and (bit a + 2 * bit b + 4 * bit c + 16 * bit d) 0x10 == 0x10) ≡ false
-    by_bits true true true false f = refl
-    by_bits true true false false f = refl
-    by_bits true false true false f = refl
-    by_bits true false false false f = refl
-    by_bits false true true false f = refl
-    by_bits false true false false f = refl
-    by_bits false false true false f = refl
-    by_bits false false false false f = refl
-    by_bits a b c true f = absurd cc
+reports_called _ e = absurd cc
 
 module _ (p : Platform) (fit : Sound p) (ids : Ids p) (past : List Transition) (s : State) (standing : IsStood p s) (h : Invariant p past s)
     (lost : is_after_broadcast s.monarch.label ≡ true → s.disturbed ≡ false → Losses p (own_of p past) s.block s.cpus s.monarch) where
@@ -500,9 +103,6 @@ module _ (p : Platform) (fit : Sound p) (ids : Ids p) (past : List Transition) (
         kept = λ f. subst (λ own. is_none (departures p own) ≡ true) (sym (own_more p (made s e t) past goes)) (kept_more p (made s e t) (own_of p past) stays (x.kept f));
       }
 
-  out_of : (k : ℕ) → is_outside (at s k).mode ≡ true → smm_address (at s k) ≡ None
-  out_of k e = none_outside (at s k) (outside_in (at s k).mode e)
-
   inserts : (k : ℕ) (g : Stage) → k < count_of p → (at s k).present ≡ false → Follows (entry_by s (Insert k)) (ends (insert k s) g s.disturbed)
   inserts k g less gone =
       same_losses (entry_by s (Insert k)) (ends (insert k s) g s.disturbed) (elsewhere p (entry_by s (Insert k)) (λ m part. at_none p m (entry_by s (Insert k)) refl) refl refl)
@@ -518,7 +118,7 @@ module _ (p : Platform) (fit : Sound p) (ids : Ids p) (past : List Transition) (
   outside k a g free out after quiet =
       let same : (access_effect p k false a s).monarch ≡ s.monarch = (acts p k false a s).monarch in
       let after_s : is_after_broadcast s.monarch.label ≡ true = subst (λ (r : Monarch). is_after_broadcast r.label ≡ true) same after in
-      let both = flags s.disturbed (writes_block a) (is_after_broadcast s.monarch.label) after_s quiet in
+      let both = still_clear s.disturbed (writes_block a) (is_after_broadcast s.monarch.label) after_s quiet in
       let block = block_kept p k false a s both.1 in
       subst (λ r. Losses p (own_of p (made s e t ∷ past)) t.block t.cpus r) (sym same)
       (same_losses e t (elsewhere p e (λ m part. at_none p m e (none_outside (at s k) out)) refl refl) (λ j f. present_kept p k false a s j both.1 ∙ f) (λ j. ap (λ (b : Block). (slot_at b j).ejecting) block) (ap (λ (b : Block). b.selector) block) after_s both.0)
@@ -528,12 +128,6 @@ module _ (p : Platform) (fit : Sound p) (ids : Ids p) (past : List Transition) (
 
       t : State
       t = ends (access_effect p k false a s) g (s.disturbed || (writes_block a && is_after_broadcast s.monarch.label))
-
-      flags : (d w after : Bool) → after ≡ true → (d || (w && after)) ≡ false → (d ≡ false) × (w ≡ false)
-      flags true w after f q = absurd cc
-      flags false true true f q = absurd cc
-      flags false true false f q = absurd cc
-      flags false false after f q = (refl, refl)
 
   others : (k : ℕ) (l : Label) (a : Access) (g : Stage) → AtOther p s k l → want_at (layout_of p) (seat p s k) s.monarch l ≡ Some (want.Do a)
       → Follows (record { event = Do k a; answer = answer_to true a s; at = smm_address (at s k) }) (ends (led_on p s k l (value_in (answer_to true a s)) (access_effect p k true a s)) g s.disturbed)
@@ -563,16 +157,13 @@ module _ (p : Platform) (fit : Sound p) (ids : Ids p) (past : List Transition) (
 
   inits : (k : ℕ) (g : Stage) → may_take_init (at s k) ≡ true → Follows (entry_by s (TakeInit k)) (ends (set_cpu k (take_init (at s k)) s) g s.disturbed)
   inits k g may =
-      same_losses (entry_by s (TakeInit k)) (ends (set_cpu k (take_init (at s k)) s) g s.disturbed) (elsewhere p (entry_by s (TakeInit k)) (λ m part. at_none p m (entry_by s (TakeInit k)) (out_of k (and_parts (at s k).init (is_outside (at s k).mode) (and_parts (not (at s k).smi) ((at s k).init && is_outside (at s k).mode) (and_parts (at s k).present (not (at s k).smi && ((at s k).init && is_outside (at s k).mode)) may).1).1).1)) refl refl)
+      same_losses (entry_by s (TakeInit k)) (ends (set_cpu k (take_init (at s k)) s) g s.disturbed) (elsewhere p (entry_by s (TakeInit k)) (λ m part. at_none p m (entry_by s (TakeInit k)) (init_outside (at s k) may)) refl refl)
       (present_set p fit ids past s standing h k (take_init (at s k)) refl) (λ j. refl) refl
 
   returns : (k : ℕ) (l : Label) (g : Stage) → AtOther p s k l → (l ≡ F6) ⊎ (l ≡ R5) → Follows (entry_by s (Resume k)) (ends (leave_smm k s) g s.disturbed)
   returns k l g here where_is =
-      same_losses (entry_by s (Resume k)) (ends (leave_smm k s) g s.disturbed) (elsewhere p (entry_by s (Resume k)) (λ m part. at_other p l m (entry_by s (Resume k)) k (at s k).smbase fit here.runs here.part here.place part) refl (is_0 k here.other))
+      same_losses (entry_by s (Resume k)) (ends (leave_smm k s) g s.disturbed) (elsewhere p (entry_by s (Resume k)) (λ m part. at_other p l m (entry_by s (Resume k)) k (at s k).smbase fit here.runs here.part here.place part) refl (is_other k here.other))
       (present_set p fit ids past s standing h k (resumed (saved_smbase s.locks s.writes (at s k)) (saved_rip s.locks s.writes (at s k)) (at s k)) refl) (λ j. refl) refl
-    where
-      is_0 : (k : ℕ) → k ≢ 0 → (k == 0) ≡ false
-      is_0 k n = grind (arith, nat_tests)
 
   rests : (g : Stage) → AtMonarch p s E7 → Follows (entry_by s (Resume 0)) (ends (leave_smm 0 s) g s.disturbed)
   rests g here after quiet = no_more (is_after_broadcast s.monarch.label) (let label = here.label in rw label refl) after
@@ -587,7 +178,7 @@ module _ (p : Platform) (fit : Sound p) (ids : Ids p) (past : List Transition) (
       to b = ends (cond b (record (enter_smm k s) { monarch = restarted s.monarch }) (enter_smm k s)) g s.disturbed
 
       out : smm_address (at s k) ≡ None
-      out = out_of k (and_parts (at s k).smi (is_outside (at s k).mode) (and_parts (at s k).present ((at s k).smi && is_outside (at s k).mode) may).1).1
+      out = may_outside (at s k) may
 
       begins : Follows e (to true)
       begins after quiet = absurd cc
@@ -751,11 +342,9 @@ module _ (p : Platform) (fit : Sound p) (ids : Ids p) (past : List Transition) (
   losses_go e t is = by_kind p s Follows standing kinds e t is
 
   -- what is told
-  abbrev Test : Entry → State → Type 0
-  Test e t = when_told p (loses_none p) past s (outcome_in e.event) ≡ true
 
   told_test : (o : Outcome) → AtMonarch p s T → same_outcome o s.monarch.outcome ≡ true → (may_lose o || (is_disturbed p (entries_of past) || is_none (departures p (own_of p past)))) ≡ true
-  told_test o here same = subst (λ w. (may_lose w || (is_disturbed p (entries_of past) || is_none (departures p (own_of p past)))) ≡ true) (sym (same_outcome-is o s.monarch.outcome same)) (by_flag s.disturbed refl)
+  told_test o here same = subst (λ w. (may_lose w || (is_disturbed p (entries_of past) || is_none (departures p (own_of p past)))) ≡ true) (sym (same_outcome-equal o s.monarch.outcome same)) (by_flag s.disturbed refl)
     where
       after : is_after_broadcast s.monarch.label ≡ true
       after = let label = here.label in rw label refl
@@ -774,96 +363,5 @@ module _ (p : Platform) (fit : Sound p) (ids : Ids p) (past : List Transition) (
               keeping : is_keeping s.monarch ≡ true → is_keeping s.monarch ≡ true
               keeping f = f
 
-  -- and whom it blames
-  abbrev Blames : Entry → State → Type 0
-  Blames e t = when_told p (blames_rightly p) past s (outcome_in e.event) ≡ true
-
-  blame_test : (o : Outcome) → AtMonarch p s T → same_outcome o s.monarch.outcome ≡ true → (not (is_blaming o) || is_disturbed p (entries_of past)) ≡ true
-  blame_test o here same = subst (λ w. (not (is_blaming w) || is_disturbed p (entries_of past)) ≡ true) (sym (same_outcome-is o s.monarch.outcome same)) (by_flag s.disturbed refl)
-    where
-      after : is_after_broadcast s.monarch.label ≡ true
-      after = let label = here.label in rw label refl
-
-      flag : is_disturbed p (entries_of past) ≡ s.disturbed
-      flag = (h.tied.called after).2
-
-      by_flag : (b : Bool) → s.disturbed ≡ b → (not (is_blaming s.monarch.outcome) || is_disturbed p (entries_of past)) ≡ true
-      by_flag true is = or_right (not (is_blaming s.monarch.outcome)) _ (flag ∙ is)
-      by_flag false is = let tame = (lost after is).tame (let label = here.label in rw label refl) in rw tame refl
-
-  blames : Kinds p s Blames
-  blames = record {
-    inserts = λ k g less gone. refl;
-    removes = λ k g. refl;
-    outside = λ k a g free out. refl;
-    monarchs = λ l a g here wants. refl;
-    others = λ k l a g here wants. refl;
-    enters = λ k g may. refl;
-    inits = λ k g may. refl;
-    rests = λ g here. refl;
-    returns = λ k l g here where_is. refl;
-    tells = λ o g here same. blame_test o here same;
-  }
-
-  pub blamed_after : (e : Entry) (t : State) → run_on p s e ≡ Some t → Blames e t
-  blamed_after e t is = by_kind p s Blames standing blames e t is
-
-  tests : Kinds p s Test
-  tests = record {
-    inserts = λ k g less gone. refl;
-    removes = λ k g. refl;
-    outside = λ k a g free out. refl;
-    monarchs = λ l a g here wants. refl;
-    others = λ k l a g here wants. refl;
-    enters = λ k g may. refl;
-    inits = λ k g may. refl;
-    rests = λ g here. refl;
-    returns = λ k l g here where_is. refl;
-    tells = λ o g here same. told_test o here same;
-  }
-
-  pub lost_after : (e : Entry) (t : State) → run_on p s e ≡ Some t → Test e t
-  lost_after e t is = by_kind p s Test standing tests e t is
-
--- over runs
-record Lossless (p : Platform) (past : List Transition) (s : State) : Type 0 where
-  whole : Whole p past s
-  losses : is_handed s.stage ≡ true → is_after_broadcast s.monarch.label ≡ true → s.disturbed ≡ false → Losses p (own_of p past) s.block s.cpus s.monarch
-
-begins : (p : Platform) → IsFit p → Lossless p [] (start p)
-begins p fits = record { whole = whole_begins p fits; losses = λ e after quiet. absurd cc }
-
--- handed over at S0
-fresh_label : (p : Platform) (past : List Transition) (s t : State) (e : Entry) → Sound p → Whole p past s → run_on p s e ≡ Some t → is_handed s.stage ≡ false → is_handed t.stage ≡ true → is_after_broadcast t.monarch.label ≡ false
-fresh_label p past s t e fit h is before handed = fresh_at_hand_over p s t e fit h.good before is handed
-
-lossless_goes : (p : Platform) → Sound p → Ids p → (past : List Transition) (s t : State) (e : Entry) → Lossless p past s → run_on p s e ≡ Some t → Lossless p (made s e t ∷ past) t
-lossless_goes p fit ids past s t e h is = record { whole = whole_goes p fit ids past s t e h.whole is; losses = by_stage (is_handed s.stage) refl }
-  where
-    by_stage : (b : Bool) → is_handed s.stage ≡ b → is_handed t.stage ≡ true → is_after_broadcast t.monarch.label ≡ true → t.disturbed ≡ false → Losses p (own_of p (made s e t ∷ past)) t.block t.cpus t.monarch
-    by_stage true on over after quiet = losses_go p fit ids past s (stood p s fit (handed_of p s h.whole.good on)) (h.whole.handed on) (h.losses on) e t is after quiet
-    by_stage false on over after quiet = no_more (is_after_broadcast t.monarch.label) (fresh_label p past s t e fit h.whole is on over) after
-
-test_passes : (p : Platform) → Sound p → Ids p → (past : List Transition) (s t : State) (e : Entry) → Lossless p past s → run_on p s e ≡ Some t → when_told p (loses_none p) past s (outcome_in e.event) ≡ true
-test_passes p fit ids past s t e h is = by_stage (is_handed s.stage) refl
-  where
-    by_stage : (b : Bool) → is_handed s.stage ≡ b → when_told p (loses_none p) past s (outcome_in e.event) ≡ true
-    by_stage true on = lost_after p fit ids past s (stood p s fit (handed_of p s h.whole.good on)) (h.whole.handed on) (h.losses on) e t is
-    by_stage false on = let boots = access_before p s t e h.whole.good on is in subst (λ v. when_told p (loses_none p) past s (outcome_in v) ≡ true) (sym boots.1) refl
-
-pub law : (p : Platform) (es : List Entry) → IsFit p → each_told p (loses_none p) (transitions p es) ≡ true
-law p es fits =
-    each_passes p (Lossless p) (λ past s t e h is. lossless_goes p (sound p fits) (ids_of p fits) past s t e h is) (λ older x. when_told p (loses_none p) older x.before (outcome_in x.entry.event))
-    (λ past s t e h is. test_passes p (sound p fits) (ids_of p fits) past s t e h is) (begins p fits) es
-
-blame_passes : (p : Platform) → Sound p → Ids p → (past : List Transition) (s t : State) (e : Entry) → Lossless p past s → run_on p s e ≡ Some t → when_told p (blames_rightly p) past s (outcome_in e.event) ≡ true
-blame_passes p fit ids past s t e h is = by_stage (is_handed s.stage) refl
-  where
-    by_stage : (b : Bool) → is_handed s.stage ≡ b → when_told p (blames_rightly p) past s (outcome_in e.event) ≡ true
-    by_stage true on = blamed_after p fit ids past s (stood p s fit (handed_of p s h.whole.good on)) (h.whole.handed on) (h.losses on) e t is
-    by_stage false on = let boots = access_before p s t e h.whole.good on is in subst (λ v. when_told p (blames_rightly p) past s (outcome_in v) ≡ true) (sym boots.1) refl
-
-pub blames_law : (p : Platform) (es : List Entry) → IsFit p → each_told p (blames_rightly p) (transitions p es) ≡ true
-blames_law p es fits =
-    each_passes p (Lossless p) (λ past s t e h is. lossless_goes p (sound p fits) (ids_of p fits) past s t e h is) (λ older x. when_told p (blames_rightly p) older x.before (outcome_in x.entry.event))
-    (λ past s t e h is. blame_passes p (sound p fits) (ids_of p fits) past s t e h is) (begins p fits) es
+  pub lost_after : (e : Entry) (t : State) → run_on p s e ≡ Some t → when_told p (loses_none p) past s (outcome_in e.event) ≡ true
+  lost_after e t is = told_by p (loses_none p) past s standing told_test e t is

@@ -2,7 +2,7 @@
 use Rattle.std.proofs.Common.{ℕ, ◌≡◌, ◌≢◌, ◌==◌, Bool, true, false, nat_lt, nat_le, List, [], ◌∷◌, drop, bit_and, refl, sym, ◌∙◌, Option, Some, None, not, subst, ap}
 use Rattle.std.specs.List.{list_any}
 use Rattle.hp_model.specs.declared.labels.Label.{Label}
-use Rattle.hp_model.specs.declared.labels.Label.TheVariants.{F1, F2, F3, F4, F5, F6, R1, R2, R3, R4, R5, R6, S0, S1, S2, S3, S4, C1, C2, C3, C4, C5, C6, NB, N0, N1, N2, N3, N4, N5, N6, N7, N8a, N8b, N9, N10, N11, E0, E1, E2, E3, E4a, E4b, E4c, E4d, E4e, E4f, E4g, E4h, T, E5, E6, E7}
+use Rattle.hp_model.specs.declared.labels.Label.TheVariants.{F1, F2, F3, F4, F5, F6, R1, R2, R3, R4, R5, R6, NB, N0, N1, N2, N3, N4, N5, N6, N7, N8a, N8b, N9, N10, N11, E0, E1, E2, E3, E4a, E4b, E4c, E4d, E4e, E4f, E4g, E4h, T, E5}
 use Rattle.hp_model.specs.declared.outcomes.Outcome.{Outcome}
 use Rattle.hp_model.specs.declared.outcomes.Outcome.TheVariants.{Added, Refused}
 use Rattle.hp_model.specs.declared.outcomes.Refusal.TheVariants.{Foreign, Disabled, Both, AlreadyKnown, GateHeld, NoUnplug, NotKnown, NotArrived}
@@ -13,7 +13,7 @@ use Rattle.hp_model.specs.Add.{Led, AddsAt, Ends, failed, is_last_look}
 use Rattle.hp_model.specs.Eject.{EjectLed, EjectsAt, EjectEnds}
 use Rattle.hp_model.specs.Monarch.{Monarch, Class, Tells, Adds, Ejects, refuses, class, facts_of, at_label, tells, adds, ejects, took, answered, taken_up, next_report, led, eject_led, held_class, insert_class, eject_class, Facts}
 use Rattle.hp_model.specs.Handlers.{Seat, next_at}
-use Rattle.hp_exact.specs.Refusals.{is_blaming}
+use Rattle.hp_exact.proofs.Refusals.{is_blaming}
 use Rattle.hp_sealed.proofs.Left.{pick, pick_by}
 
 -- the label is one of these
@@ -40,47 +40,7 @@ next_other y x r R3 v other = refl
 next_other y x r R4 v other = refl
 next_other y x r R5 v other = refl
 next_other y x r R6 v other = refl
-next_other y x r S0 v other = absurd (other refl)
-next_other y x r S1 v other = absurd (other refl)
-next_other y x r S2 v other = absurd (other refl)
-next_other y x r S3 v other = absurd (other refl)
-next_other y x r S4 v other = absurd (other refl)
-next_other y x r C1 v other = absurd (other refl)
-next_other y x r C2 v other = absurd (other refl)
-next_other y x r C3 v other = absurd (other refl)
-next_other y x r C4 v other = absurd (other refl)
-next_other y x r C5 v other = absurd (other refl)
-next_other y x r C6 v other = absurd (other refl)
-next_other y x r NB v other = absurd (other refl)
-next_other y x r N0 v other = absurd (other refl)
-next_other y x r N1 v other = absurd (other refl)
-next_other y x r N2 v other = absurd (other refl)
-next_other y x r N3 v other = absurd (other refl)
-next_other y x r N4 v other = absurd (other refl)
-next_other y x r N5 v other = absurd (other refl)
-next_other y x r N6 v other = absurd (other refl)
-next_other y x r N7 v other = absurd (other refl)
-next_other y x r N8a v other = absurd (other refl)
-next_other y x r N8b v other = absurd (other refl)
-next_other y x r N9 v other = absurd (other refl)
-next_other y x r N10 v other = absurd (other refl)
-next_other y x r N11 v other = absurd (other refl)
-next_other y x r E0 v other = absurd (other refl)
-next_other y x r E1 v other = absurd (other refl)
-next_other y x r E2 v other = absurd (other refl)
-next_other y x r E3 v other = absurd (other refl)
-next_other y x r E4a v other = absurd (other refl)
-next_other y x r E4b v other = absurd (other refl)
-next_other y x r E4c v other = absurd (other refl)
-next_other y x r E4d v other = absurd (other refl)
-next_other y x r E4e v other = absurd (other refl)
-next_other y x r E4f v other = absurd (other refl)
-next_other y x r E4g v other = absurd (other refl)
-next_other y x r E4h v other = absurd (other refl)
-next_other y x r T v other = absurd (other refl)
-next_other y x r E5 v other = absurd (other refl)
-next_other y x r E6 v other = absurd (other refl)
-next_other y x r E7 v other = absurd (other refl)
+next_other y x r _ v other = absurd (other refl)
 
 -- an add goes on, or is told
 pub record AddsOn (r t : Monarch) : Type 0 where
@@ -108,29 +68,6 @@ adds_failed r last o tame = pick (LedOn r last) (nat_lt r.add.attempt 3) _ (Ends
 
 -- at each label of an add
 pub adds_on : (y : Layout) (x : Seat) (r : Monarch) (l : Label) (v : ℕ) → is_among l adding ≡ true → AddsOn r (next_at y x r l v).monarch
-adds_on y x r F1 v is = absurd cc
-adds_on y x r F2 v is = absurd cc
-adds_on y x r F3 v is = absurd cc
-adds_on y x r F4 v is = absurd cc
-adds_on y x r F5 v is = absurd cc
-adds_on y x r F6 v is = absurd cc
-adds_on y x r R1 v is = absurd cc
-adds_on y x r R2 v is = absurd cc
-adds_on y x r R3 v is = absurd cc
-adds_on y x r R4 v is = absurd cc
-adds_on y x r R5 v is = absurd cc
-adds_on y x r R6 v is = absurd cc
-adds_on y x r S0 v is = absurd cc
-adds_on y x r S1 v is = absurd cc
-adds_on y x r S2 v is = absurd cc
-adds_on y x r S3 v is = absurd cc
-adds_on y x r S4 v is = absurd cc
-adds_on y x r C1 v is = absurd cc
-adds_on y x r C2 v is = absurd cc
-adds_on y x r C3 v is = absurd cc
-adds_on y x r C4 v is = absurd cc
-adds_on y x r C5 v is = absurd cc
-adds_on y x r C6 v is = absurd cc
 adds_on y x r NB v is = adds_at r r.last N0 _ _ _ refl refl
 adds_on y x r N0 v is = adds_at r r.last N1 _ _ _ refl refl
 adds_on y x r N1 v is = adds_at r r.last N2 _ _ _ refl refl
@@ -145,22 +82,7 @@ adds_on y x r N8b v is = pick (LedOn r _) (v == 1) _ _ (adds_at r _ N9 _ _ _ ref
 adds_on y x r N9 v is = pick (LedOn r r.last) r.add.seen _ _ (adds_at r r.last N10 _ _ _ refl refl) (adds_failed r r.last _ refl)
 adds_on y x r N10 v is = adds_at r r.last N11 _ _ _ refl refl
 adds_on y x r N11 v is = pick (LedOn r _) (v == 1) _ _ (adds_told r _ _ refl) (pick (LedOn r _) (is_last_look r.add) _ _ (adds_failed r _ _ refl) (adds_at r _ N11 _ _ _ refl refl))
-adds_on y x r E0 v is = absurd cc
-adds_on y x r E1 v is = absurd cc
-adds_on y x r E2 v is = absurd cc
-adds_on y x r E3 v is = absurd cc
-adds_on y x r E4a v is = absurd cc
-adds_on y x r E4b v is = absurd cc
-adds_on y x r E4c v is = absurd cc
-adds_on y x r E4d v is = absurd cc
-adds_on y x r E4e v is = absurd cc
-adds_on y x r E4f v is = absurd cc
-adds_on y x r E4g v is = absurd cc
-adds_on y x r E4h v is = absurd cc
-adds_on y x r T v is = absurd cc
-adds_on y x r E5 v is = absurd cc
-adds_on y x r E6 v is = absurd cc
-adds_on y x r E7 v is = absurd cc
+adds_on y x r _ v is = absurd cc
 
 -- an eject goes on, or is told
 pub record EjectsOn (r t : Monarch) : Type 0 where
@@ -183,43 +105,6 @@ EjectLedOn r w = EjectsOn r (eject_led w r)
 
 -- at each label of an eject
 pub ejects_on : (y : Layout) (x : Seat) (r : Monarch) (l : Label) (v : ℕ) → is_among l ejecting ≡ true → EjectsOn r (next_at y x r l v).monarch
-ejects_on y x r F1 v is = absurd cc
-ejects_on y x r F2 v is = absurd cc
-ejects_on y x r F3 v is = absurd cc
-ejects_on y x r F4 v is = absurd cc
-ejects_on y x r F5 v is = absurd cc
-ejects_on y x r F6 v is = absurd cc
-ejects_on y x r R1 v is = absurd cc
-ejects_on y x r R2 v is = absurd cc
-ejects_on y x r R3 v is = absurd cc
-ejects_on y x r R4 v is = absurd cc
-ejects_on y x r R5 v is = absurd cc
-ejects_on y x r R6 v is = absurd cc
-ejects_on y x r S0 v is = absurd cc
-ejects_on y x r S1 v is = absurd cc
-ejects_on y x r S2 v is = absurd cc
-ejects_on y x r S3 v is = absurd cc
-ejects_on y x r S4 v is = absurd cc
-ejects_on y x r C1 v is = absurd cc
-ejects_on y x r C2 v is = absurd cc
-ejects_on y x r C3 v is = absurd cc
-ejects_on y x r C4 v is = absurd cc
-ejects_on y x r C5 v is = absurd cc
-ejects_on y x r C6 v is = absurd cc
-ejects_on y x r NB v is = absurd cc
-ejects_on y x r N0 v is = absurd cc
-ejects_on y x r N1 v is = absurd cc
-ejects_on y x r N2 v is = absurd cc
-ejects_on y x r N3 v is = absurd cc
-ejects_on y x r N4 v is = absurd cc
-ejects_on y x r N5 v is = absurd cc
-ejects_on y x r N6 v is = absurd cc
-ejects_on y x r N7 v is = absurd cc
-ejects_on y x r N8a v is = absurd cc
-ejects_on y x r N8b v is = absurd cc
-ejects_on y x r N9 v is = absurd cc
-ejects_on y x r N10 v is = absurd cc
-ejects_on y x r N11 v is = absurd cc
 ejects_on y x r E0 v is = ejects_at r E1 _ _ refl
 ejects_on y x r E1 v is = ejects_at r E2 _ _ refl
 ejects_on y x r E2 v is = pick (EjectLedOn r) (v == 1) _ _ (ejects_at r E4a _ _ refl) (pick (EjectLedOn r) (nat_le r.eject.polls 1) _ _ (ejects_at r E3 _ _ refl) (ejects_at r E2 _ _ refl))
@@ -232,10 +117,7 @@ ejects_on y x r E4e v is = ejects_told r _
 ejects_on y x r E4f v is = ejects_at r E4g _ _ refl
 ejects_on y x r E4g v is = pick (EjectLedOn r) (bit_and v 0x10 == 0x10) _ _ (ejects_at r E4h _ _ refl) (ejects_at r E4c _ _ refl)
 ejects_on y x r E4h v is = ejects_told r _
-ejects_on y x r T v is = absurd cc
-ejects_on y x r E5 v is = absurd cc
-ejects_on y x r E6 v is = absurd cc
-ejects_on y x r E7 v is = absurd cc
+ejects_on y x r _ v is = absurd cc
 
 -- an add or an eject begins of a report whose APIC ID is its processor's own; and an add of one whose processor is there
 pub record Passed (apics : List ℕ) (r : Monarch) (t : Report) : Type 0 where

@@ -1,20 +1,17 @@
 -- APIC IDs name processors.
-use Rattle.std.proofs.Common.{ℕ, zero, suc, ◌≡◌, ◌≢◌, ◌<◌, ◌≤◌, ◌==◌, Bool, true, false, cond, not, nat_le, List, [], ◌∷◌, length, Option, Some, None, refl, arith, if◌then◌else◌}
+use Rattle.std.proofs.Common.{ℕ, zero, suc, ◌≡◌, ◌≢◌, ◌<◌, ◌≤◌, ◌==◌, Bool, true, false, not, nat_le, List, [], ◌∷◌, length, refl, arith, if◌then◌else◌}
 use Rattle.std.specs.Prelude.{slice_index_or, slice_get}
 use Rattle.std.specs.List.{list_all}
 use Rattle.std.proofs.lemmas.Bool.{and_parts, eqb-true}
 use Rattle.std.proofs.lemmas.Bool.Decides.{nat_tests}
 use Rattle.hp_model.specs.declared.platforms.Platform.{Platform}
-use Rattle.hp_model.specs.Platform.{IsFit, counts_fit, ids_fit, all_distinct, count_of, apic_of, greatest_id, high_half}
+use Rattle.hp_model.specs.Platform.{IsFit, all_distinct, count_of, apic_of, greatest_id, high_half}
 use Rattle.hp_model.specs.Interrupts.{destination}
 use Rattle.hp_model.specs.Collection.{Report}
 use Rattle.hp_model.specs.Monarch.{is_that, is_own}
 use Rattle.hp_sealed.specs.Left.{Sound}
 use Rattle.hp_sealed.proofs.BootSlots.{ids_differ}
-
-passed : (b : Bool) (n : ℕ) (rest : Option ℕ) → cond (not b) (Some n) rest ≡ None → (b ≡ true) × (rest ≡ None)
-passed true n rest e = (refl, e)
-passed false n rest e = absurd cc
+use Rattle.hp_sealed.proofs.Starts.{fits}
 
 -- each possible processor's APIC ID fits an interrupt command
 pub record Ids (p : Platform) : Type 0 where
@@ -22,9 +19,7 @@ pub record Ids (p : Platform) : Type 0 where
 
 pub ids_of : (p : Platform) → IsFit p → Ids p
 ids_of p e =
-    let a = passed (counts_fit p) 2 _ e in
-    let b = passed (ids_fit p) 3 _ a.1 in
-    record { small = λ k less. each (greatest_id p) p.apic k less (and_parts (list_all (λ a. nat_le a (greatest_id p)) p.apic) (all_distinct p.apic) b.0).0 }
+    record { small = λ k less. each (greatest_id p) p.apic k less (and_parts (list_all (λ a. nat_le a (greatest_id p)) p.apic) (all_distinct p.apic) (fits p e).ids).0 }
   where
     one : (a most : ℕ) → nat_le a most ≡ true → a ≤ most
     one a most e = grind (arith, nat_tests)
@@ -33,6 +28,13 @@ ids_of p e =
     each most [] k less e = absurd (omega (arith, less))
     each most (a ∷ as') zero less e = one a most (and_parts (nat_le a most) (list_all (λ a. nat_le a most) as') e).0
     each most (a ∷ as') (suc k) less e = each most as' k (omega (arith, less)) (and_parts (nat_le a most) (list_all (λ a. nat_le a most) as') e).1
+
+-- at least one look
+pub polled : (p : Platform) → IsFit p → 1 ≤ p.polls
+polled p e = plain p.polls (and_parts (nat_le 1 p.polls) (nat_le p.polls 4096) (fits p e).polls).0
+  where
+    plain : (n : ℕ) → nat_le 1 n ≡ true → 1 ≤ n
+    plain n e = grind (arith, nat_tests)
 
 -- the destination of a command to one APIC ID
 pub aimed : (x2apic : Bool) (apic : ℕ) → apic ≤ (if x2apic then 0xfffffffe else 254) → destination x2apic (high_half x2apic apic) ≡ apic

@@ -4,7 +4,7 @@ use Rattle.std.specs.List.{list_all}
 use Rattle.std.proofs.lemmas.Bool.{ltb-true}
 use Rattle.std.proofs.lemmas.Bool.Decides.{nat_tests}
 use Rattle.hp_model.specs.declared.labels.Label.{Label}
-use Rattle.hp_model.specs.declared.labels.Label.TheVariants.{F1, F2, F3, F4, F5, F6, R1, R2, R3, R4, R5, R6, S0, S1, S2, S3, S4, C1, C2, C3, C4, C5, C6, NB, N0, N1, N2, N3, N4, N5, N6, N7, N8a, N8b, N9, N10, N11, E0, E1, E2, E3, E4a, E4b, E4c, E4d, E4e, E4f, E4g, E4h, T, E5, E6, E7}
+use Rattle.hp_model.specs.declared.labels.Label.TheVariants.{S0, S1, S2, S3, S4, C1, C2, C3, C4, C5, C6, NB, N0, N1, N2, N3, N4, N5, N6, N7, N8a, N8b, N9, N10, N11, E0, E1, E2, E3, E4a, E4b, E4c, E4d, E4e, E4f, E4g, E4h, T, E5, E6, E7}
 use Rattle.hp_model.specs.declared.outcomes.Outcome.{Outcome}
 use Rattle.hp_model.specs.declared.outcomes.Outcome.TheVariants.{Added, Ejected, Refused}
 use Rattle.hp_model.specs.Labels.{Monarch as Monarchs, part_of}
@@ -140,18 +140,6 @@ ordered_ejects n r t h on =
 
 -- at each label
 pub ordered_row : (y : Layout) (x : Seat) (r : Monarch) (l : Label) (v : ℕ) → 1 ≤ y.count → part_of l ≡ Monarchs → r.label ≡ l → Ordered y.count r → Ordered y.count (next_at y x r l v).monarch
-ordered_row y x r F1 v some mine is h = absurd cc
-ordered_row y x r F2 v some mine is h = absurd cc
-ordered_row y x r F3 v some mine is h = absurd cc
-ordered_row y x r F4 v some mine is h = absurd cc
-ordered_row y x r F5 v some mine is h = absurd cc
-ordered_row y x r F6 v some mine is h = absurd cc
-ordered_row y x r R1 v some mine is h = absurd cc
-ordered_row y x r R2 v some mine is h = absurd cc
-ordered_row y x r R3 v some mine is h = absurd cc
-ordered_row y x r R4 v some mine is h = absurd cc
-ordered_row y x r R5 v some mine is h = absurd cc
-ordered_row y x r R6 v some mine is h = absurd cc
 ordered_row y x r S0 v some mine is h = ordered_first y.count r S1 S2 refl refl refl (core y.count r h)
 ordered_row y x r S1 v some mine is h = ordered_slot y.count r S1 S2 refl refl refl (core y.count r h)
 ordered_row y x r S2 v some mine is h = ordered_look y.count y.polls (known_from r.slots 1) r (core y.count r h)
@@ -199,6 +187,7 @@ ordered_row y x r T v some mine is h = ordered_next y.count y.apics (told r.outc
 ordered_row y x r E5 v some mine is h = ordered_first y.count r E6 E7 refl refl refl (core y.count r h)
 ordered_row y x r E6 v some mine is h = ordered_slot y.count r E6 E7 refl refl refl (core y.count r h)
 ordered_row y x r E7 v some mine is h = h
+ordered_row y x r _ v some mine is h = absurd cc
 
 -- and as a session begins
 pub ordered_begun : (n : ℕ) (r : Monarch) → Ordered n r → Ordered n (restarted r)

@@ -1,11 +1,11 @@
--- Ejects: the eject's processor has a slot, has parked in its tile before it is ejected, and it alone leaves. What each label's record says, and where rows lead.
+-- What is said of an eject's processor, label by label: it has a slot, has parked in its tile before it is ejected, and it alone leaves; and where rows lead.
 use Rattle.std.proofs.Common.{ℕ, ◌≡◌, ◌+◌, ◌-◌, ◌<◌, ◌==◌, Bool, true, false, not, ◌&&◌, ◌||◌, nat_lt, nat_le, List, [], ◌∷◌, ◌++◌, length, drop, Option, Some, None, bit_and, refl, sym, ap, subst, ◌∙◌, arith}
 use Rattle.std.proofs.lemmas.Bool.{and_from}
 use Rattle.std.proofs.lemmas.Bool.Decides.{nat_tests}
 use Rattle.hp_model.specs.declared.platforms.Platform.{Platform}
 use Rattle.hp_model.specs.declared.processors.Cpu.{Cpu}
 use Rattle.hp_model.specs.declared.labels.Label.{Label}
-use Rattle.hp_model.specs.declared.labels.Label.TheVariants.{F1, F2, F3, F4, F5, F6, R1, R2, R3, R4, R5, R6, S0, S1, S2, S3, S4, C1, C2, C3, C4, C5, C6, NB, N0, N1, N2, N3, N4, N5, N6, N7, N8a, N8b, N9, N10, N11, E0, E1, E2, E3, E4a, E4b, E4c, E4d, E4e, E4f, E4g, E4h, T, E5, E6, E7}
+use Rattle.hp_model.specs.declared.labels.Label.TheVariants.{F1, F2, F3, F4, F5, F6, R1, R2, R3, R4, R5, R6, S0, S1, S2, S3, S4, C1, C3, C4, C5, C6, N8a, N8b, N9, N11, E0, E1, E2, E3, E4a, E4b, E4c, E4d, E4e, E4f, E4g, E4h, T, E5, E6, E7}
 use Rattle.hp_model.specs.declared.outcomes.Outcome.{Outcome}
 use Rattle.hp_model.specs.declared.outcomes.Outcome.TheVariants.{Added, Ejected, Refused}
 use Rattle.hp_model.specs.declared.outcomes.Refusal.{Refusal}
@@ -65,47 +65,9 @@ Gone p own d r (Refused why) = Unit {0}
 
 -- by the label at which the monarch stands
 abbrev pub PartsAt : Platform → List Transition → Bool → List Cpu → List Write → Monarch → Label → Type 0
-PartsAt p own d cs ws r F1 = Unit {0}
-PartsAt p own d cs ws r F2 = Unit {0}
-PartsAt p own d cs ws r F3 = Unit {0}
-PartsAt p own d cs ws r F4 = Unit {0}
-PartsAt p own d cs ws r F5 = Unit {0}
-PartsAt p own d cs ws r F6 = Unit {0}
-PartsAt p own d cs ws r R1 = Unit {0}
-PartsAt p own d cs ws r R2 = Unit {0}
-PartsAt p own d cs ws r R3 = Unit {0}
-PartsAt p own d cs ws r R4 = Unit {0}
-PartsAt p own d cs ws r R5 = Unit {0}
-PartsAt p own d cs ws r R6 = Unit {0}
-PartsAt p own d cs ws r S0 = Unit {0}
-PartsAt p own d cs ws r S1 = Unit {0}
-PartsAt p own d cs ws r S2 = Unit {0}
-PartsAt p own d cs ws r S3 = Unit {0}
-PartsAt p own d cs ws r S4 = Unit {0}
-PartsAt p own d cs ws r C1 = Unit {0}
-PartsAt p own d cs ws r C2 = Unit {0}
-PartsAt p own d cs ws r C3 = Unit {0}
-PartsAt p own d cs ws r C4 = Unit {0}
-PartsAt p own d cs ws r C5 = Unit {0}
-PartsAt p own d cs ws r C6 = Unit {0}
-PartsAt p own d cs ws r NB = Unit {0}
-PartsAt p own d cs ws r N0 = Unit {0}
-PartsAt p own d cs ws r N1 = Unit {0}
-PartsAt p own d cs ws r N2 = Unit {0}
-PartsAt p own d cs ws r N3 = Unit {0}
-PartsAt p own d cs ws r N4 = Unit {0}
-PartsAt p own d cs ws r N5 = Unit {0}
-PartsAt p own d cs ws r N6 = Unit {0}
-PartsAt p own d cs ws r N7 = Unit {0}
-PartsAt p own d cs ws r N8a = Unit {0}
-PartsAt p own d cs ws r N8b = Unit {0}
-PartsAt p own d cs ws r N9 = Unit {0}
-PartsAt p own d cs ws r N10 = Unit {0}
-PartsAt p own d cs ws r N11 = Unit {0}
 PartsAt p own d cs ws r E0 = Seated p r
 PartsAt p own d cs ws r E1 = Seated p r × Waits p d cs ws r
 PartsAt p own d cs ws r E2 = Seated p r × Waits p d cs ws r
-PartsAt p own d cs ws r E3 = Unit {0}
 PartsAt p own d cs ws r E4a = Seated p r × (d ≡ false → Parked p r.eject.slot (cpu_at cs r.eject.cpu))
 PartsAt p own d cs ws r E4b = Seated p r × (d ≡ false → Parked p r.eject.slot (cpu_at cs r.eject.cpu))
 PartsAt p own d cs ws r E4c = Seated p r × Alone p own d r
@@ -113,11 +75,8 @@ PartsAt p own d cs ws r E4d = Seated p r × Alone p own d r
 PartsAt p own d cs ws r E4e = Seated p r × Alone p own d r
 PartsAt p own d cs ws r E4f = Seated p r × Alone p own d r
 PartsAt p own d cs ws r E4g = Seated p r × Alone p own d r
-PartsAt p own d cs ws r E4h = Unit {0}
 PartsAt p own d cs ws r T = Gone p own d r r.outcome
-PartsAt p own d cs ws r E5 = Unit {0}
-PartsAt p own d cs ws r E6 = Unit {0}
-PartsAt p own d cs ws r E7 = Unit {0}
+PartsAt p own d cs ws r _ = Unit {0}
 
 -- a class begins an eject of a processor's own report, of a known APIC ID, and tells refusals alone
 abbrev Begins : Facts → Class → Type 0
@@ -238,25 +197,12 @@ module _ (p : Platform) (own own2 : List Transition) (d d2 : Bool) (cs cs2 : Lis
   parts_row S2 mine is does = parts_look p own2 d2 cs2 ws2 p.polls (known_from r.slots 1) r
   parts_row S3 mine is does = pick Now ((v == 1) || nat_le r.polls 1) _ _ (parts_look p own2 d2 cs2 ws2 p.polls (known_from r.slots (r.slot + 1)) (noted r.slot v r)) (λ placed. subst (λ m. PartsAt p own2 d2 cs2 ws2 (record r { polls = r.polls - 1; last = (noted r.slot v r).last }) m) (sym is) tt)
   parts_row S4 mine is does = pick Now (v == 4) (record r { label = C1; collection = collection_start; taken = 0 }) (at_label E5 r) (λ placed. tt) (λ placed. tt)
-  parts_row C1 mine is does = λ placed. tt
-  parts_row C2 mine is does = λ placed. tt
   parts_row C3 mine is does = pick (λ w. Now (collected p.apic w r)) (nat_lt v r.collection.cpu || not (nat_lt v (count_of p))) (CollectedAll r.collection) (CollectsAt C4 (record r.collection { cpu = v })) (parts_next p own2 d2 cs2 ws2 (record r { collection = r.collection })) (λ placed. tt)
   parts_row C4 mine is does = pick (λ w. Now (collected p.apic w r)) (bit_and v 0x12 == 0) (next_processor (count_of p) r.collection) (CollectsAt C5 (record r.collection { status = v })) (parts_processor p own2 d2 cs2 ws2 (count_of p) r r.collection) (λ placed. tt)
-  parts_row C5 mine is does = λ placed. tt
   parts_row C6 mine is does = parts_processor p own2 d2 cs2 ws2 (count_of p) r (record r.collection { reports = r.collection.reports ++ record { cpu = r.collection.cpu; status = r.collection.status; apic = v } ∷ [] })
-  parts_row NB mine is does = λ placed. tt
-  parts_row N0 mine is does = λ placed. tt
-  parts_row N1 mine is does = λ placed. tt
-  parts_row N2 mine is does = λ placed. tt
-  parts_row N3 mine is does = λ placed. tt
-  parts_row N4 mine is does = λ placed. tt
-  parts_row N5 mine is does = λ placed. tt
-  parts_row N6 mine is does = λ placed. tt
-  parts_row N7 mine is does = λ placed. tt
   parts_row N8a mine is does = pick (λ w. Now (led w r)) (v == 1) _ _ (λ placed. tt) (λ placed. tt)
   parts_row N8b mine is does = pick (λ w. Now (led w (noted r.add.slot v r))) (v == 1) _ _ (λ placed. tt) (pick (λ w. Now (led w (noted r.add.slot v r))) (is_last_look r.add) _ _ (λ placed. tt) (λ placed. tt))
   parts_row N9 mine is does = pick (λ w. Now (led w r)) r.add.seen _ _ (λ placed. tt) (parts_failed p own2 d2 cs2 ws2 r r.last (NotAtGate r.add.cpu r.add.apic))
-  parts_row N10 mine is does = λ placed. tt
   parts_row N11 mine is does = pick (λ w. Now (led w (noted r.add.slot v r))) (v == 1) _ _ (λ placed. tt) (pick (λ w. Now (led w (noted r.add.slot v r))) (is_last_look r.add) _ _ (parts_failed p own2 d2 cs2 ws2 r (noted r.add.slot v r).last (NotCheckedIn r.add.cpu r.add.apic)) (λ placed. tt))
   parts_row E0 mine is does = λ placed. (seated_as (at_label E1 r) refl refl refl refl (here E0 is), λ calm one. absurd (let z = does.zeroed refl in let both : 0 ≡ 1 = sym z ∙ one in cc))
   parts_row E1 mine is does = λ placed. (seated_as (next_at (layout_of p) q r E1 v).monarch refl refl refl refl (here E1 is).0, waits E1 does refl refl refl (here E1 is).1)
@@ -264,7 +210,6 @@ module _ (p : Platform) (own own2 : List Transition) (d d2 : Bool) (cs cs2 : Lis
       (λ one placed. (seated_as (record r { label = E4a; eject = r.eject }) refl refl refl refl (here E2 is).0, λ calm. does.still refl calm ((here E2 is).1 (does.quiet refl calm) (does.sees refl (one_is v one)))))
       (λ _. pick (λ w. Now (eject_led w r)) (nat_le r.eject.polls 1) (EjectsAt E3 r.eject) (EjectsAt E2 (record r.eject { polls = r.eject.polls - 1 })) (λ placed. tt)
       (λ placed. (seated_as (record r { label = E2; eject = record r.eject { polls = r.eject.polls - 1 } }) refl refl refl refl (here E2 is).0, waits E2 does refl refl refl (here E2 is).1)))
-  parts_row E3 mine is does = λ placed. tt
   parts_row E4a mine is does = λ placed. (seated_as (at_label E4b r) refl refl refl refl (here E4a is).0, λ calm. does.still refl calm ((here E4a is).1 (does.quiet refl calm)))
   parts_row E4b mine is does = let h = here E4b is in
       let gone : Alone p own2 d2 r = λ calm. does.leaves refl calm h.0 (h.1 (does.quiet refl calm)) in
@@ -274,8 +219,8 @@ module _ (p : Platform) (own own2 : List Transition) (d d2 : Bool) (cs cs2 : Lis
   parts_row E4e mine is does = let h = here E4e is in λ placed. (and_from (is_in r.eject.apic r.slots.bound) (place_of r.slots.bound r.eject.apic == r.eject.slot) h.0.bound (same_number (place_of r.slots.bound r.eject.apic) r.eject.slot h.0.place), alone E4e does refl refl h.1)
   parts_row E4f mine is does = λ placed. (seated_as (at_label E4g r) refl refl refl refl (here E4f is).0, alone E4f does refl refl (here E4f is).1)
   parts_row E4g mine is does = pick (λ w. Now (eject_led w r)) (bit_and v 0x10 == 0x10) (EjectsAt E4h (record r.eject { status = v })) (EjectsAt E4c r.eject) (λ placed. tt) (λ placed. (seated_as (record r { label = E4c; eject = r.eject }) refl refl refl refl (here E4g is).0, alone E4g does refl refl (here E4g is).1))
-  parts_row E4h mine is does = λ placed. tt
   parts_row T mine is does = parts_next p own2 d2 cs2 ws2 (told r.outcome r)
   parts_row E5 mine is does = pick Now (nat_lt 1 (length r.slots.bound)) (record r { label = E6; slot = 1 }) (at_label E7 r) (λ placed. tt) (λ placed. tt)
   parts_row E6 mine is does = pick Now (nat_lt (r.slot + 1) (length r.slots.bound)) (record r { label = E6; slot = r.slot + 1 }) (at_label E7 r) (λ placed. tt) (λ placed. tt)
   parts_row E7 mine is does = λ placed. subst (PartsAt p own2 d2 cs2 ws2 r) (sym is) tt
+  parts_row _ mine is does = λ placed. tt

@@ -20,9 +20,9 @@ use Rattle.hp_exact.proofs.Account.{Account}
 use Rattle.hp_exact.proofs.Stood.{IsStood, stood}
 use Rattle.hp_exact.proofs.Stepping.{Kinds, by_kind}
 use Rattle.hp_exact.proofs.Naming.{Ids, ids_of}
-use Rattle.hp_exact.proofs.Keeping.{no_access, no_init}
+use Rattle.hp_exact.proofs.CalledIn.{no_access, no_init}
 use Rattle.hp_exact.proofs.Invariant.{is_calling, Invariant}
-use Rattle.hp_exact.proofs.Beginning.{Whole, whole_begins, whole_goes}
+use Rattle.hp_exact.proofs.Wholes.{Whole, whole_begins, whole_goes}
 
 -- the test, where others aren't called in wherever it asks
 quiet_by : (p : Platform) (past : List Transition) (x : Transition) → (is_late p.delivery ≡ false → acts x.entry.event ≡ true → is_outside x.entry.at ≡ true → is_called_in p (entries_of past) ≡ false) → is_quiet p past x ≡ true

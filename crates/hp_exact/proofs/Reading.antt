@@ -31,7 +31,7 @@ found_small k ss less = by_drop (first_event (drop k ss)) refl
     by_drop None is = by_take (first_event (take k ss)) refl
     by_drop (Some j) is = let small = first_event_small (drop k ss) j is in let n = length-drop k ss in omega (arith, small, n, less)
 
-selected_is : (b : Block) → b.selector < length b.slots → is_selected b ≡ true
+pub selected_is : (b : Block) → b.selector < length b.slots → is_selected b ≡ true
 selected_is b less = plain b.selector (length b.slots) less
   where
     plain : (a n : ℕ) → a < n → nat_lt a n ≡ true

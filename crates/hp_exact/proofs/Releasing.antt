@@ -1,6 +1,5 @@
 -- Release bytes while others are called in.
-use Rattle.std.proofs.Common.{ℕ, zero, suc, ◌≡◌, ◌≢◌, ◌+◌, ◌-◌, ◌*◌, ◌<◌, ◌≤◌, ◌==◌, ◌⊎◌, inl, inr, Bool, true, false, not, ◌&&◌, ◌||◌, nat_lt, nat_le, List, [], ◌∷◌, length, Option, Some, None, refl, sym, ap, subst, ◌∙◌, arith}
-use Rattle.std.specs.Prelude.{slice_index_or}
+use Rattle.std.proofs.Common.{ℕ, ◌≡◌, ◌≢◌, ◌+◌, ◌*◌, ◌<◌, ◌≤◌, ◌==◌, ◌⊎◌, inl, inr, Bool, true, false, not, ◌&&◌, ◌||◌, nat_lt, nat_le, List, [], ◌∷◌, length, Option, Some, None, refl, sym, ap, subst, ◌∙◌, arith}
 use Rattle.std.proofs.lemmas.Bool.{and_parts, ltb-true, or_left, or_right}
 use Rattle.std.proofs.lemmas.Bool.Decides.{nat_tests}
 use Rattle.hp_model.specs.declared.platforms.Platform.{Platform}
@@ -8,17 +7,17 @@ use Rattle.hp_model.specs.declared.accesses.Access.{Access}
 use Rattle.hp_model.specs.declared.accesses.Want.{Want}
 use Rattle.hp_model.specs.declared.accesses.Want.TheVariants as want
 use Rattle.hp_model.specs.declared.labels.Label.{Label}
-use Rattle.hp_model.specs.declared.labels.Label.TheVariants.{F1, F2, F3, F4, F5, F6, R1, R2, R3, R4, R5, R6, S0, S1, S2, S3, S4, C1, C2, C3, C4, C5, C6, NB, N0, N1, N2, N3, N4, N5, N6, N7, N8a, N8b, N9, N10, N11, E0, E1, E2, E3, E4a, E4b, E4c, E4d, E4e, E4f, E4g, E4h, T, E5, E6, E7}
+use Rattle.hp_model.specs.declared.labels.Label.TheVariants.{F1, F2, F3, F4, F5, F6, R1, R2, R3, R4, R5, R6, S0, S1, S2, NB, N0, N1, N2, N7, N9, N10, E0, E1, E3, E4c, E4d, E4e, E4h, T, E5, E6, E7}
 use Rattle.hp_model.specs.Platform.{tseg, count_of}
-use Rattle.hp_model.specs.Memory.{Write, covers, byte_at, bytes_of, write_of}
-use Rattle.hp_model.specs.View.{Locks, is_hole, loaded, stored}
+use Rattle.hp_model.specs.Memory.{Write, byte_at}
+use Rattle.hp_model.specs.View.{loaded}
 use Rattle.hp_model.specs.Labels.{Relocated, Monarch as Monarchs, part_of}
 use Rattle.hp_model.specs.SharedBytes.{Layout, layout_of, tile_in, arrived_byte, release_byte, map_byte, parked_byte, session_byte, gate, closed, new_smbase, flag, default_smbase_field}
 use Rattle.hp_model.specs.Monarch.{Monarch, at_label, first_slot, next_slot, restarted}
 use Rattle.hp_model.specs.Handlers.{Seat, want_at, next_at, runs_at, slot_at, is_tile}
 use Rattle.hp_model.specs.Step.{State, at, seat, access_effect, enter_smm, with_session, is_after_broadcast}
 use Rattle.hp_sealed.specs.Left.{Sound}
-use Rattle.hp_sealed.proofs.Left.{pick, pick_by, length-bytes_of, left_store}
+use Rattle.hp_sealed.proofs.Left.{pick, pick_by}
 use Rattle.hp_sealed.proofs.Outside.{left_acted}
 use Rattle.hp_sealed.proofs.Places.{Base, base_based, tseg_locked}
 use Rattle.hp_safety.proofs.Saves.{in_reach, left_other}
@@ -26,37 +25,7 @@ use Rattle.hp_exact.proofs.Monarchs.{is_among}
 use Rattle.hp_exact.proofs.Stood.{IsStood}
 use Rattle.hp_exact.proofs.Stepping.{AtMonarch, AtOther}
 use Rattle.hp_exact.proofs.Invariant.{Ordered, is_kept_in, Released}
-
--- a byte is left as it was, or becomes 0
-abbrev pub Leaves : ℕ → List Write → List Write → Type 0
-Leaves x ws vs = (byte_at vs x ≡ byte_at ws x) ⊎ (byte_at vs x ≡ 0)
-
-zero_at : (i : ℕ) → slice_index_or (bytes_of 1 0) i 0 ≡ 0
-unfolding bytes_of
-zero_at zero = refl
-zero_at (suc i) = refl
-
-zero_written : (a x : ℕ) (ws : List Write) → Leaves x ws (write_of a 1 0 ∷ ws)
-zero_written a x ws = by_cover (covers (write_of a 1 0) x) refl
-  where
-    by_cover : (b : Bool) → covers (write_of a 1 0) x ≡ b → Leaves x ws (write_of a 1 0 ∷ ws)
-    by_cover true is = inr (rw is (zero_at (x - a)))
-    by_cover false is = inl (rw is refl)
-
--- a store of 0 in one byte, wherever it is
-zero_stored : (l : Locks) (a x : ℕ) (ws : List Write) → Leaves x ws (stored l true a 1 0 ws)
-zero_stored l a x ws = pick (Leaves x ws) (is_hole l true a 1) ws (write_of a 1 0 ∷ ws) (inl refl) (zero_written a x ws)
-
--- and at the byte itself
-zero_here : (l : Locks) (a : ℕ) (ws : List Write) → is_hole l true a 1 ≡ false → byte_at (stored l true a 1 0 ws) a ≡ 0
-zero_here l a ws reach =
-    let n = length-bytes_of 1 0 in
-    let here : covers (write_of a 1 0) a ≡ true = rw n (grind (arith, nat_tests)) in
-    rw (reach, here) (zero_at (a - a))
-
--- a store elsewhere
-elsewhere : (l : Locks) (a n v x : ℕ) (ws : List Write) → (nat_le a x && nat_lt x (a + n)) ≡ false → Leaves x ws (stored l true a n v ws)
-elsewhere l a n v x ws e = inl ((left_store l true a n v ws x (λ _. e)).byte)
+use Rattle.hp_exact.proofs.ByteStores.{Bytes, Leaves, elsewhere, other_misses, zero_here, zero_stored}
 
 -- stores below 8 MiB, and of one byte of another array
 low_misses : (base a n x : ℕ) → 0x800000 ≤ base → a + n ≤ 0x800000 → base + 0x1000 ≤ x → (nat_le a x && nat_lt x (a + n)) ≡ false
@@ -68,71 +37,37 @@ first_misses base slot x small from = grind (arith, nat_tests)
 later_misses : (base a x : ℕ) → base + 0x2000 ≤ a → x < base + 0x2000 → (nat_le a x && nat_lt x (a + 1)) ≡ false
 later_misses base a x from to = grind (arith, nat_tests)
 
-other_misses : (a x : ℕ) → x ≢ a → (nat_le a x && nat_lt x (a + 1)) ≡ false
-other_misses a x other = grind (arith, nat_tests)
-
--- what a row's access does to it
-abbrev Bytes : Platform → ℕ → State → ℕ → Option Want → Type 0
-Bytes p k s x None = Unit {0}
-Bytes p k s x (Some (want.Do a)) = Leaves x s.writes (access_effect p k true a s).writes
-Bytes p k s x (Some (want.Tell o)) = Unit {0}
-Bytes p k s x (Some want.Resume) = Unit {0}
-
 row_bytes : (p : Platform) (k : ℕ) (s : State) (q : Seat) (r : Monarch) (x : ℕ) (l : Label) → Sound p → tseg p + 0x1000 ≤ x → x < tseg p + 0x2000
     → (part_of l ≡ Relocated → q.slot < 0x1000) → (l ≡ E6 → x ≢ release_byte (layout_of p) r.slot) → Bytes p k s x (want_at (layout_of p) q r l)
 row_bytes p k s q r x F1 sound from to small other = pick (Leaves x s.writes) (loaded s.locks true (byte_at s.writes) gate 8 == q.apic) _ _ (elsewhere s.locks gate 8 (closed) x s.writes (low_misses (tseg p) gate 8 x sound.above (omega arith) from)) (inl refl)
-row_bytes p k s q r x F2 sound from to small other = inl refl
 row_bytes p k s q r x F3 sound from to small other = elsewhere s.locks default_smbase_field 4 (q.base) x s.writes (low_misses (tseg p) default_smbase_field 4 x sound.above (omega arith) from)
 row_bytes p k s q r x F4 sound from to small other = elsewhere s.locks flag 1 (1) x s.writes (low_misses (tseg p) flag 1 x sound.above (omega arith) from)
-row_bytes p k s q r x F5 sound from to small other = inl refl
 row_bytes p k s q r x F6 sound from to small other = tt
 row_bytes p k s q r x R1 sound from to small other = elsewhere s.locks (arrived_byte (layout_of p) q.slot) 1 1 x s.writes (first_misses (tseg p) q.slot x (small refl) from)
-row_bytes p k s q r x R2 sound from to small other = inl refl
-row_bytes p k s q r x R3 sound from to small other = inl refl
 row_bytes p k s q r x R4 sound from to small other = zero_stored s.locks (arrived_byte (layout_of p) q.slot) x s.writes
 row_bytes p k s q r x R5 sound from to small other = tt
 row_bytes p k s q r x R6 sound from to small other = elsewhere s.locks (parked_byte (layout_of p) q.slot) 1 1 x s.writes (later_misses (tseg p) (parked_byte (layout_of p) q.slot) x (omega arith) to)
 row_bytes p k s q r x S0 sound from to small other = elsewhere s.locks (session_byte (layout_of p)) 1 1 x s.writes (later_misses (tseg p) (session_byte (layout_of p)) x (omega arith) to)
 row_bytes p k s q r x S1 sound from to small other = zero_stored s.locks (release_byte (layout_of p) r.slot) x s.writes
-row_bytes p k s q r x S2 sound from to small other = inl refl
-row_bytes p k s q r x S3 sound from to small other = inl refl
-row_bytes p k s q r x S4 sound from to small other = inl refl
-row_bytes p k s q r x C1 sound from to small other = inl refl
-row_bytes p k s q r x C2 sound from to small other = inl refl
-row_bytes p k s q r x C3 sound from to small other = inl refl
-row_bytes p k s q r x C4 sound from to small other = inl refl
-row_bytes p k s q r x C5 sound from to small other = inl refl
-row_bytes p k s q r x C6 sound from to small other = inl refl
 row_bytes p k s q r x NB sound from to small other = zero_stored s.locks (release_byte (layout_of p) r.add.slot) x s.writes
 row_bytes p k s q r x N0 sound from to small other = zero_stored s.locks (arrived_byte (layout_of p) r.add.slot) x s.writes
 row_bytes p k s q r x N1 sound from to small other = zero_stored s.locks (flag) x s.writes
 row_bytes p k s q r x N2 sound from to small other = elsewhere s.locks new_smbase 4 (tile_in (layout_of p) r.add.slot) x s.writes (low_misses (tseg p) new_smbase 4 x sound.above (omega arith) from)
-row_bytes p k s q r x N3 sound from to small other = inl refl
-row_bytes p k s q r x N4 sound from to small other = inl refl
-row_bytes p k s q r x N5 sound from to small other = inl refl
-row_bytes p k s q r x N6 sound from to small other = inl refl
 row_bytes p k s q r x N7 sound from to small other = elsewhere s.locks gate 8 (r.add.apic) x s.writes (low_misses (tseg p) gate 8 x sound.above (omega arith) from)
-row_bytes p k s q r x N8a sound from to small other = inl refl
-row_bytes p k s q r x N8b sound from to small other = inl refl
 row_bytes p k s q r x N9 sound from to small other = elsewhere s.locks gate 8 (closed) x s.writes (low_misses (tseg p) gate 8 x sound.above (omega arith) from)
 row_bytes p k s q r x N10 sound from to small other = zero_stored s.locks (arrived_byte (layout_of p) r.add.slot) x s.writes
-row_bytes p k s q r x N11 sound from to small other = inl refl
 row_bytes p k s q r x E0 sound from to small other = zero_stored s.locks (parked_byte (layout_of p) r.eject.slot) x s.writes
 row_bytes p k s q r x E1 sound from to small other = elsewhere s.locks (map_byte (layout_of p) r.eject.slot) 1 1 x s.writes (later_misses (tseg p) (map_byte (layout_of p) r.eject.slot) x (omega arith) to)
-row_bytes p k s q r x E2 sound from to small other = inl refl
 row_bytes p k s q r x E3 sound from to small other = zero_stored s.locks (map_byte (layout_of p) r.eject.slot) x s.writes
-row_bytes p k s q r x E4a sound from to small other = inl refl
-row_bytes p k s q r x E4b sound from to small other = inl refl
 row_bytes p k s q r x E4c sound from to small other = zero_stored s.locks (arrived_byte (layout_of p) r.eject.slot) x s.writes
 row_bytes p k s q r x E4d sound from to small other = zero_stored s.locks (map_byte (layout_of p) r.eject.slot) x s.writes
 row_bytes p k s q r x E4e sound from to small other = zero_stored s.locks (parked_byte (layout_of p) r.eject.slot) x s.writes
-row_bytes p k s q r x E4f sound from to small other = inl refl
-row_bytes p k s q r x E4g sound from to small other = inl refl
 row_bytes p k s q r x E4h sound from to small other = zero_stored s.locks (map_byte (layout_of p) r.eject.slot) x s.writes
 row_bytes p k s q r x T sound from to small other = tt
 row_bytes p k s q r x E5 sound from to small other = zero_stored s.locks (session_byte (layout_of p)) x s.writes
 row_bytes p k s q r x E6 sound from to small other = elsewhere s.locks (release_byte (layout_of p) r.slot) 1 1 x s.writes (other_misses (release_byte (layout_of p) r.slot) x (other refl))
 row_bytes p k s q r x E7 sound from to small other = tt
+row_bytes p k s q r x _ sound from to small other = inl refl
 
 -- which bytes must be 0, as the monarch's record goes on
 pub kept_called : (r : Monarch) (slot : ℕ) → (is_among r.label (S2 ∷ []) || is_after_broadcast r.label) ≡ true → is_kept_in r slot ≡ true
@@ -224,53 +159,17 @@ kept_row y q r R5 v slot mine is some = absurd cc
 kept_row y q r R6 v slot mine is some = absurd cc
 kept_row y q r S0 v slot mine is some = kept_first r slot some
 kept_row y q r S1 v slot mine is some = kept_next r slot is some
-kept_row y q r S2 v slot mine is some = λ e. inl (kept_called r slot (rw is refl))
-kept_row y q r S3 v slot mine is some = λ e. inl (kept_called r slot (rw is refl))
-kept_row y q r S4 v slot mine is some = λ e. inl (kept_called r slot (rw is refl))
-kept_row y q r C1 v slot mine is some = λ e. inl (kept_called r slot (rw is refl))
-kept_row y q r C2 v slot mine is some = λ e. inl (kept_called r slot (rw is refl))
-kept_row y q r C3 v slot mine is some = λ e. inl (kept_called r slot (rw is refl))
-kept_row y q r C4 v slot mine is some = λ e. inl (kept_called r slot (rw is refl))
-kept_row y q r C5 v slot mine is some = λ e. inl (kept_called r slot (rw is refl))
-kept_row y q r C6 v slot mine is some = λ e. inl (kept_called r slot (rw is refl))
-kept_row y q r NB v slot mine is some = λ e. inl (kept_called r slot (rw is refl))
-kept_row y q r N0 v slot mine is some = λ e. inl (kept_called r slot (rw is refl))
-kept_row y q r N1 v slot mine is some = λ e. inl (kept_called r slot (rw is refl))
-kept_row y q r N2 v slot mine is some = λ e. inl (kept_called r slot (rw is refl))
-kept_row y q r N3 v slot mine is some = λ e. inl (kept_called r slot (rw is refl))
-kept_row y q r N4 v slot mine is some = λ e. inl (kept_called r slot (rw is refl))
-kept_row y q r N5 v slot mine is some = λ e. inl (kept_called r slot (rw is refl))
-kept_row y q r N6 v slot mine is some = λ e. inl (kept_called r slot (rw is refl))
-kept_row y q r N7 v slot mine is some = λ e. inl (kept_called r slot (rw is refl))
-kept_row y q r N8a v slot mine is some = λ e. inl (kept_called r slot (rw is refl))
-kept_row y q r N8b v slot mine is some = λ e. inl (kept_called r slot (rw is refl))
-kept_row y q r N9 v slot mine is some = λ e. inl (kept_called r slot (rw is refl))
-kept_row y q r N10 v slot mine is some = λ e. inl (kept_called r slot (rw is refl))
-kept_row y q r N11 v slot mine is some = λ e. inl (kept_called r slot (rw is refl))
-kept_row y q r E0 v slot mine is some = λ e. inl (kept_called r slot (rw is refl))
-kept_row y q r E1 v slot mine is some = λ e. inl (kept_called r slot (rw is refl))
-kept_row y q r E2 v slot mine is some = λ e. inl (kept_called r slot (rw is refl))
-kept_row y q r E3 v slot mine is some = λ e. inl (kept_called r slot (rw is refl))
-kept_row y q r E4a v slot mine is some = λ e. inl (kept_called r slot (rw is refl))
-kept_row y q r E4b v slot mine is some = λ e. inl (kept_called r slot (rw is refl))
-kept_row y q r E4c v slot mine is some = λ e. inl (kept_called r slot (rw is refl))
-kept_row y q r E4d v slot mine is some = λ e. inl (kept_called r slot (rw is refl))
-kept_row y q r E4e v slot mine is some = λ e. inl (kept_called r slot (rw is refl))
-kept_row y q r E4f v slot mine is some = λ e. inl (kept_called r slot (rw is refl))
-kept_row y q r E4g v slot mine is some = λ e. inl (kept_called r slot (rw is refl))
-kept_row y q r E4h v slot mine is some = λ e. inl (kept_called r slot (rw is refl))
-kept_row y q r T v slot mine is some = λ e. inl (kept_called r slot (rw is refl))
-kept_row y q r E5 v slot mine is some = λ e. inl (kept_called r slot (rw is refl))
 kept_row y q r E6 v slot mine is some =
     pick (Kept r slot E6) (nat_lt (r.slot + 1) (length r.slots.bound)) (record r { label = E6; slot = r.slot + 1 }) (at_label E7 r)
     (kept_plain r (record r { label = E6; slot = r.slot + 1 }) slot E6 refl refl refl) (kept_plain r (at_label E7 r) slot E6 refl refl refl)
 kept_row y q r E7 v slot mine is some = λ e. inl e
+kept_row y q r _ v slot mine is some = λ e. inl (kept_called r slot (rw is refl))
 
 -- the bytes are in the first 8 KiB of TSEG
-from_1000 : (base slot : ℕ) → base + 0x1000 ≤ base + 0x1000 + slot
+pub from_1000 : (base slot : ℕ) → base + 0x1000 ≤ base + 0x1000 + slot
 from_1000 base slot = omega arith
 
-to_2000 : (base slot : ℕ) → slot < 0x1000 → base + 0x1000 + slot < base + 0x2000
+pub to_2000 : (base slot : ℕ) → slot < 0x1000 → base + 0x1000 + slot < base + 0x2000
 to_2000 base slot small = omega (arith, small)
 
 abbrev Zeroes : Platform → State → ℕ → Option Want → Type 0

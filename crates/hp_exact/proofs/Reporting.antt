@@ -143,59 +143,8 @@ module _ (p : Platform) (b : Block) (cs : List Cpu) (o : Option Transition) wher
       }
     where
       no_eject : (l : Label) → is_among l ejecting ≡ false → is_among l (E4b ∷ []) ≡ false
-      no_eject F1 e = refl
-      no_eject F2 e = refl
-      no_eject F3 e = refl
-      no_eject F4 e = refl
-      no_eject F5 e = refl
-      no_eject F6 e = refl
-      no_eject R1 e = refl
-      no_eject R2 e = refl
-      no_eject R3 e = refl
-      no_eject R4 e = refl
-      no_eject R5 e = refl
-      no_eject R6 e = refl
-      no_eject S0 e = refl
-      no_eject S1 e = refl
-      no_eject S2 e = refl
-      no_eject S3 e = refl
-      no_eject S4 e = refl
-      no_eject C1 e = refl
-      no_eject C2 e = refl
-      no_eject C3 e = refl
-      no_eject C4 e = refl
-      no_eject C5 e = refl
-      no_eject C6 e = refl
-      no_eject NB e = refl
-      no_eject N0 e = refl
-      no_eject N1 e = refl
-      no_eject N2 e = refl
-      no_eject N3 e = refl
-      no_eject N4 e = refl
-      no_eject N5 e = refl
-      no_eject N6 e = refl
-      no_eject N7 e = refl
-      no_eject N8a e = refl
-      no_eject N8b e = refl
-      no_eject N9 e = refl
-      no_eject N10 e = refl
-      no_eject N11 e = refl
-      no_eject E0 e = refl
-      no_eject E1 e = refl
-      no_eject E2 e = refl
-      no_eject E3 e = refl
-      no_eject E4a e = refl
       no_eject E4b e = absurd cc
-      no_eject E4c e = refl
-      no_eject E4d e = refl
-      no_eject E4e e = refl
-      no_eject E4f e = refl
-      no_eject E4g e = refl
-      no_eject E4h e = refl
-      no_eject T e = refl
-      no_eject E5 e = refl
-      no_eject E6 e = refl
-      no_eject E7 e = refl
+      no_eject _ e = refl
 
   clear_ejects : (r t : Monarch) → is_among r.label ejecting ≡ true → is_reporting r.label ≡ true → Reported p cs r → EjectsOn r t → (is_among t.label (E4b ∷ []) ≡ true → b.selector ≡ t.eject.cpu) → Clear t
   clear_ejects r t mine reporting h on handed =
@@ -232,7 +181,7 @@ all_drop_last f (suc zero) [] t h last = refl
 all_drop_last f (suc (suc n)) [] t h last = refl
 all_drop_last f (suc n) (x ∷ xs) t h last = all_drop_last f n xs t h last
 
-told_same : (o : Outcome) (r : Monarch) → ((told o r).collection ≡ r.collection) × ((told o r).taken ≡ r.taken)
+pub told_same : (o : Outcome) (r : Monarch) → ((told o r).collection ≡ r.collection) × ((told o r).taken ≡ r.taken)
 told_same (Added cpu apic slot) r = (refl, refl)
 told_same (Ejected cpu apic slot) r = (refl, refl)
 told_same (Refused why) r = (refl, refl)

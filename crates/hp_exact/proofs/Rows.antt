@@ -11,18 +11,18 @@ use Rattle.hp_model.specs.declared.accesses.Access.TheVariants.{Nop}
 use Rattle.hp_model.specs.declared.accesses.Want.{Want}
 use Rattle.hp_model.specs.declared.accesses.Want.TheVariants as want
 use Rattle.hp_model.specs.declared.labels.Label.{Label}
-use Rattle.hp_model.specs.declared.labels.Label.TheVariants.{F1, F2, F3, F4, F5, F6, R1, R2, R3, R4, R5, R6, S0, S1, S2, S3, S4, C1, C2, C3, C4, C5, C6, NB, N0, N1, N2, N3, N4, N5, N6, N7, N8a, N8b, N9, N10, N11, E0, E1, E2, E3, E4a, E4b, E4c, E4d, E4e, E4f, E4g, E4h, T, E5, E6, E7}
+use Rattle.hp_model.specs.declared.labels.Label.TheVariants.{F1, F2, F3, F4, F5, F6, R1, R2, R3, R4, R5, R6, C1, C2, C3, C4, C5, C6, N5, N6, E4a, E4b, T, E7}
 use Rattle.hp_model.specs.Platform.{count_of, apic_of, high_half}
 use Rattle.hp_model.specs.Cpu.{absent, cpu_at}
 use Rattle.hp_model.specs.Block.{Block, slot_at, status, block_write, ejected_by}
 use Rattle.hp_model.specs.Interrupts.{decoded}
 use Rattle.hp_model.specs.Boot.{value_in}
-use Rattle.hp_model.specs.Labels.{index_of, mark_of, same_label}
+use Rattle.hp_model.specs.Labels.{index_of, mark_of, same_label, Monarch as Monarchs, part_of}
 use Rattle.hp_model.specs.SharedBytes.{layout_of}
 use Rattle.hp_model.specs.Collection.{Report}
 use Rattle.hp_model.specs.Monarch.{Monarch}
 use Rattle.hp_model.specs.Handlers.{Seat, want_at}
-use Rattle.hp_model.specs.Step.{State, at, seat, answer_to, access_effect, without_ejected, is_after_broadcast}
+use Rattle.hp_model.specs.Step.{State, at, seat, answer_to, access_effect, without_ejected, is_after_broadcast, writes_block}
 use Rattle.hp_model.specs.Transitions.{Transition, newest}
 use Rattle.hp_model.specs.Account.{is_at}
 use Rattle.hp_sealed.specs.Left.{Sound}
@@ -144,59 +144,14 @@ ejects_selected b d k other e = by_test ((slot_at b b.selector).enabled && not (
     by_test false f = cc
 
 stay_rows : (p : Platform) (s : State) (q : Seat) (l : Label) → Stay p s l (want_at (layout_of p) q s.monarch l)
-stay_rows p s q F1 = λ k n e. (row_alike p 0 s q s.monarch F1 refl k).present ∙ e
-stay_rows p s q F2 = λ k n e. (row_alike p 0 s q s.monarch F2 refl k).present ∙ e
-stay_rows p s q F3 = λ k n e. (row_alike p 0 s q s.monarch F3 refl k).present ∙ e
-stay_rows p s q F4 = λ k n e. (row_alike p 0 s q s.monarch F4 refl k).present ∙ e
-stay_rows p s q F5 = λ k n e. (row_alike p 0 s q s.monarch F5 refl k).present ∙ e
 stay_rows p s q F6 = tt
-stay_rows p s q R1 = λ k n e. (row_alike p 0 s q s.monarch R1 refl k).present ∙ e
-stay_rows p s q R2 = λ k n e. (row_alike p 0 s q s.monarch R2 refl k).present ∙ e
-stay_rows p s q R3 = λ k n e. (row_alike p 0 s q s.monarch R3 refl k).present ∙ e
-stay_rows p s q R4 = λ k n e. (row_alike p 0 s q s.monarch R4 refl k).present ∙ e
 stay_rows p s q R5 = tt
-stay_rows p s q R6 = λ k n e. (row_alike p 0 s q s.monarch R6 refl k).present ∙ e
-stay_rows p s q S0 = λ k n e. (row_alike p 0 s q s.monarch S0 refl k).present ∙ e
-stay_rows p s q S1 = λ k n e. (row_alike p 0 s q s.monarch S1 refl k).present ∙ e
-stay_rows p s q S2 = λ k n e. (row_alike p 0 s q s.monarch S2 refl k).present ∙ e
-stay_rows p s q S3 = λ k n e. (row_alike p 0 s q s.monarch S3 refl k).present ∙ e
-stay_rows p s q S4 = λ k n e. (row_alike p 0 s q s.monarch S4 refl k).present ∙ e
-stay_rows p s q C1 = λ k n e. (row_alike p 0 s q s.monarch C1 refl k).present ∙ e
-stay_rows p s q C2 = λ k n e. (row_alike p 0 s q s.monarch C2 refl k).present ∙ e
-stay_rows p s q C3 = λ k n e. (row_alike p 0 s q s.monarch C3 refl k).present ∙ e
-stay_rows p s q C4 = λ k n e. (row_alike p 0 s q s.monarch C4 refl k).present ∙ e
-stay_rows p s q C5 = λ k n e. (row_alike p 0 s q s.monarch C5 refl k).present ∙ e
-stay_rows p s q C6 = λ k n e. (row_alike p 0 s q s.monarch C6 refl k).present ∙ e
-stay_rows p s q NB = λ k n e. (row_alike p 0 s q s.monarch NB refl k).present ∙ e
-stay_rows p s q N0 = λ k n e. (row_alike p 0 s q s.monarch N0 refl k).present ∙ e
-stay_rows p s q N1 = λ k n e. (row_alike p 0 s q s.monarch N1 refl k).present ∙ e
-stay_rows p s q N2 = λ k n e. (row_alike p 0 s q s.monarch N2 refl k).present ∙ e
-stay_rows p s q N3 = λ k n e. (row_alike p 0 s q s.monarch N3 refl k).present ∙ e
-stay_rows p s q N4 = λ k n e. (row_alike p 0 s q s.monarch N4 refl k).present ∙ e
 stay_rows p s q N5 = λ k n e. (stays_sent (decoded p.x2apic (high_half p.x2apic s.monarch.add.apic) 0x69f) (apic_of p 0) p.apic s.cpus k).present ∙ e
 stay_rows p s q N6 = λ k n e. (stays_sent (decoded p.x2apic (high_half p.x2apic s.monarch.add.apic) 0x69f) (apic_of p 0) p.apic s.cpus k).present ∙ e
-stay_rows p s q N7 = λ k n e. (row_alike p 0 s q s.monarch N7 refl k).present ∙ e
-stay_rows p s q N8a = λ k n e. (row_alike p 0 s q s.monarch N8a refl k).present ∙ e
-stay_rows p s q N8b = λ k n e. (row_alike p 0 s q s.monarch N8b refl k).present ∙ e
-stay_rows p s q N9 = λ k n e. (row_alike p 0 s q s.monarch N9 refl k).present ∙ e
-stay_rows p s q N10 = λ k n e. (row_alike p 0 s q s.monarch N10 refl k).present ∙ e
-stay_rows p s q N11 = λ k n e. (row_alike p 0 s q s.monarch N11 refl k).present ∙ e
-stay_rows p s q E0 = λ k n e. (row_alike p 0 s q s.monarch E0 refl k).present ∙ e
-stay_rows p s q E1 = λ k n e. (row_alike p 0 s q s.monarch E1 refl k).present ∙ e
-stay_rows p s q E2 = λ k n e. (row_alike p 0 s q s.monarch E2 refl k).present ∙ e
-stay_rows p s q E3 = λ k n e. (row_alike p 0 s q s.monarch E3 refl k).present ∙ e
-stay_rows p s q E4a = λ k n e. (row_alike p 0 s q s.monarch E4a refl k).present ∙ e
 stay_rows p s q E4b = λ k n e. removed_other (ejected_by s.block (block_write s.block 4 1 8)) s.cpus k (ejects_selected s.block (block_write s.block 4 1 8) k (n refl)) e
-stay_rows p s q E4c = λ k n e. (row_alike p 0 s q s.monarch E4c refl k).present ∙ e
-stay_rows p s q E4d = λ k n e. (row_alike p 0 s q s.monarch E4d refl k).present ∙ e
-stay_rows p s q E4e = λ k n e. (row_alike p 0 s q s.monarch E4e refl k).present ∙ e
-stay_rows p s q E4f = λ k n e. (row_alike p 0 s q s.monarch E4f refl k).present ∙ e
-stay_rows p s q E4g = λ k n e. (row_alike p 0 s q s.monarch E4g refl k).present ∙ e
-stay_rows p s q E4h = λ k n e. (row_alike p 0 s q s.monarch E4h refl k).present ∙ e
 stay_rows p s q T = tt
-stay_rows p s q E5 = λ k n e. (row_alike p 0 s q s.monarch E5 refl k).present ∙ e
-stay_rows p s q E6 = λ k n e. (row_alike p 0 s q s.monarch E6 refl k).present ∙ e
 stay_rows p s q E7 = tt
+stay_rows p s q l = λ k n e. (row_alike p 0 s q s.monarch l refl k).present ∙ e
 
 pub stays_row : (p : Platform) (s : State) (l : Label) (a : Access) → want_at (layout_of p) (seat p s 0) s.monarch l ≡ Some (want.Do a) → (k : ℕ) → (l ≡ E4b → k ≢ s.block.selector) → (at s k).present ≡ true → (at (access_effect p 0 true a s) k).present ≡ true
 stays_row p s l a wants = subst (Stay p s l) wants (stay_rows p s (seat p s 0) l)
@@ -248,3 +203,25 @@ reported_still p cs ds r here h = record {
     by_label : (b : Bool) → is_among r.label (E4b ∷ []) ≡ b → is_reporting r.label ≡ true → list_all (is_there ds) (drop r.taken r.collection.reports) ≡ true
     by_label true is e = all_two (is_there cs) (λ t. nat_lt r.eject.cpu t.cpu) (is_there ds) (λ t a b. still t (λ _. above r.eject.cpu t.cpu b) a) (drop r.taken r.collection.reports) (h.there e) (h.ejects (ejects is))
     by_label false is e = all_same (is_there cs) (is_there ds) (λ t a. still t (λ f. no_more _ is f) a) (drop r.taken r.collection.reports) (h.there e)
+
+-- other handlers don't write the register block
+abbrev pub Unwritten : Option Want → Type 0
+Unwritten None = Unit {0}
+Unwritten (Some (want.Do a)) = writes_block a ≡ false
+Unwritten (Some (want.Tell o)) = Unit {0}
+Unwritten (Some want.Resume) = Unit {0}
+
+pub other_unwritten : (p : Platform) (s : State) (k : ℕ) (l : Label) → part_of l ≢ Monarchs → Unwritten (want_at (layout_of p) (seat p s k) s.monarch l)
+other_unwritten p s k F1 other = refl
+other_unwritten p s k F2 other = refl
+other_unwritten p s k F3 other = refl
+other_unwritten p s k F4 other = refl
+other_unwritten p s k F5 other = refl
+other_unwritten p s k F6 other = tt
+other_unwritten p s k R1 other = refl
+other_unwritten p s k R2 other = refl
+other_unwritten p s k R3 other = refl
+other_unwritten p s k R4 other = refl
+other_unwritten p s k R5 other = tt
+other_unwritten p s k R6 other = refl
+other_unwritten p s k _ other = absurd (other refl)

@@ -1,5 +1,5 @@
 -- The kinds of steps after the hand-over: what each is of, and the state that it leads to.
-use Rattle.std.proofs.Common.{ℕ, ◌≡◌, ◌≢◌, ◌<◌, ◌==◌, ◌⊎◌, inl, inr, arith, Bool, true, false, cond, not, ◌&&◌, ◌||◌, nat_lt, Option, Some, None, refl, sym, ap, subst, ◌∙◌}
+use Rattle.std.proofs.Common.{ℕ, ◌≡◌, ◌≢◌, ◌<◌, ◌==◌, ◌⊎◌, inl, inr, arith, Bool, true, false, cond, not, ◌&&◌, ◌||◌, nat_lt, Option, Some, None, refl, sym, ap, subst, ◌∙◌, List}
 use Rattle.std.proofs.lemmas.Bool.{and_parts, eqb-true, ltb-true}
 use Rattle.std.proofs.lemmas.Bool.Decides.{nat_tests}
 use Rattle.hp_model.specs.declared.platforms.Platform.{Platform}
@@ -9,7 +9,7 @@ use Rattle.hp_model.specs.declared.accesses.Want.{Want}
 use Rattle.hp_model.specs.declared.accesses.Want.TheVariants as want
 use Rattle.hp_model.specs.declared.outcomes.Outcome.{Outcome}
 use Rattle.hp_model.specs.declared.labels.Label.{Label}
-use Rattle.hp_model.specs.declared.labels.Label.TheVariants.{F1, F2, F3, F4, F5, F6, R1, R2, R3, R4, R5, R6, S0, S1, S2, S3, S4, C1, C2, C3, C4, C5, C6, NB, N0, N1, N2, N3, N4, N5, N6, N7, N8a, N8b, N9, N10, N11, E0, E1, E2, E3, E4a, E4b, E4c, E4d, E4e, E4f, E4g, E4h, T, E5, E6, E7}
+use Rattle.hp_model.specs.declared.labels.Label.TheVariants.{F6, R5, S2, T, E7}
 use Rattle.hp_model.specs.declared.entries.Event.{Event}
 use Rattle.hp_model.specs.declared.entries.Event.TheVariants.{Insert, Remove, Do, TakeSmi, TakeInit, Resume, Tell}
 use Rattle.hp_model.specs.declared.entries.Entry.{Entry}
@@ -26,8 +26,11 @@ use Rattle.hp_sealed.specs.Sealed.{is_other_tile}
 use Rattle.hp_sealed.proofs.Labels.{same_label as one_label}
 use Rattle.hp_sealed.proofs.Runs.{made}
 use Rattle.hp_sealed.proofs.Goes.{stepped}
-use Rattle.hp_sealed.proofs.Same.{same_access-is}
+use Rattle.hp_model.proofs.Same.{same_access-equal}
 use Rattle.hp_exact.proofs.Stood.{IsStood, AtRow, row_stands}
+use Rattle.hp_model.specs.Outcomes.{Telling, when_told, telling}
+use Rattle.hp_model.specs.Events.{outcome_in}
+use Rattle.hp_model.specs.Transitions.{Transition}
 
 -- a step's entry
 abbrev pub entry_by : State → Event → Entry
@@ -84,114 +87,14 @@ sides p s k l h = by_part (part_of l) refl h.cell.runs h.cell.due
 
 -- the rows of RSM, and the one that tells
 row_resumes : (y : Layout) (x : Seat) (r : Monarch) (l : Label) → want_at y x r l ≡ Some want.Resume → (l ≡ F6) ⊎ ((l ≡ R5) ⊎ (l ≡ E7))
-row_resumes y x r F1 e = absurd cc
-row_resumes y x r F2 e = absurd cc
-row_resumes y x r F3 e = absurd cc
-row_resumes y x r F4 e = absurd cc
-row_resumes y x r F5 e = absurd cc
 row_resumes y x r F6 e = inl refl
-row_resumes y x r R1 e = absurd cc
-row_resumes y x r R2 e = absurd cc
-row_resumes y x r R3 e = absurd cc
-row_resumes y x r R4 e = absurd cc
 row_resumes y x r R5 e = inr (inl refl)
-row_resumes y x r R6 e = absurd cc
-row_resumes y x r S0 e = absurd cc
-row_resumes y x r S1 e = absurd cc
-row_resumes y x r S2 e = absurd cc
-row_resumes y x r S3 e = absurd cc
-row_resumes y x r S4 e = absurd cc
-row_resumes y x r C1 e = absurd cc
-row_resumes y x r C2 e = absurd cc
-row_resumes y x r C3 e = absurd cc
-row_resumes y x r C4 e = absurd cc
-row_resumes y x r C5 e = absurd cc
-row_resumes y x r C6 e = absurd cc
-row_resumes y x r NB e = absurd cc
-row_resumes y x r N0 e = absurd cc
-row_resumes y x r N1 e = absurd cc
-row_resumes y x r N2 e = absurd cc
-row_resumes y x r N3 e = absurd cc
-row_resumes y x r N4 e = absurd cc
-row_resumes y x r N5 e = absurd cc
-row_resumes y x r N6 e = absurd cc
-row_resumes y x r N7 e = absurd cc
-row_resumes y x r N8a e = absurd cc
-row_resumes y x r N8b e = absurd cc
-row_resumes y x r N9 e = absurd cc
-row_resumes y x r N10 e = absurd cc
-row_resumes y x r N11 e = absurd cc
-row_resumes y x r E0 e = absurd cc
-row_resumes y x r E1 e = absurd cc
-row_resumes y x r E2 e = absurd cc
-row_resumes y x r E3 e = absurd cc
-row_resumes y x r E4a e = absurd cc
-row_resumes y x r E4b e = absurd cc
-row_resumes y x r E4c e = absurd cc
-row_resumes y x r E4d e = absurd cc
-row_resumes y x r E4e e = absurd cc
-row_resumes y x r E4f e = absurd cc
-row_resumes y x r E4g e = absurd cc
-row_resumes y x r E4h e = absurd cc
-row_resumes y x r T e = absurd cc
-row_resumes y x r E5 e = absurd cc
-row_resumes y x r E6 e = absurd cc
 row_resumes y x r E7 e = inr (inr refl)
+row_resumes y x r _ e = absurd cc
 
 row_tells : (y : Layout) (x : Seat) (r : Monarch) (l : Label) (o : Outcome) → want_at y x r l ≡ Some (want.Tell o) → (l ≡ T) × (o ≡ r.outcome)
-row_tells y x r F1 o e = absurd cc
-row_tells y x r F2 o e = absurd cc
-row_tells y x r F3 o e = absurd cc
-row_tells y x r F4 o e = absurd cc
-row_tells y x r F5 o e = absurd cc
-row_tells y x r F6 o e = absurd cc
-row_tells y x r R1 o e = absurd cc
-row_tells y x r R2 o e = absurd cc
-row_tells y x r R3 o e = absurd cc
-row_tells y x r R4 o e = absurd cc
-row_tells y x r R5 o e = absurd cc
-row_tells y x r R6 o e = absurd cc
-row_tells y x r S0 o e = absurd cc
-row_tells y x r S1 o e = absurd cc
-row_tells y x r S2 o e = absurd cc
-row_tells y x r S3 o e = absurd cc
-row_tells y x r S4 o e = absurd cc
-row_tells y x r C1 o e = absurd cc
-row_tells y x r C2 o e = absurd cc
-row_tells y x r C3 o e = absurd cc
-row_tells y x r C4 o e = absurd cc
-row_tells y x r C5 o e = absurd cc
-row_tells y x r C6 o e = absurd cc
-row_tells y x r NB o e = absurd cc
-row_tells y x r N0 o e = absurd cc
-row_tells y x r N1 o e = absurd cc
-row_tells y x r N2 o e = absurd cc
-row_tells y x r N3 o e = absurd cc
-row_tells y x r N4 o e = absurd cc
-row_tells y x r N5 o e = absurd cc
-row_tells y x r N6 o e = absurd cc
-row_tells y x r N7 o e = absurd cc
-row_tells y x r N8a o e = absurd cc
-row_tells y x r N8b o e = absurd cc
-row_tells y x r N9 o e = absurd cc
-row_tells y x r N10 o e = absurd cc
-row_tells y x r N11 o e = absurd cc
-row_tells y x r E0 o e = absurd cc
-row_tells y x r E1 o e = absurd cc
-row_tells y x r E2 o e = absurd cc
-row_tells y x r E3 o e = absurd cc
-row_tells y x r E4a o e = absurd cc
-row_tells y x r E4b o e = absurd cc
-row_tells y x r E4c o e = absurd cc
-row_tells y x r E4d o e = absurd cc
-row_tells y x r E4e o e = absurd cc
-row_tells y x r E4f o e = absurd cc
-row_tells y x r E4g o e = absurd cc
-row_tells y x r E4h o e = absurd cc
 row_tells y x r T o e = (refl, let f : r.outcome ≡ o = cc in sym f)
-row_tells y x r E5 o e = absurd cc
-row_tells y x r E6 o e = absurd cc
-row_tells y x r E7 o e = absurd cc
+row_tells y x r _ o e = absurd cc
 
 -- P of each step, by its kind
 pub record Kinds (p : Platform) (s : State) (P : Entry → State → Type 0) : Type 0 where
@@ -215,7 +118,7 @@ pub record Kinds (p : Platform) (s : State) (P : Entry → State → Type 0) : T
 abbrev Same : ℕ → ℕ → Type 0
 Same i j = i ≡ j
 
-is_other : (k : ℕ) → k ≢ 0 → (k == 0) ≡ false
+pub is_other : (k : ℕ) → k ≢ 0 → (k == 0) ≡ false
 is_other k n = grind (arith, nat_tests)
 
 module _ (p : Platform) (s : State) (P : Entry → State → Type 0) (h : IsStood p s) (m : Kinds p s P) where
@@ -250,8 +153,8 @@ module _ (p : Platform) (s : State) (P : Entry → State → Type 0) (h : IsStoo
       by_side (inr here) (inr (inl e)) = m.returns k l g here (inr e)
       by_side (inr here) (inr (inr e)) = absurd (here.part (ap part_of e))
 
-  telling : (l : Label) (o t : Outcome) (g : Stage) → AtRow p s 0 l → want_at (layout_of p) (seat p s 0) s.monarch l ≡ Some (want.Tell t) → same_outcome o t ≡ true → P (entry_by s (Tell o)) (ends (led_on p s 0 l 0 s) g s.disturbed)
-  telling l o t g here wants same = by_side (sides p s 0 l here) (row_tells (layout_of p) (seat p s 0) s.monarch l t wants)
+  told_row : (l : Label) (o t : Outcome) (g : Stage) → AtRow p s 0 l → want_at (layout_of p) (seat p s 0) s.monarch l ≡ Some (want.Tell t) → same_outcome o t ≡ true → P (entry_by s (Tell o)) (ends (led_on p s 0 l 0 s) g s.disturbed)
+  told_row l o t g here wants same = by_side (sides p s 0 l here) (row_tells (layout_of p) (seat p s 0) s.monarch l t wants)
     where
       by_side : (Same 0 0 × AtMonarch p s l) ⊎ AtOther p s 0 l → (l ≡ T) × (t ≡ s.monarch.outcome) → P (entry_by s (Tell o)) (ends (led_on p s 0 l 0 s) g s.disturbed)
       by_side (inl here) e = subst (λ x. P (entry_by s (Tell o)) (ends (led_on p s 0 x 0 s) g s.disturbed)) (sym e.0) (m.tells o g (subst (AtMonarch p s) e.0 here.1) (subst (λ u. same_outcome o u ≡ true) e.1 same))
@@ -281,7 +184,7 @@ module _ (p : Platform) (s : State) (P : Entry → State → Type 0) (h : IsStoo
           → P (record { event = Do k a; answer = answer_to true a s; at = smm_address (at s k) }) (ends (led_on p s k x (value_in (answer_to true a s)) (access_effect p k true a s)) g (not ((k == 0) && same_label s.monarch.label S2) && s.disturbed))
       in_row x None is smm w f = absurd cc
       in_row x (Some (want.Do b)) is smm w f =
-          let same : a ≡ b = same_access-is a b f in
+          let same : a ≡ b = same_access-equal a b f in
           rows k x a g (row_stands p s k x h is) (w ∙ ap (λ c. Some (want.Do c)) (sym same))
       in_row x (Some (want.Tell t)) is smm w f = absurd cc
       in_row x (Some want.Resume) is smm w f = absurd cc
@@ -314,7 +217,7 @@ module _ (p : Platform) (s : State) (P : Entry → State → Type 0) (h : IsStoo
       in_row : (x : Label) (w : Option Want) → row_at p s 0 ≡ Some x → want_at (layout_of p) (seat p s 0) s.monarch x ≡ w → is_that_outcome w o ≡ true → P (entry_by s (Tell o)) (ends (led_on p s 0 x 0 s) g s.disturbed)
       in_row x None is w f = absurd cc
       in_row x (Some (want.Do b)) is w f = absurd cc
-      in_row x (Some (want.Tell t)) is w f = telling x o t g (row_stands p s 0 x h is) w f
+      in_row x (Some (want.Tell t)) is w f = told_row x o t g (row_stands p s 0 x h is) w f
       in_row x (Some want.Resume) is w f = absurd cc
 
       by_row : (l : Option Label) → row_at p s 0 ≡ l → is_that_outcome (wanted_at (layout_of p) s.monarch (seat p s 0) l) o ≡ true → P (entry_by s (Tell o)) (ends (row_led p s 0 Quiet l s) g s.disturbed)
@@ -335,3 +238,26 @@ module _ (p : Platform) (s : State) (P : Entry → State → Type 0) (h : IsStoo
       rw (answer, mk.place) refl in
       let state : (after p s e.event).state ≡ t = ap (λ (a : After). a.state) st.is ∙ mk.state in
       subst (λ u. P e u) state (subst (λ x. P x (after p s e.event).state) entry (by_stage s.stage refl h.handed e.event st.enabled st.wanted))
+
+-- a test of what is told, if it passes at T
+pub told_by : (p : Platform) (test : Telling → Bool) (past : List Transition) (s : State) → IsStood p s → ((o : Outcome) → AtMonarch p s T → same_outcome o s.monarch.outcome ≡ true → test (telling p past s o) ≡ true) → (e : Entry) (t : State) → run_on p s e ≡ Some t
+    → when_told p test past s (outcome_in e.event) ≡ true
+told_by p test past s h told e t is = by_kind p s (λ e t. when_told p test past s (outcome_in e.event) ≡ true) h (record {
+  inserts = λ k g less gone. refl;
+  removes = λ k g. refl;
+  outside = λ k a g free out. refl;
+  monarchs = λ l a g here wants. refl;
+  others = λ k l a g here wants. refl;
+  enters = λ k g may. refl;
+  inits = λ k g may. refl;
+  rests = λ g here. refl;
+  returns = λ k l g here where_is. refl;
+  tells = λ o g here same. told o here same;
+}) e t is
+
+-- where the flag is clear after an access from outside SMM while others are called in, it was clear before, and the access writes no block
+pub still_clear : (d w after : Bool) → after ≡ true → (d || (w && after)) ≡ false → (d ≡ false) × (w ≡ false)
+still_clear true w after f q = absurd cc
+still_clear false true true f q = absurd cc
+still_clear false true false f q = absurd cc
+still_clear false false after f q = (refl, refl)

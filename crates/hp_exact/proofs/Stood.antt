@@ -1,21 +1,19 @@
 -- What the law of locked memory keeps of each state after the hand-over, as far as sessions need it: where processors stand.
-use Rattle.std.proofs.Common.{ℕ, ◌≡◌, ◌<◌, true, Option, Some, None, option_and_then, option_map, refl, sym, subst, ◌∙◌}
+use Rattle.std.proofs.Common.{ℕ, ◌≡◌, ◌<◌, true, Option, Some, None, refl, sym, subst, ◌∙◌}
 use Rattle.std.proofs.lemmas.Option.{same_Some}
 use Rattle.hp_model.specs.declared.platforms.Platform.{Platform}
 use Rattle.hp_model.specs.declared.labels.Label.{Label}
 use Rattle.hp_model.specs.Platform.{count_of}
-use Rattle.hp_model.specs.Memory.{byte_at}
-use Rattle.hp_model.specs.View.{loaded}
 use Rattle.hp_model.specs.Cpu.{smm_address}
 use Rattle.hp_model.specs.Boot.{is_handed}
 use Rattle.hp_model.specs.Labels.{part_of}
 use Rattle.hp_model.specs.SharedBytes.{layout_of}
-use Rattle.hp_model.specs.Handlers.{runs_at, is_due, row_of, address_of_label}
-use Rattle.hp_model.specs.Step.{State, at, mark_at, row_at}
+use Rattle.hp_model.specs.Handlers.{runs_at, is_due, address_of_label}
+use Rattle.hp_model.specs.Step.{State, at, row_at}
 use Rattle.hp_sealed.specs.Left.{Sound, Locked}
 use Rattle.hp_sealed.specs.Sealed.{is_based}
 use Rattle.hp_safety.proofs.Invariant.{Stands}
-use Rattle.hp_safety.proofs.Keeps.{row_here}
+use Rattle.hp_safety.proofs.Keeps.{row_here, no_row}
 use Rattle.hp_safety.proofs.Runs.{IsHanded}
 
 -- processor k stands at address a, the cell of a label of the handler that runs at its SMBASE, and has this label's row
@@ -47,13 +45,6 @@ stood p s sound h = record {
       let c : Stands p s.monarch s.writes k (at s k).smbase (at s k).base (Some a) = subst (Stands p s.monarch s.writes k (at s k).smbase (at s k).base) is (h.stand.each k) in
       (c.0, record { runs = c.1.runs; due = c.1.due; here = c.1.here; row = row_here p s.writes s k a c.0 sound h is c.1 });
 }
-
-no_row : (p : Platform) (s : State) (k : ℕ) (l : Label) → smm_address (at s k) ≡ None → row_at p s k ≡ Some l → ⊥
-unfolding row_at mark_at
-no_row p s k l is e =
-    let none : option_and_then (row_of (layout_of p) s.monarch k (at s k).smbase) (option_map (λ address. loaded s.locks true (byte_at s.writes) address 4) (smm_address (at s k))) ≡ None = rw is refl in
-    let both : None ≡ Some l = sym none ∙ e in
-    cc
 
 -- who has a row stands at its cell
 pub record AtRow (p : Platform) (s : State) (k : ℕ) (l : Label) : Type 0 where

@@ -1,7 +1,7 @@
 -- Reports are true: the test of each transition of a run.
-use Rattle.std.proofs.Common.{ℕ, ◌≡◌, ◌+◌, ◌*◌, ◌==◌, Bool, true, false, not, ◌&&◌, ◌||◌, List, [], ◌∷◌, ◌++◌, Option, Some, None, refl, sym, ap, subst, ◌∙◌}
+use Rattle.std.proofs.Common.{ℕ, ◌≡◌, ◌+◌, ◌*◌, ◌==◌, Bool, true, false, ◌&&◌, ◌||◌, List, [], ◌∷◌, ◌++◌, Option, Some, None, refl, sym, ap, subst, ◌∙◌}
 use Rattle.std.specs.List.{list_all}
-use Rattle.std.proofs.lemmas.Bool.{and_from, and_parts, or_right, eqb-true}
+use Rattle.std.proofs.lemmas.Bool.{and_from, or_right, eqb-true}
 use Rattle.hp_model.specs.declared.platforms.Platform.{Platform}
 use Rattle.hp_model.specs.declared.accesses.Access.{Access}
 use Rattle.hp_model.specs.declared.accesses.Want.TheVariants as want
@@ -10,7 +10,7 @@ use Rattle.hp_model.specs.declared.entries.Event.TheVariants.{Insert, Remove, Do
 use Rattle.hp_model.specs.declared.labels.Label.{Label}
 use Rattle.hp_model.specs.declared.labels.Label.TheVariants.{C4, C6, T, E7}
 use Rattle.hp_model.specs.Platform.{IsFit, tile}
-use Rattle.hp_model.specs.Cpu.{is_outside, smm_address}
+use Rattle.hp_model.specs.Cpu.{smm_address}
 use Rattle.hp_model.specs.Boot.{is_handed, value_in}
 use Rattle.hp_model.specs.Labels.{Monarch as Monarchs, part_of, index_of}
 use Rattle.hp_model.specs.SharedBytes.{layout_of}
@@ -34,10 +34,11 @@ use Rattle.hp_exact.proofs.Naming.{ids_of, is_own-is}
 use Rattle.hp_exact.proofs.Reports.{rises_last, drop_last}
 use Rattle.hp_exact.proofs.Tying.{row_account, account_row, one_more}
 use Rattle.hp_exact.proofs.Rows.{reads_row}
-use Rattle.hp_exact.proofs.Keeping.{none_outside, outside_in}
+use Rattle.hp_exact.proofs.InSmm.{none_outside, init_outside}
 use Rattle.hp_exact.proofs.Invariant.{last_read, Invariant}
-use Rattle.hp_exact.proofs.Beginning.{Whole, whole_begins, whole_goes, outside_before}
+use Rattle.hp_exact.proofs.Wholes.{Whole, whole_begins, whole_goes, outside_before}
 use Rattle.hp_exact.proofs.Quiet.{handed_of}
+use Rattle.hp_safety.proofs.Entering.{may_outside}
 
 -- the test asks nothing of entries elsewhere
 elsewhere : (p : Platform) (past : List Transition) (x : Transition) → is_at p C6 x.entry ≡ false → reports_truly p past x ≡ true
@@ -133,8 +134,8 @@ module _ (p : Platform) (fit : Sound p) (past : List Transition) (s : State) (st
     outside = λ k a g free out. elsewhere p past (made s _ _) (at_none p C6 (record { event = Do k a; answer = answer_to false a s; at = smm_address (at s k) }) (none_outside (at s k) out));
     monarchs = λ l a g here wants. at_row l a (record { event = Do 0 a; answer = answer_to true a s; at = smm_address (at s 0) }) _ here wants refl;
     others = λ k l a g here wants. elsewhere p past (made s _ _) (at_other p l C6 (record { event = Do k a; answer = answer_to true a s; at = smm_address (at s k) }) k (at s k).smbase fit here.runs here.part here.place refl);
-    enters = λ k g may. elsewhere p past (made s _ _) (at_none p C6 (entry_by s (TakeSmi k)) (none_outside (at s k) (outside_in (at s k).mode (and_parts (at s k).smi (is_outside (at s k).mode) (and_parts (at s k).present ((at s k).smi && is_outside (at s k).mode) may).1).1)));
-    inits = λ k g may. elsewhere p past (made s _ _) (at_none p C6 (entry_by s (TakeInit k)) (none_outside (at s k) (outside_in (at s k).mode (and_parts (at s k).init (is_outside (at s k).mode) (and_parts (not (at s k).smi) ((at s k).init && is_outside (at s k).mode) (and_parts (at s k).present (not (at s k).smi && ((at s k).init && is_outside (at s k).mode)) may).1).1).1)));
+    enters = λ k g may. elsewhere p past (made s _ _) (at_none p C6 (entry_by s (TakeSmi k)) (may_outside (at s k) may));
+    inits = λ k g may. elsewhere p past (made s _ _) (at_none p C6 (entry_by s (TakeInit k)) (init_outside (at s k) may));
     rests = λ g here. elsewhere p past (made s _ _) (at_monarch p E7 C6 (entry_by s (Resume 0)) (tile p 0) refl here.place refl);
     returns = λ k l g here where_is. elsewhere p past (made s _ _) (at_other p l C6 (entry_by s (Resume k)) k (at s k).smbase fit here.runs here.part here.place refl);
     tells = λ o g here same. elsewhere p past (made s _ _) (at_monarch p T C6 (entry_by s (Tell o)) (tile p 0) refl here.place refl);

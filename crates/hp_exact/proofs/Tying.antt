@@ -3,7 +3,7 @@ use Rattle.std.proofs.Common.{ℕ, ◌≡◌, ◌+◌, ◌==◌, Bool, true, fal
 use Rattle.std.proofs.lemmas.Bool.{and_right}
 use Rattle.hp_model.specs.declared.platforms.Platform.{Platform}
 use Rattle.hp_model.specs.declared.labels.Label.{Label}
-use Rattle.hp_model.specs.declared.labels.Label.TheVariants.{F1, F2, F3, F4, F5, F6, R1, R2, R3, R4, R5, R6, S0, S1, S2, S3, S4, C1, C2, C3, C4, C5, C6, NB, N0, N1, N2, N3, N4, N5, N6, N7, N8a, N8b, N9, N10, N11, E0, E1, E2, E3, E4a, E4b, E4c, E4d, E4e, E4f, E4g, E4h, T, E5, E6, E7}
+use Rattle.hp_model.specs.declared.labels.Label.TheVariants.{S0, S1, S2, S3, S4, C1, C2, C3, C4, C5, C6, NB, N0, N1, N2, N3, N4, N5, N6, N7, N8a, N8b, N9, N10, N11, E0, E1, E2, E3, E4a, E4b, E4c, E4d, E4e, E4f, E4g, E4h, T, E5, E6, E7}
 use Rattle.hp_model.specs.declared.outcomes.Outcome.{Outcome}
 use Rattle.hp_model.specs.declared.outcomes.Outcome.TheVariants.{Added, Ejected, Refused}
 use Rattle.hp_model.specs.declared.entries.Entry.{Entry}
@@ -161,18 +161,6 @@ one_more xs ys i j s u v a b c = rw (a, b, c) refl
 
 -- at each label of the monarch
 pub tied_row : (y : Layout) (x : Seat) (r : Monarch) (l : Label) (v : ℕ) (a : Account) (d : Bool) → part_of l ≡ Monarchs → r.label ≡ l → Tied a r d → Tied (row_account l v a) (next_at y x r l v).monarch (not (same_label l S2) && d)
-tied_row y x r F1 v a d mine is h = absurd cc
-tied_row y x r F2 v a d mine is h = absurd cc
-tied_row y x r F3 v a d mine is h = absurd cc
-tied_row y x r F4 v a d mine is h = absurd cc
-tied_row y x r F5 v a d mine is h = absurd cc
-tied_row y x r F6 v a d mine is h = absurd cc
-tied_row y x r R1 v a d mine is h = absurd cc
-tied_row y x r R2 v a d mine is h = absurd cc
-tied_row y x r R3 v a d mine is h = absurd cc
-tied_row y x r R4 v a d mine is h = absurd cc
-tied_row y x r R5 v a d mine is h = absurd cc
-tied_row y x r R6 v a d mine is h = absurd cc
 tied_row y x r S0 v a d mine is h = tied_first a r d (h.early (rw is refl)) (h.none (rw is refl))
 tied_row y x r S1 v a d mine is h = tied_next a r d (h.early (rw is refl)) (h.none (rw is refl))
 tied_row y x r S2 v a d mine is h =
@@ -236,6 +224,7 @@ tied_row y x r T v a d mine is h = tied_report a y.apics (told r.outcome r) d (h
 tied_row y x r E5 v a d mine is h = tied_free (record a { closed = true }) r d (and_right a.sent false refl)
 tied_row y x r E6 v a d mine is h = tied_freed a r d (h.left (rw is refl))
 tied_row y x r E7 v a d mine is h = h
+tied_row y x r _ v a d mine is h = absurd cc
 
 -- as a session begins, and where it has ended
 pub tied_begun : (r : Monarch) (d : Bool) → Tied account_start (restarted r) d

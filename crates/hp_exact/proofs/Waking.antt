@@ -11,7 +11,7 @@ use Rattle.hp_model.specs.declared.accesses.Access.{Access}
 use Rattle.hp_model.specs.declared.accesses.Want.{Want}
 use Rattle.hp_model.specs.declared.accesses.Want.TheVariants as want
 use Rattle.hp_model.specs.declared.labels.Label.{Label}
-use Rattle.hp_model.specs.declared.labels.Label.TheVariants.{F1, F2, F3, F4, F5, F6, R1, R2, R3, R4, R5, R6, S0, S1, S2, S3, S4, C1, C2, C3, C4, C5, C6, NB, N0, N1, N2, N3, N4, N5, N6, N7, N8a, N8b, N9, N10, N11, E0, E1, E2, E3, E4a, E4b, E4c, E4d, E4e, E4f, E4g, E4h, T, E5, E6, E7}
+use Rattle.hp_model.specs.declared.labels.Label.TheVariants.{F1, F2, F3, F4, F5, F6, R1, R2, R3, R4, R5, R6, S0, S1, S2, S3, S4, C1, C3, C4, C5, C6, N3, N4, N5, N6, N8a, N8b, N9, N11, E2, E4b, E4c, E4f, E4g, T, E5, E6, E7}
 use Rattle.hp_model.specs.Platform.{apic_of, high_half}
 use Rattle.hp_model.specs.Cpu.{is_waiting, hit, started}
 use Rattle.hp_model.specs.Interrupts.{destination, is_target}
@@ -22,9 +22,9 @@ use Rattle.hp_model.specs.Collection.{Collection, CollectsAt, CollectedAll, coll
 use Rattle.hp_model.specs.Monarch.{Monarch, at_label, look_at, noted, next_report, collected, told, eject_led, led}
 use Rattle.hp_model.specs.Add.{is_last_look}
 use Rattle.hp_model.specs.Handlers.{Seat, want_at, next_at}
-use Rattle.hp_model.specs.Step.{State, at, access_effect}
+use Rattle.hp_model.specs.Step.{State, at, access_effect, is_after_broadcast}
 use Rattle.hp_sealed.proofs.Left.{pick}
-use Rattle.hp_exact.proofs.Monarchs.{is_among, next_by}
+use Rattle.hp_exact.proofs.Monarchs.{is_among, next_by, adding}
 use Rattle.hp_exact.proofs.Naming.{Ids, aimed, Own}
 use Rattle.hp_exact.proofs.Hits.{Alike, struck, strikes, alike_each}
 
@@ -63,42 +63,24 @@ asleep_row y q r S1 v mine is other = pick Asleep (nat_lt (r.slot + 1) (length r
 asleep_row y q r S2 v mine is other = asleep_look y.polls (known_from r.slots 1) r
 asleep_row y q r S3 v mine is other = pick Asleep ((v == 1) || nat_le r.polls 1) _ _ (asleep_look y.polls (known_from r.slots (r.slot + 1)) (noted r.slot v r)) (rw is refl)
 asleep_row y q r S4 v mine is other = pick Asleep (v == 4) (record r { label = C1; collection = collection_start; taken = 0 }) (at_label E5 r) refl refl
-asleep_row y q r C1 v mine is other = refl
-asleep_row y q r C2 v mine is other = refl
 asleep_row y q r C3 v mine is other = pick (λ w. Asleep (collected y.apics w r)) (nat_lt v r.collection.cpu || not (nat_lt v y.count)) (CollectedAll r.collection) (CollectsAt C4 (record r.collection { cpu = v })) (asleep_next y.apics (record r { collection = r.collection })) refl
 asleep_row y q r C4 v mine is other = pick (λ w. Asleep (collected y.apics w r)) (bit_and v 0x12 == 0) (next_processor y.count r.collection) (CollectsAt C5 (record r.collection { status = v })) (asleep_processor y.count y.apics r r.collection) refl
-asleep_row y q r C5 v mine is other = refl
 asleep_row y q r C6 v mine is other = asleep_processor y.count y.apics r _
-asleep_row y q r NB v mine is other = refl
-asleep_row y q r N0 v mine is other = refl
-asleep_row y q r N1 v mine is other = refl
-asleep_row y q r N2 v mine is other = refl
 asleep_row y q r N3 v mine is other = absurd cc
 asleep_row y q r N4 v mine is other = absurd cc
 asleep_row y q r N5 v mine is other = absurd cc
-asleep_row y q r N6 v mine is other = refl
-asleep_row y q r N7 v mine is other = refl
 asleep_row y q r N8a v mine is other = pick (λ w. Asleep (led w r)) (v == 1) _ _ refl refl
 asleep_row y q r N8b v mine is other = pick (λ w. Asleep (led w (noted r.add.slot v r))) (v == 1) _ _ refl (pick (λ w. Asleep (led w (noted r.add.slot v r))) (is_last_look r.add) _ _ refl refl)
 asleep_row y q r N9 v mine is other = pick (λ w. Asleep (led w r)) r.add.seen _ _ refl (pick (λ w. Asleep (led w r)) (nat_lt r.add.attempt 3) _ _ refl refl)
-asleep_row y q r N10 v mine is other = refl
 asleep_row y q r N11 v mine is other = pick (λ w. Asleep (led w (noted r.add.slot v r))) (v == 1) _ _ refl (pick (λ w. Asleep (led w (noted r.add.slot v r))) (is_last_look r.add) _ _ (pick (λ w. Asleep (led w (noted r.add.slot v r))) (nat_lt r.add.attempt 3) _ _ refl refl) refl)
-asleep_row y q r E0 v mine is other = refl
-asleep_row y q r E1 v mine is other = refl
 asleep_row y q r E2 v mine is other = pick (λ w. Asleep (eject_led w r)) (v == 1) _ _ refl (pick (λ w. Asleep (eject_led w r)) (nat_le r.eject.polls 1) _ _ refl refl)
-asleep_row y q r E3 v mine is other = refl
-asleep_row y q r E4a v mine is other = refl
 asleep_row y q r E4b v mine is other = pick (λ m. Asleep (at_label m r)) y.late E4f E4c refl refl
-asleep_row y q r E4c v mine is other = refl
-asleep_row y q r E4d v mine is other = refl
-asleep_row y q r E4e v mine is other = refl
-asleep_row y q r E4f v mine is other = refl
 asleep_row y q r E4g v mine is other = pick (λ w. Asleep (eject_led w r)) (bit_and v 0x10 == 0x10) _ _ refl refl
-asleep_row y q r E4h v mine is other = refl
 asleep_row y q r T v mine is other = asleep_next y.apics (told r.outcome r)
 asleep_row y q r E5 v mine is other = pick Asleep (nat_lt 1 (length r.slots.bound)) (record r { label = E6; slot = 1 }) (at_label E7 r) refl refl
 asleep_row y q r E6 v mine is other = pick Asleep (nat_lt (r.slot + 1) (length r.slots.bound)) (record r { label = E6; slot = r.slot + 1 }) (at_label E7 r) refl refl
 asleep_row y q r E7 v mine is other = rw is refl
+asleep_row y q r _ v mine is other = refl
 
 -- at N3 its SMI is latched, N4 leaves it so, and start-up ends its wait
 waits_started : (page : ℕ) (c : Cpu) → (is_waiting c.mode ≡ true → c.smi ≡ true) → is_waiting (hit (Start page) c).mode ≡ true → (hit (Start page) c).smi ≡ true
@@ -148,56 +130,26 @@ module _ (p : Platform) (s : State) (q : Seat) (ids : Ids p) (own : Own p (recor
   wakes_row l a mine wants h = subst (Wakes p s l) wants (by_label l mine h)
     where
       by_label : (l : Label) → is_among l (N3 ∷ N4 ∷ N5 ∷ []) ≡ true → (is_among l waking ≡ true → IsWoken (at s s.monarch.add.cpu)) → Wakes p s l (want_at (layout_of p) q s.monarch l)
-      by_label F1 e g = absurd cc
-      by_label F2 e g = absurd cc
-      by_label F3 e g = absurd cc
-      by_label F4 e g = absurd cc
-      by_label F5 e g = absurd cc
-      by_label F6 e g = absurd cc
-      by_label R1 e g = absurd cc
-      by_label R2 e g = absurd cc
-      by_label R3 e g = absurd cc
-      by_label R4 e g = absurd cc
-      by_label R5 e g = absurd cc
-      by_label R6 e g = absurd cc
-      by_label S0 e g = absurd cc
-      by_label S1 e g = absurd cc
-      by_label S2 e g = absurd cc
-      by_label S3 e g = absurd cc
-      by_label S4 e g = absurd cc
-      by_label C1 e g = absurd cc
-      by_label C2 e g = absurd cc
-      by_label C3 e g = absurd cc
-      by_label C4 e g = absurd cc
-      by_label C5 e g = absurd cc
-      by_label C6 e g = absurd cc
-      by_label NB e g = absurd cc
-      by_label N0 e g = absurd cc
-      by_label N1 e g = absurd cc
-      by_label N2 e g = absurd cc
       by_label N3 e g = wakes_sent
       by_label N4 e g = wakes_init (g refl)
       by_label N5 e g = wakes_start (g refl)
-      by_label N6 e g = absurd cc
-      by_label N7 e g = absurd cc
-      by_label N8a e g = absurd cc
-      by_label N8b e g = absurd cc
-      by_label N9 e g = absurd cc
-      by_label N10 e g = absurd cc
-      by_label N11 e g = absurd cc
-      by_label E0 e g = absurd cc
-      by_label E1 e g = absurd cc
-      by_label E2 e g = absurd cc
-      by_label E3 e g = absurd cc
-      by_label E4a e g = absurd cc
-      by_label E4b e g = absurd cc
-      by_label E4c e g = absurd cc
-      by_label E4d e g = absurd cc
-      by_label E4e e g = absurd cc
-      by_label E4f e g = absurd cc
-      by_label E4g e g = absurd cc
-      by_label E4h e g = absurd cc
-      by_label T e g = absurd cc
-      by_label E5 e g = absurd cc
-      by_label E6 e g = absurd cc
-      by_label E7 e g = absurd cc
+      by_label _ e g = absurd cc
+
+pub waking_called : (l : Label) → is_among l waking ≡ true → is_after_broadcast l ≡ true
+waking_called N4 e = refl
+waking_called N5 e = refl
+waking_called N6 e = refl
+waking_called _ e = absurd cc
+
+pub waking_adds : (l : Label) → is_among l waking ≡ true → is_among l adding ≡ true
+waking_adds N4 e = refl
+waking_adds N5 e = refl
+waking_adds N6 e = refl
+waking_adds _ e = absurd cc
+
+-- the labels that lead to N4, N5 and N6
+pub waking_from : (l : Label) → is_among l (N3 ∷ N4 ∷ N5 ∷ []) ≡ true → (is_after_broadcast l ≡ true) × (is_among l adding ≡ true)
+waking_from N3 e = (refl, refl)
+waking_from N4 e = (refl, refl)
+waking_from N5 e = (refl, refl)
+waking_from _ e = absurd cc

@@ -36,7 +36,9 @@ pub fn ejects_show()
     ensures { (p : Platform) (es : List Entry) → IsFit p → each_told p (eject_shows p) (transitions p es) ≡ true }
 {}
 
-/// Each outcome shows in its entries: what is told of an add, of an eject, and of what was refused.
+/// Each outcome of an add or an eject shows in its entries: in what they read and stored, and while the session is undisturbed in who has
+/// its slot's tile or is absent. Of what is refused at once `Foreign` comes in disturbed sessions alone; of the others, which are what
+/// the report's class says, nothing is asked here.
 pub fn outcomes_show()
     ensures { (p : Platform) (es : List Entry) → IsFit p → each_told p (shows p) (transitions p es) ≡ true }
 {}

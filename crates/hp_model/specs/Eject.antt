@@ -11,7 +11,7 @@ pub record Eject : Type 0 where
   pub apic : ℕ
   pub slot : ℕ
   pub polls : ℕ  -- looks left at its parked byte
-  pub status : ℕ  -- its status byte, where the eject didn't go through
+  pub status : ℕ  -- the status byte that was read after control was written, where its bit 4 was set
 
 -- the eject of this processor, before its first look
 abbrev pub eject_of : ℕ → ℕ → ℕ → Eject
@@ -37,11 +37,11 @@ saw_parked parked j =
 abbrev pub unparked : Eject → EjectLed
 unparked j = EjectEnds (Refused (NotParked j.cpu j.apic))
 
--- control 8 was written; where others may have moved the selector meanwhile, the status is looked at
+-- control 8 was written; where others may have moved the selector meanwhile, the processor is selected again and the status looked at
 abbrev pub handed_to_block : Bool → Label
 handed_to_block late = if late then E4f else E4c
 
--- the status was read: bit 4 tells that another processor was selected when control was written
+-- the status was read: with bit 4 set the processor isn't taken as ejected
 abbrev pub saw_status : ℕ → Eject → EjectLed
 saw_status status j = if bit_and status 0x10 == 0x10 then EjectsAt E4h (record j { status = status }) else EjectsAt E4c j
 

@@ -16,7 +16,7 @@ kind_of low =
     else if low / 0x100 % 8 == 6 then Some (Start (low % 0x100))
     else None
 
--- the destination: bits 31:24 of the high half, or under x2APIC all of it; no destination means all processors (own rule)
+-- the destination: bits 31:24 of the high half, or under x2APIC all of it; no value of it is a broadcast (own rule)
 abbrev pub destination : Bool → ℕ → ℕ
 destination x2apic high = if x2apic then high else high / 0x1000000 % 0x100
 

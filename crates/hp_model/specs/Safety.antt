@@ -35,7 +35,7 @@ pub record IsGuarded (p : Platform) (es : List Entry) : Type 0 where
   pub distinct : IsDistinct p es
   pub named : IsNamed p es
 
--- a platform's entries are safe
+-- a platform's entries are safe: all four laws, that of locked instructions, the two of SMBASEs, and that of sessions
 pub record IsSafe (p : Platform) (es : List Entry) : Type 0 where
   pub guarded : IsGuarded p es
   pub exact : IsExact p es

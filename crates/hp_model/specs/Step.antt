@@ -44,7 +44,7 @@ pub record State : Type 0 where
   pub fw_cfg : FwCfg
   pub monarch : Monarch  -- the record that the handler of processor 0 keeps
   pub stage : Stage
-  pub disturbed : Bool  -- whether a processor outside SMM has written to the register block since the session's SMI was sent to all others
+  pub disturbed : Bool  -- set where a processor outside SMM writes to the register block after the monarch's S2, up to its E5; cleared at its S2
 
 -- what a step answers, and the state after it
 pub record After : Type 0 where

@@ -27,7 +27,7 @@ f_smbase_written has_default old value =
 abbrev pub is_fixed : Locks → Bool
 is_fixed l = bit_and l.smram 0x10 == 0x10
 
--- register 50 becomes 30, which is 48, by ff, where the platform has such a TSEG and 64 MiB of RAM (own rule)
+-- register 50 becomes 30, which is 48, by ff, where the platform has such a TSEG and at least 64 MiB of RAM (own rule)
 abbrev pub ext_tseg_written : Locks → ℕ → ℕ
 ext_tseg_written l value = if (value == 0xff) && (l.has_ext && nat_le 0x4000000 l.low_memory) then 0x30 else l.ext_tseg
 

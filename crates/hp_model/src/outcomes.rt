@@ -6,9 +6,10 @@
 /// that the firmware has bound.
 #[derive(Clone, Copy)]
 pub enum Outcome {
-    /// The processor has its own SMBASE and has arrived at its own handler.
+    /// The processor has its own SMBASE and has arrived at its own handler (in a session that nobody outside SMM has
+    /// disturbed).
     Added { cpu: u32, apic: u32, slot: u32 },
-    /// The processor is absent, and its APIC ID is no longer known.
+    /// The APIC ID is no longer known, and the processor is absent (in a session that nobody outside SMM has disturbed).
     Ejected { cpu: u32, apic: u32, slot: u32 },
     /// Nothing of both, for this reason.
     Refused(Refusal),
@@ -25,9 +26,10 @@ pub enum Refusal {
     AlreadyKnown { cpu: u32, apic: u32, slot: u32 },
     /// An insert event while the add of another APIC ID, `held`, isn't complete.
     GateHeld { cpu: u32, apic: u32, held: u32 },
-    /// In the third attempt the processor showed neither flag nor arrived byte while the gate was open.
+    /// In the third attempt no look at the flag or the arrived byte read 1 before the monarch closed the gate.
     NotAtGate { cpu: u32, apic: u32 },
-    /// In the third attempt the processor passed the gate but didn't arrive at its own handler.
+    /// In the third attempt one of these looks read 1, but once the gate was closed and the arrived byte cleared no look
+    /// at that byte did.
     NotCheckedIn { cpu: u32, apic: u32 },
     /// A firmware eject without hot-unplug among the negotiated features, which are in `features`.
     NoUnplug { cpu: u32, features: u64 },
@@ -35,11 +37,11 @@ pub enum Refusal {
     NotKnown { cpu: u32, apic: u32 },
     /// A firmware eject of a processor whose arrived byte was last read as 0 in this session.
     NotArrived { cpu: u32, apic: u32 },
-    /// A firmware eject of a processor that didn't park.
+    /// A firmware eject, and no look at the processor's parked byte read 1.
     NotParked { cpu: u32, apic: u32 },
     /// The APIC ID that was read isn't that of the processor, or the processor is the monarch itself.
     Foreign { cpu: u32, apic: u32 },
-    /// After its eject the processor's status still had bit 4 set.
+    /// The status that was read after the eject was asked of the register block had bit 4 set.
     StillPending { cpu: u32, status: u8 },
 }
 

@@ -1,5 +1,5 @@
 -- What is due is a step of the actor, and where nothing is due it has none.
-use Rattle.std.proofs.Common.{◌≡◌, ◌≢◌, ◌⊎◌, inl, inr, ◌<◌, ℕ, zero, suc, ◌%◌, ◌^◌, arith, nat_lt, Bool, true, false, ◌&&◌, ◌||◌, not, ◌==◌, Option, Some, None, refl, sym, ap, subst, ◌∙◌, eqb-true}
+use Rattle.std.proofs.Common.{◌≡◌, ◌≢◌, inl, inr, ◌<◌, ℕ, zero, suc, ◌%◌, ◌^◌, arith, nat_lt, Bool, true, false, ◌&&◌, ◌||◌, not, ◌==◌, Option, Some, None, refl, sym, ap, subst, ◌∙◌, eqb-true}
 use Rattle.std.specs.Prelude.{if◌then◌else◌}
 use Rattle.std.proofs.lemmas.Bool.{lt-ltb}
 use Rattle.std.proofs.Math.Nat.{mod-lt}
@@ -15,8 +15,8 @@ use Rattle.hp_model.specs.declared.entries.Actor.{Actor}
 use Rattle.hp_model.specs.declared.entries.Actor.TheVariants as actor
 use Rattle.hp_model.specs.declared.entries.Event.{Event}
 use Rattle.hp_model.specs.declared.entries.Event.TheVariants as event
-use Rattle.hp_model.specs.Boot.{Stage, Boots, Refused, Handed, is_handed, boot_access}
-use Rattle.hp_model.specs.Cpu.{is_free, is_in_smm, is_running, is_outside, is_unlatched, may_take_smi, may_take_init}
+use Rattle.hp_model.specs.Boot.{Stage, Boots, Refused, Handed, boot_access}
+use Rattle.hp_model.specs.Cpu.{is_free, is_in_smm, is_running, is_unlatched, may_take_smi, may_take_init}
 use Rattle.hp_model.specs.Platform.{is_late}
 use Rattle.hp_model.specs.Runs.{IsStepBy, actor_of}
 use Rattle.hp_model.specs.Step.{State, after, at, is_boots, is_enabled, is_halt, is_handlers, is_memory_width, is_normal, is_port_width, is_that_access, is_wanted, may_access, normal, same_access, stands_in_smm, step, wanted, wanted_in, is_that_outcome, is_rsm}

@@ -1,5 +1,5 @@
 -- Where all agents tell their voices, a turn is the schedule's.
-use Rattle.std.proofs.Common.{◌≡◌, inl, ℕ, zero, suc, true, List, [], ◌∷◌, map, Option, Some, None, refl, sym, ap, subst, ◌∙◌, Bool, if◌then◌else◌}
+use Rattle.std.proofs.Common.{◌≡◌, inl, ℕ, zero, suc, true, false, List, [], ◌∷◌, map, Option, Some, None, refl, sym, ap, subst, ◌∙◌, Bool, if◌then◌else◌}
 use Rattle.std.specs.Prelude.{get_or, slice_index_or, slice_set}
 use Rattle.hp_model.specs.declared.platforms.Platform.{Platform}
 use Rattle.hp_model.specs.declared.accesses.Access.{Access}
@@ -13,18 +13,17 @@ use Rattle.hp_model.specs.declared.turns.Due.{Due}
 use Rattle.hp_model.specs.declared.turns.Due.TheVariants as due
 use Rattle.hp_model.specs.Block.{ejected_by}
 use Rattle.hp_model.specs.Following.{told_at, without_agent}
-use Rattle.hp_model.specs.Platform.{is_late}
-use Rattle.hp_model.specs.Runs.{IsStepBy, actor_of, address_of, run}
+use Rattle.hp_model.specs.Runs.{address_of, run}
 use Rattle.hp_model.specs.Schedule.{Scene, act, does, entry_of, made_by, makes_none, question, question_in, said_by, voice_at, without_voice}
 use Rattle.hp_model.specs.Step.{State, After, after, answer_of, normal, step}
 use Rattle.hp_model.specs.Turn.{due_of}
-use Rattle.hp_model.specs.Voices.{Question, Voice, silent}
+use Rattle.hp_model.specs.Voices.{Voice, silent}
 use Rattle.hp_agent.specs.Speaking.{Speaks}
 use Rattle.hp_platform.specs.declared.worlds.Turn.{Turn}
 use Rattle.hp_platform.specs.declared.worlds.Turn.TheVariants.{Made, Idle}
 use Rattle.hp_platform.specs.Board.{is_step}
 use Rattle.hp_platform.specs.World.{Acts, IsIdle, IsMade, IsSaid, IsStepOf, IsTurned, IsUnasked, Says, Tells, World}
-use Rattle.hp_platform.proofs.Stepping.{IsAsks, IsMakes, asks_is, makes_is}
+use Rattle.hp_platform.proofs.Stepping.{asks_is, makes_is}
 use Rattle.hp_platform.proofs.Turning.{accepted, run_more}
 
 -- told voices
@@ -111,10 +110,10 @@ module _ (old new : World) (w : Scene) (tells : Tells old w) (platform : new.pla
         subst (λ (o : Option Voice). Speaks o said.left (question w k) said.access) told
         (subst (λ (vs : List Answer). Speaks (told_at old.voices k) said.left (question_in w.state k vs) said.access) tells.last said.speaks)
 
-    abbrev x : Event
-    x = event.Do k (normal (said_by w k).access)
+    abbrev said_event : Event
+    said_event = event.Do k (normal (said_by w k).access)
 
-    same : e.event ≡ x
+    same : e.event ≡ said_event
     same = said.event ∙ ap (λ (b : Access). event.Do k (normal b)) speaks.0
 
     abbrev kept : List Voice
@@ -125,7 +124,7 @@ module _ (old new : World) (w : Scene) (tells : Tells old w) (platform : new.pla
 
     asks_acts : Acts new (does p0 w (due.Asks k)) (Made e)
     asks_acts =
-        made_acts a e made x kept (slice_set w.last k) same
+        made_acts a e made said_event kept (slice_set w.last k) same
         (said.voices ∙ ap (without_agent (gone e.event)) set-is ∙ without-is (gone e.event) kept ∙ ap (λ (y : Event). map (λ v. Some v) (without_voice (gone y) kept)) same)
         (said.last ∙ ap (λ (vs : List Answer). slice_set vs k e.answer) tells.last ∙ ap (slice_set w.last k) ((made.is w.state tells.is).answer ∙ ap (answer_of w.state) same))
 
@@ -134,6 +133,7 @@ module _ (old new : World) (w : Scene) (tells : Tells old w) (platform : new.pla
   entry_acts a e made = by (due_of p0 w.state a) (made.is w.state tells.is).says
     where
       by : (d : Due) → Says d old new w.state e (gone e.event) → Acts new (does p0 w d) (Made e)
+      by due.Idle says = elim says [ ]
       by (due.Makes x) says = makes_acts a e x made says.0 says.1
       by (due.Asks k) says = asks_acts a e k made says
 
@@ -156,10 +156,10 @@ module _ (old new : World) (w : Scene) (tells : Tells old w) (platform : new.pla
       stays x vs last none = subst (λ (o : Option After). Acts new (made_by w x vs last o) Idle) (sym none) same
 
       by : (d : Due) → due_of p0 w.state a ≡ d → Acts new (does p0 w d) Idle
-      by due.Idle is = same
-      by (due.Makes x) is = stays x w.voices (λ answer. w.last) ((idle.none w.state tells.is).none x (makes_is p0 w.state a x is).actor)
-      by (due.Asks k) is =
-          let a_is : a ≡ actor.Cpu k = (asks_is p0 w.state a k is).actor in
+      by due.Idle due_is = same
+      by (due.Makes x) due_is = stays x w.voices (λ answer. w.last) ((idle.none w.state tells.is).none x (makes_is p0 w.state a x due_is).actor)
+      by (due.Asks k) due_is =
+          let a_is : a ≡ actor.Cpu k = (asks_is p0 w.state a k due_is).actor in
           stays (event.Do k (normal (said_by w k).access)) (slice_set w.voices k (said_by w k).voice) (slice_set w.last k)
           ((idle.none w.state tells.is).none (event.Do k (normal (said_by w k).access)) (inl (sym a_is)))
 

@@ -26,8 +26,8 @@ use Rattle.hp_model.specs.Voices.{Voice}
 use Rattle.hp_model.proofs.Scheduled.{run_from-append, same_address-refl, same_answer-refl}
 use Rattle.hp_agent.specs.Speaking.{Speaks, asked}
 use Rattle.hp_platform.specs.Board.{Board, IsReady, Shows, is_step}
-use Rattle.hp_platform.specs.World.{HasNone, IsIdle, IsKept, IsMade, IsNoted, IsSaid, IsStepOf, Says, WasIdle, World, asked_place, counted, counted_at, idle_place, idle_place_of, idle_places, noted, noted_at, one_more}
-use Rattle.hp_platform.proofs.Leading.{left, right}
+use Rattle.hp_platform.specs.World.{HasNone, IsIdle, IsKept, IsMade, IsNoted, IsSaid, IsStepOf, Says, WasIdle, World, asked_place, counted, counted_at, idle_place, idle_place_of, idle_places, noted, one_more}
+use Rattle.hp_platform.proofs.Leading.{left}
 use Rattle.hp_platform.proofs.Stepping.{asks_is, makes_is}
 
 -- what making a step says

@@ -1,5 +1,5 @@
 -- What contracts see of a world, and what a turn makes of it.
-use Rattle.std.specs.Prelude.{⊥, ◌≡◌, ◌≤◌, ℕ, Bool, true, false, ◌&&◌, nat_lt, ◌+◌, ◌-◌, ◌^◌, min, List, [], ◌∷◌, ◌++◌, length, map, take, Option, Some, None, IsSome, slice_index_or, slice_set, if◌then◌else◌}
+use Rattle.std.specs.Prelude.{◌≡◌, ◌≤◌, ℕ, Bool, ◌&&◌, nat_lt, ◌+◌, ◌-◌, ◌^◌, min, List, [], ◌∷◌, ◌++◌, length, map, take, Option, Some, None, IsSome, slice_index_or, slice_set, if◌then◌else◌}
 use Rattle.hp_model.specs.declared.platforms.Platform.{Platform}
 use Rattle.hp_model.specs.declared.accesses.Access.{Access}
 use Rattle.hp_model.specs.declared.accesses.Answer.{Answer}

@@ -7,7 +7,7 @@ ghost use Rattle.hp_model.specs.Boot.{fact_of, is_handed};
 ghost use Rattle.hp_model.specs.Following.{without_agent};
 ghost use Rattle.hp_model.specs.Platform.{IsFit, count_of, is_late as comes_late};
 ghost use Rattle.hp_model.specs.Runs.{address_of, run};
-ghost use Rattle.hp_model.specs.Safety.{IsGuarded};
+ghost use Rattle.hp_model.specs.Safety.{IsSafe};
 ghost use Rattle.hp_model.specs.Step.{State, after as step_after, answer_of, normal as normal_of};
 ghost use Rattle.hp_platform.specs.Board.{IsReady, Shows};
 ghost use Rattle.hp_platform.specs.World.{IsSound, IsTurned, asked_place, counted, counted_at, idle_place_of, idle_places, noted, turns_at, turns_of};
@@ -15,6 +15,7 @@ ghost use Rattle.hp_platform.specs.World.{IsSound, IsTurned, asked_place, counte
 use crate::boards::{Board, is_late};
 use crate::normal::normal;
 use hp_agent::{Agent, Agents};
+use hp_exact::runs_are_safe;
 use hp_model::{Actor, Answer, BootFact, Due, Entry, Event, NoMemory, Platform};
 use std::alloc::Global;
 use std::marker::Model;
@@ -281,14 +282,16 @@ impl<A: Agent> World<A> {
         }
     }
 
-    /// All steps that were made, in their order: a run of the machine from its start. In it each instruction executed in SMM
-    /// lies in SMRAM that was locked before it, no two processors have one SMBASE but for the default, and an SMBASE changes
-    /// only past the gate, while the monarch has named its processor's APIC ID.
+    /// All steps that were made, in their order: a run of the machine from its start, and a safe one. In it each instruction
+    /// executed in SMM lies in SMRAM that was locked before it; no two processors hold one relocated SMBASE; a processor's SMBASE
+    /// changes only after it passed the gate while the monarch had named its APIC ID; and in each undisturbed session each completed
+    /// add or eject changes exactly the processor that the registers reported, each refusal naming its fact.
     pub fn entries(&self) -> &[Entry]
         ensures entries { result.now ≡ self.now.entries }
         ensures run { IsSome (run self.now.platform self.now.entries) }
-        ensures guarded { IsGuarded self.now.platform self.now.entries }
+        ensures safe { IsSafe self.now.platform self.now.entries }
     {
+        runs_are_safe();
         self.entries.as_slice()
     }
 

@@ -31,7 +31,7 @@ use Rattle.hp_sealed.proofs.Left.{left_then}
 use Rattle.hp_sealed.proofs.Stay.{Stays, stays_same}
 use Rattle.hp_sealed.proofs.Outside.{Calm, Acts, acts, left_acted}
 use Rattle.hp_sealed.proofs.BootSlots.{ids_differ}
-use Rattle.hp_sealed.proofs.Same.{same_access-is}
+use Rattle.hp_model.proofs.Same.{same_access-equal}
 use Rattle.hp_sealed.proofs.Starts.{set_all, first_set}
 use Rattle.hp_sealed.proofs.Places.{default_locked, guarded_locked, tseg_locked, kept_guarded, slot_of}
 use Rattle.hp_safety.proofs.Needs.{Need, Ejecting, Nothing, Passing, Loaded, Saved, Adding, Opening, Open, Looking, Telling, need_of, is_aloft, is_open, IsSlot, Facts, FirstNeeds, MonarchNeeds, Needs}
@@ -297,7 +297,7 @@ slot_small p s k l sound here = by_part (part_of l) here.cell.runs
 keeps_made : (p : Platform) (m : List Write) (s : State) (k : ℕ) (a : Access) (l : Label) (w : Option Want) → Sound p → Invariant p m s → AtRow p s k l → WritesOf p s.monarch.slots k s w → Spares p k s w → LeadsOn p k s (seat p s k) s.monarch l w → is_that_access w a ≡ true → Invariant p m (row_led p s k (answer_to true a s) (Some l) (access_effect p k true a s))
 keeps_made p m s k a l None sound h here writes spares leads e = absurd cc
 keeps_made p m s k a l (Some (want.Do b)) sound h here writes spares leads e =
-    subst (λ c. Invariant p m (row_led p s k (answer_to true c s) (Some l) (access_effect p k true c s))) (sym (same_access-is a b e))
+    subst (λ c. Invariant p m (row_led p s k (answer_to true c s) (Some l) (access_effect p k true c s))) (sym (same_access-equal a b e))
     (keeps_led p m s (access_effect p k true b s) k l (next_at (layout_of p) (seat p s k) s.monarch l (value_in (answer_to true b s))) sound h here writes spares (acts p k true b s) leads)
 keeps_made p m s k a l (Some (want.Tell o)) sound h here writes spares leads e = absurd cc
 keeps_made p m s k a l (Some want.Resume) sound h here writes spares leads e = absurd cc

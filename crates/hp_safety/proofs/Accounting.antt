@@ -13,7 +13,7 @@ use Rattle.hp_model.specs.declared.accesses.Want.{Want}
 use Rattle.hp_model.specs.declared.accesses.Want.TheVariants as want
 use Rattle.hp_model.specs.declared.outcomes.Outcome.{Outcome}
 use Rattle.hp_model.specs.declared.labels.Label.{Label}
-use Rattle.hp_model.specs.declared.labels.Label.TheVariants.{F1, F2, F3, F4, F5, F6, R1, R2, R3, R4, R5, R6, S0, S1, S2, S3, S4, C1, C2, C3, C4, C5, C6, NB, N0, N1, N2, N3, N4, N5, N6, N7, N8a, N8b, N9, N10, N11, E0, E1, E2, E3, E4a, E4b, E4c, E4d, E4e, E4f, E4g, E4h, T, E5, E6, E7}
+use Rattle.hp_model.specs.declared.labels.Label.TheVariants.{F1, R1, R2, R3, R4, R5, R6, S0, S1, S2, S3, S4, C1, C2, C3, C4, C5, C6, N7, E5, E6, E7}
 use Rattle.hp_model.specs.declared.entries.Event.{Event}
 use Rattle.hp_model.specs.declared.entries.Event.TheVariants.{Insert, Remove, Do, TakeSmi, TakeInit, Resume, Tell}
 use Rattle.hp_model.specs.declared.entries.Entry.{Entry}
@@ -34,7 +34,7 @@ use Rattle.hp_model.specs.Sessions.{bounds_session}
 use Rattle.hp_sealed.specs.Left.{Sound}
 use Rattle.hp_sealed.proofs.Left.{pick_by}
 use Rattle.hp_sealed.proofs.Outside.{acts}
-use Rattle.hp_sealed.proofs.Same.{same_access-is}
+use Rattle.hp_model.proofs.Same.{same_access-equal}
 use Rattle.hp_sealed.proofs.Goes.{stepped}
 use Rattle.hp_safety.proofs.Needs.{Nothing, need_of, is_aloft}
 use Rattle.hp_safety.proofs.Invariant.{facts_of, Invariant}
@@ -51,11 +51,6 @@ use Rattle.hp_safety.proofs.Marked.{at_none, same_index, at_monarch, at_other}
 -- where a label needs nothing, the bound APIC IDs are those of the entries
 free_bound : (B : List ℕ) (S : Session) (r : Monarch) (l : Label) → need_of l ≡ Nothing → TiedAt B S r (tie_of l) → r.slots.bound ≡ B
 free_bound B S r F1 e h = h
-free_bound B S r F2 e h = absurd cc
-free_bound B S r F3 e h = absurd cc
-free_bound B S r F4 e h = absurd cc
-free_bound B S r F5 e h = absurd cc
-free_bound B S r F6 e h = absurd cc
 free_bound B S r R1 e h = h
 free_bound B S r R2 e h = h
 free_bound B S r R3 e h = h
@@ -73,36 +68,10 @@ free_bound B S r C3 e h = h.0
 free_bound B S r C4 e h = h.0
 free_bound B S r C5 e h = h.0
 free_bound B S r C6 e h = h.0
-free_bound B S r NB e h = absurd cc
-free_bound B S r N0 e h = absurd cc
-free_bound B S r N1 e h = absurd cc
-free_bound B S r N2 e h = absurd cc
-free_bound B S r N3 e h = absurd cc
-free_bound B S r N4 e h = absurd cc
-free_bound B S r N5 e h = absurd cc
-free_bound B S r N6 e h = absurd cc
-free_bound B S r N7 e h = absurd cc
-free_bound B S r N8a e h = absurd cc
-free_bound B S r N8b e h = absurd cc
-free_bound B S r N9 e h = absurd cc
-free_bound B S r N10 e h = absurd cc
-free_bound B S r N11 e h = absurd cc
-free_bound B S r E0 e h = absurd cc
-free_bound B S r E1 e h = absurd cc
-free_bound B S r E2 e h = absurd cc
-free_bound B S r E3 e h = absurd cc
-free_bound B S r E4a e h = absurd cc
-free_bound B S r E4b e h = absurd cc
-free_bound B S r E4c e h = absurd cc
-free_bound B S r E4d e h = absurd cc
-free_bound B S r E4e e h = absurd cc
-free_bound B S r E4f e h = absurd cc
-free_bound B S r E4g e h = absurd cc
-free_bound B S r E4h e h = absurd cc
-free_bound B S r T e h = absurd cc
 free_bound B S r E5 e h = h
 free_bound B S r E6 e h = h
 free_bound B S r E7 e h = h
+free_bound B S r _ e h = absurd cc
 
 -- what an event stores, and whether it bounds a session
 abbrev pub stored_in : Event → Option ℕ
@@ -201,7 +170,7 @@ module _ (p : Platform) (m : List Write) (s : State) (k : ℕ) (l : Label) (soun
   tied_made : (B : List ℕ) (S : Session) (a : Access) (w : Option Want) → e.event ≡ Do k a → e.answer ≡ answer_to true a s → want_at (layout_of p) (seat p s k) s.monarch l ≡ w → LeadsOn p k s (seat p s k) s.monarch l w → is_that_access w a ≡ true → Tied B S s.monarch → Tied (bound_more p B e) (session_more p S e) (row_led p s k (answer_to true a s) (Some l) (access_effect p k true a s)).monarch
   tied_made B S a None event answer is leads f tied = absurd cc
   tied_made B S a (Some (want.Do b)) event answer is leads f tied =
-      let same = same_access-is a b f in
+      let same = same_access-equal a b f in
       row_tied B S (value_in (answer_to true a s)) (next_at (layout_of p) (seat p s k) s.monarch l (value_in (answer_to true a s))) refl
       (λ other. subst (λ c. (next_at (layout_of p) (seat p s k) s.monarch l (value_in (answer_to true c s))).monarch ≡ s.monarch) (sym same) (leads.others other))
       (λ seven. let w : Some (want.Do (Store gate 8 s.monarch.add.apic)) ≡ Some (want.Do b) = sym (ap (want_at (layout_of p) (seat p s k) s.monarch) seven) ∙ is in

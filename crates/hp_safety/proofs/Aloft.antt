@@ -4,7 +4,7 @@ use Rattle.std.proofs.lemmas.Bool.{and_parts, eqb-true}
 use Rattle.std.proofs.lemmas.Bool.Decides.{nat_tests}
 use Rattle.hp_model.specs.declared.platforms.Platform.{Platform}
 use Rattle.hp_model.specs.declared.labels.Label.{Label}
-use Rattle.hp_model.specs.declared.labels.Label.TheVariants.{F1, F2, F3, F4, F5, F6, R1, R2, R3, R4, R5, R6, S0, S1, S2, S3, S4, C1, C2, C3, C4, C5, C6, NB, N0, N1, N2, N3, N4, N5, N6, N7, N8a, N8b, N9, N10, N11, E0, E1, E2, E3, E4a, E4b, E4c, E4d, E4e, E4f, E4g, E4h, T, E5, E6, E7}
+use Rattle.hp_model.specs.declared.labels.Label.TheVariants.{F1}
 use Rattle.hp_model.specs.Platform.{tseg, tile}
 use Rattle.hp_model.specs.Labels.{Part, First, Relocated, Monarch, part_of, index_of}
 use Rattle.hp_model.specs.SharedBytes.{layout_of}
@@ -24,58 +24,7 @@ is_first Monarch = false
 -- at the first handler's labels but for the first of them
 aloft_by : (l : Label) → is_aloft (need_of l) ≡ (is_first (part_of l) && nat_lt 0 (index_of l))
 aloft_by F1 = refl
-aloft_by F2 = refl
-aloft_by F3 = refl
-aloft_by F4 = refl
-aloft_by F5 = refl
-aloft_by F6 = refl
-aloft_by R1 = refl
-aloft_by R2 = refl
-aloft_by R3 = refl
-aloft_by R4 = refl
-aloft_by R5 = refl
-aloft_by R6 = refl
-aloft_by S0 = refl
-aloft_by S1 = refl
-aloft_by S2 = refl
-aloft_by S3 = refl
-aloft_by S4 = refl
-aloft_by C1 = refl
-aloft_by C2 = refl
-aloft_by C3 = refl
-aloft_by C4 = refl
-aloft_by C5 = refl
-aloft_by C6 = refl
-aloft_by NB = refl
-aloft_by N0 = refl
-aloft_by N1 = refl
-aloft_by N2 = refl
-aloft_by N3 = refl
-aloft_by N4 = refl
-aloft_by N5 = refl
-aloft_by N6 = refl
-aloft_by N7 = refl
-aloft_by N8a = refl
-aloft_by N8b = refl
-aloft_by N9 = refl
-aloft_by N10 = refl
-aloft_by N11 = refl
-aloft_by E0 = refl
-aloft_by E1 = refl
-aloft_by E2 = refl
-aloft_by E3 = refl
-aloft_by E4a = refl
-aloft_by E4b = refl
-aloft_by E4c = refl
-aloft_by E4d = refl
-aloft_by E4e = refl
-aloft_by E4f = refl
-aloft_by E4g = refl
-aloft_by E4h = refl
-aloft_by T = refl
-aloft_by E5 = refl
-aloft_by E6 = refl
-aloft_by E7 = refl
+aloft_by _ = refl
 
 pub aloft_first : (l : Label) → is_aloft (need_of l) ≡ true → part_of l ≡ First
 aloft_first l e = by_part (part_of l) (sym (aloft_by l) ∙ e)

@@ -37,7 +37,8 @@ use Rattle.hp_safety.proofs.MonarchSteps.{MonarchStep, monarch_steps}
 use Rattle.hp_safety.proofs.Tallies.{turn_of}
 use Rattle.hp_safety.proofs.Held.{HeldTied, held_on, Knows, knows_first, knows_on, row_says, boot_event}
 use Rattle.hp_safety.proofs.FactRows.{known_out}
-use Rattle.hp_safety.proofs.Facts.{FactsTied, known_more, length-unread, facts_on}
+use Rattle.hp_safety.proofs.Looks.{length-unread}
+use Rattle.hp_safety.proofs.Facts.{FactsTied, known_more, facts_on}
 use Rattle.hp_safety.proofs.Classing.{ClassAt}
 use Rattle.hp_safety.proofs.Outcoming.{class_now, OutcomesTied, outcomes_on}
 

@@ -1,12 +1,11 @@
 -- What an outcome says follows from the class of its report.
 use Rattle.std.proofs.Common.{ℕ, ◌≡◌, ◌+◌, ◌-◌, ◌==◌, Bool, true, false, not, ◌&&◌, ◌||◌, nat_lt, nat_le, List, [], ◌∷◌, ◌++◌, length, drop, Option, Some, None, slice_get, bit_and, refl, sym, ap, subst, ◌∙◌, arith}
-use Rattle.std.specs.Str.{bytes_eq}
 use Rattle.std.proofs.lemmas.Bool.Decides.{nat_tests}
 use Rattle.hp_model.specs.declared.outcomes.Outcome.{Outcome}
 use Rattle.hp_model.specs.declared.outcomes.Outcome.TheVariants as outcome
 use Rattle.hp_model.specs.declared.outcomes.Refusal.TheVariants.{NotAtGate, NotCheckedIn, NotParked, StillPending}
 use Rattle.hp_model.specs.declared.labels.Label.{Label}
-use Rattle.hp_model.specs.declared.labels.Label.TheVariants.{F1, F2, F3, F4, F5, F6, R1, R2, R3, R4, R5, R6, S0, S1, S2, S3, S4, C1, C2, C3, C4, C5, C6, NB, N0, N1, N2, N3, N4, N5, N6, N7, N8a, N8b, N9, N10, N11, E0, E1, E2, E3, E4a, E4b, E4c, E4d, E4e, E4f, E4g, E4h, T, E5, E6, E7}
+use Rattle.hp_model.specs.declared.labels.Label.TheVariants.{S1, S2, S3, C1, C3, C4, C5, C6, NB, N0, N1, N2, N3, N4, N5, N6, N7, N8a, N8b, N9, N10, N11, E0, E1, E2, E3, E4a, E4b, E4c, E4d, E4e, E4f, E4g, E4h, T, E5, E6, E7}
 use Rattle.hp_model.specs.Labels.{Monarch as Monarchs, part_of, index_of}
 use Rattle.hp_model.specs.SharedBytes.{Layout}
 use Rattle.hp_model.specs.Slots.{known_from}
@@ -15,13 +14,13 @@ use Rattle.hp_model.specs.Add.{AddsAt, Ends, failed, looks, is_last_look, saw_fl
 use Rattle.hp_model.specs.Eject.{EjectsAt, EjectEnds, awaits, saw_parked, handed_to_block, saw_status}
 use Rattle.hp_model.specs.Monarch.{Monarch, at_label, first_slot, next_slot, look_at, looked, noted, commanded, Class, Tells, Adds, Ejects, class, facts_of as facts_by, took, answered, taken_up, next_report, collected, led, eject_led}
 use Rattle.hp_model.specs.Handlers.{Seat, next_at}
-use Rattle.hp_model.specs.Step.{outcome_numbers, same_outcome}
 use Rattle.hp_model.specs.Outcomes.{ends_add, ends_eject, answers_by}
 use Rattle.hp_sealed.proofs.Left.{pick}
 use Rattle.hp_safety.proofs.Needs.{need_of, Facts, Needs}
 use Rattle.hp_safety.proofs.EachRow.{row_of_each}
 use Rattle.hp_safety.proofs.Tallies.{Turn, Waiting, Collecting, Beginning, Running, Parting, Telling, Ending, Over, turn_of}
 use Rattle.hp_safety.proofs.Tallying.{first_dropped}
+use Rattle.hp_model.proofs.Same.{same_outcome-refl}
 
 -- this class, of this report, is the one by which the record acts
 pub record Names (o : Option Report) (by_cpu by_apic : ℕ) : Type 0 where
@@ -50,17 +49,9 @@ itself n = grind (arith, nat_tests)
 abbrev IsFree : Turn → Type 0
 IsFree x = (c : Class) (o : Option Report) (r : Monarch) → ClassAt c o r x
 
-same_numbers : (ns : List ℕ) → bytes_eq ns ns ≡ true
-same_numbers [] = refl
-same_numbers (n ∷ ns) = rw (itself n) (same_numbers ns)
-
-told_same : (o : Outcome) → same_outcome o o ≡ true
-unfolding same_outcome
-told_same o = same_numbers (outcome_numbers o)
-
 -- the next report is taken up by its class
 class_answered : (c : Class) (t : Report) (r : Monarch) → Classed c (Some t) (answered c t (took r))
-class_answered (Tells o) t r = told_same o
+class_answered (Tells o) t r = same_outcome-refl o
 class_answered Adds t r = (refl, record { report = t; is = refl; cpu = refl; apic = refl })
 class_answered Ejects t r = (refl, record { report = t; is = refl; cpu = refl; apic = refl })
 
@@ -142,59 +133,11 @@ class_ended why c o r h ends = let n = h.1 in rw (h.0, n.is) (ends n.report n.cp
 
 -- rows after which a report may be taken up
 abbrev pub takes_up : Label → Bool
-takes_up F1 = false
-takes_up F2 = false
-takes_up F3 = false
-takes_up F4 = false
-takes_up F5 = false
-takes_up F6 = false
-takes_up R1 = false
-takes_up R2 = false
-takes_up R3 = false
-takes_up R4 = false
-takes_up R5 = false
-takes_up R6 = false
-takes_up S0 = false
-takes_up S1 = false
-takes_up S2 = false
-takes_up S3 = false
-takes_up S4 = false
-takes_up C1 = false
-takes_up C2 = false
 takes_up C3 = true
 takes_up C4 = true
-takes_up C5 = false
 takes_up C6 = true
-takes_up NB = false
-takes_up N0 = false
-takes_up N1 = false
-takes_up N2 = false
-takes_up N3 = false
-takes_up N4 = false
-takes_up N5 = false
-takes_up N6 = false
-takes_up N7 = false
-takes_up N8a = false
-takes_up N8b = false
-takes_up N9 = false
-takes_up N10 = false
-takes_up N11 = false
-takes_up E0 = false
-takes_up E1 = false
-takes_up E2 = false
-takes_up E3 = false
-takes_up E4a = false
-takes_up E4b = false
-takes_up E4c = false
-takes_up E4d = false
-takes_up E4e = false
-takes_up E4f = false
-takes_up E4g = false
-takes_up E4h = false
 takes_up T = true
-takes_up E5 = false
-takes_up E6 = false
-takes_up E7 = false
+takes_up _ = false
 
 abbrev RowAt : Class → Option Report → Monarch → Monarch → Bool → Type 0
 RowAt c o r n true = Unit {0}
@@ -285,29 +228,6 @@ is_busy Ending = false
 is_busy Over = false
 
 pub busy_index : (l : Label) → is_busy (turn_of l) ≡ true → (nat_le 11 (index_of l) && not (index_of l == 34)) ≡ true
-busy_index F1 e = absurd cc
-busy_index F2 e = absurd cc
-busy_index F3 e = absurd cc
-busy_index F4 e = absurd cc
-busy_index F5 e = absurd cc
-busy_index F6 e = absurd cc
-busy_index R1 e = absurd cc
-busy_index R2 e = absurd cc
-busy_index R3 e = absurd cc
-busy_index R4 e = absurd cc
-busy_index R5 e = absurd cc
-busy_index R6 e = absurd cc
-busy_index S0 e = absurd cc
-busy_index S1 e = absurd cc
-busy_index S2 e = absurd cc
-busy_index S3 e = absurd cc
-busy_index S4 e = absurd cc
-busy_index C1 e = absurd cc
-busy_index C2 e = absurd cc
-busy_index C3 e = absurd cc
-busy_index C4 e = absurd cc
-busy_index C5 e = absurd cc
-busy_index C6 e = absurd cc
 busy_index NB e = refl
 busy_index N0 e = refl
 busy_index N1 e = refl
@@ -334,118 +254,16 @@ busy_index E4e e = refl
 busy_index E4f e = refl
 busy_index E4g e = refl
 busy_index E4h e = refl
-busy_index T e = absurd cc
-busy_index E5 e = absurd cc
-busy_index E6 e = absurd cc
-busy_index E7 e = absurd cc
+busy_index _ e = absurd cc
 
 pub telling_takes : (l : Label) → turn_of l ≡ Telling → takes_up l ≡ true
-telling_takes F1 e = absurd cc
-telling_takes F2 e = absurd cc
-telling_takes F3 e = absurd cc
-telling_takes F4 e = absurd cc
-telling_takes F5 e = absurd cc
-telling_takes F6 e = absurd cc
-telling_takes R1 e = absurd cc
-telling_takes R2 e = absurd cc
-telling_takes R3 e = absurd cc
-telling_takes R4 e = absurd cc
-telling_takes R5 e = absurd cc
-telling_takes R6 e = absurd cc
-telling_takes S0 e = absurd cc
-telling_takes S1 e = absurd cc
-telling_takes S2 e = absurd cc
-telling_takes S3 e = absurd cc
-telling_takes S4 e = absurd cc
-telling_takes C1 e = absurd cc
-telling_takes C2 e = absurd cc
-telling_takes C3 e = absurd cc
-telling_takes C4 e = absurd cc
-telling_takes C5 e = absurd cc
-telling_takes C6 e = absurd cc
-telling_takes NB e = absurd cc
-telling_takes N0 e = absurd cc
-telling_takes N1 e = absurd cc
-telling_takes N2 e = absurd cc
-telling_takes N3 e = absurd cc
-telling_takes N4 e = absurd cc
-telling_takes N5 e = absurd cc
-telling_takes N6 e = absurd cc
-telling_takes N7 e = absurd cc
-telling_takes N8a e = absurd cc
-telling_takes N8b e = absurd cc
-telling_takes N9 e = absurd cc
-telling_takes N10 e = absurd cc
-telling_takes N11 e = absurd cc
-telling_takes E0 e = absurd cc
-telling_takes E1 e = absurd cc
-telling_takes E2 e = absurd cc
-telling_takes E3 e = absurd cc
-telling_takes E4a e = absurd cc
-telling_takes E4b e = absurd cc
-telling_takes E4c e = absurd cc
-telling_takes E4d e = absurd cc
-telling_takes E4e e = absurd cc
-telling_takes E4f e = absurd cc
-telling_takes E4g e = absurd cc
-telling_takes E4h e = absurd cc
 telling_takes T e = refl
-telling_takes E5 e = absurd cc
-telling_takes E6 e = absurd cc
-telling_takes E7 e = absurd cc
+telling_takes _ e = absurd cc
 
 -- the rows after which a report may be taken up, one by one
 pub taking : (P : Label → Type 0) → P C3 → P C4 → P C6 → P T → (l : Label) → takes_up l ≡ true → P l
-taking P c3 c4 c6 t F1 e = absurd cc
-taking P c3 c4 c6 t F2 e = absurd cc
-taking P c3 c4 c6 t F3 e = absurd cc
-taking P c3 c4 c6 t F4 e = absurd cc
-taking P c3 c4 c6 t F5 e = absurd cc
-taking P c3 c4 c6 t F6 e = absurd cc
-taking P c3 c4 c6 t R1 e = absurd cc
-taking P c3 c4 c6 t R2 e = absurd cc
-taking P c3 c4 c6 t R3 e = absurd cc
-taking P c3 c4 c6 t R4 e = absurd cc
-taking P c3 c4 c6 t R5 e = absurd cc
-taking P c3 c4 c6 t R6 e = absurd cc
-taking P c3 c4 c6 t S0 e = absurd cc
-taking P c3 c4 c6 t S1 e = absurd cc
-taking P c3 c4 c6 t S2 e = absurd cc
-taking P c3 c4 c6 t S3 e = absurd cc
-taking P c3 c4 c6 t S4 e = absurd cc
-taking P c3 c4 c6 t C1 e = absurd cc
-taking P c3 c4 c6 t C2 e = absurd cc
 taking P c3 c4 c6 t C3 e = c3
 taking P c3 c4 c6 t C4 e = c4
-taking P c3 c4 c6 t C5 e = absurd cc
 taking P c3 c4 c6 t C6 e = c6
-taking P c3 c4 c6 t NB e = absurd cc
-taking P c3 c4 c6 t N0 e = absurd cc
-taking P c3 c4 c6 t N1 e = absurd cc
-taking P c3 c4 c6 t N2 e = absurd cc
-taking P c3 c4 c6 t N3 e = absurd cc
-taking P c3 c4 c6 t N4 e = absurd cc
-taking P c3 c4 c6 t N5 e = absurd cc
-taking P c3 c4 c6 t N6 e = absurd cc
-taking P c3 c4 c6 t N7 e = absurd cc
-taking P c3 c4 c6 t N8a e = absurd cc
-taking P c3 c4 c6 t N8b e = absurd cc
-taking P c3 c4 c6 t N9 e = absurd cc
-taking P c3 c4 c6 t N10 e = absurd cc
-taking P c3 c4 c6 t N11 e = absurd cc
-taking P c3 c4 c6 t E0 e = absurd cc
-taking P c3 c4 c6 t E1 e = absurd cc
-taking P c3 c4 c6 t E2 e = absurd cc
-taking P c3 c4 c6 t E3 e = absurd cc
-taking P c3 c4 c6 t E4a e = absurd cc
-taking P c3 c4 c6 t E4b e = absurd cc
-taking P c3 c4 c6 t E4c e = absurd cc
-taking P c3 c4 c6 t E4d e = absurd cc
-taking P c3 c4 c6 t E4e e = absurd cc
-taking P c3 c4 c6 t E4f e = absurd cc
-taking P c3 c4 c6 t E4g e = absurd cc
-taking P c3 c4 c6 t E4h e = absurd cc
 taking P c3 c4 c6 t T e = t
-taking P c3 c4 c6 t E5 e = absurd cc
-taking P c3 c4 c6 t E6 e = absurd cc
-taking P c3 c4 c6 t E7 e = absurd cc
+taking P c3 c4 c6 t _ e = absurd cc

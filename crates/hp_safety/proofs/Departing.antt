@@ -35,7 +35,7 @@ use Rattle.hp_sealed.specs.Left.{Sound}
 use Rattle.hp_sealed.proofs.Left.{pick, pick_by}
 use Rattle.hp_sealed.proofs.Stay.{Stays, stays_same, stays_sent, stays_halt, stays_set, stays_raised, at_set}
 use Rattle.hp_sealed.proofs.Outside.{stays_block}
-use Rattle.hp_sealed.proofs.Same.{same_access-is}
+use Rattle.hp_model.proofs.Same.{same_access-equal}
 use Rattle.hp_sealed.proofs.Labels.{same_label as label_same}
 use Rattle.hp_sealed.proofs.Goes.{stepped, not_in_smm, after_boots, refused_goes}
 use Rattle.hp_sealed.proofs.HandOver.{IsBefore}
@@ -188,7 +188,7 @@ departs_row p m s k l e a (Some (want.Do b)) sound h here place is f = by_label 
         inr (rw there refl)
     by_label false other =
         let stays = subst (StaysAll p k s) is (row_stays p k s (seat p s k) s.monarch s.writes l here.cell.met other) in
-        inl (remains_next s (access_effect p k true a s) k (at s k).smbase (next_at (layout_of p) (seat p s k) s.monarch l (value_in (answer_to true a s))) (λ j. subst (λ c. Stays (at s j) (at (access_effect p k true c s) j)) (sym (same_access-is a b f)) (stays j)))
+        inl (remains_next s (access_effect p k true a s) k (at s k).smbase (next_at (layout_of p) (seat p s k) s.monarch l (value_in (answer_to true a s))) (λ j. subst (λ c. Stays (at s j) (at (access_effect p k true c s) j)) (sym (same_access-equal a b f)) (stays j)))
 departs_row p m s k l e a (Some (want.Tell o)) sound h here place is f = absurd cc
 departs_row p m s k l e a (Some want.Resume) sound h here place is f = absurd cc
 

@@ -44,10 +44,12 @@ use Rattle.hp_safety.proofs.Backward.{since_it, since_other, session_on, session
 use Rattle.hp_safety.proofs.Keeps.{is_that-is}
 use Rattle.hp_safety.proofs.Marked.{at_none, same_index, at_monarch}
 use Rattle.hp_safety.proofs.Accesses.{past_aloft}
-use Rattle.hp_safety.proofs.Moves.{Passes, Moves, moves}
+use Rattle.hp_safety.proofs.GateRows.{Passes, Moves}
+use Rattle.hp_safety.proofs.Moves.{moves}
 use Rattle.hp_safety.proofs.Events.{keeps}
 use Rattle.hp_safety.proofs.Runs.{IsHanded, rebase, sealed_handed}
-use Rattle.hp_safety.proofs.Named.{Accounted, accounted_on, sealed_accounted, outside_address, bound_before, IsChange, is_change, none_before, relocates}
+use Rattle.hp_safety.proofs.Named.{Accounted, accounted_on, sealed_accounted, outside_address, bound_before}
+use Rattle.hp_safety.proofs.Smbases.{IsChange, is_change, none_before, relocates}
 use Rattle.hp_safety.proofs.MonarchSteps.{IsElsewhere, IsWanted, IsRow, MonarchStep, monarch_steps}
 use Rattle.hp_safety.proofs.Tallies.{Tally, tally_of, tally_told, tally_reported, tally_after, tally_new, Waiting, Beginning, turn_of, IsIdle, TallyAt, Tallied}
 use Rattle.hp_safety.proofs.Tallying.{row_tally, idle_resting, beginning_is, tally_held}

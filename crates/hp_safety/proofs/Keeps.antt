@@ -252,7 +252,7 @@ row_here p m s k a l sound h is cell =
     let reached : is_hole s.locks true (address_of_label b l) 4 ≡ false = subst (λ x. is_hole s.locks true x 4 ≡ false) place reach in
     rw (is, cell.here, reached, value, label_with-mark l, cell.runs, cell.due) refl
 
-no_row : (p : Platform) (s : State) (k : ℕ) (l : Label) → smm_address (at s k) ≡ None → row_at p s k ≡ Some l → ⊥
+pub no_row : (p : Platform) (s : State) (k : ℕ) (l : Label) → smm_address (at s k) ≡ None → row_at p s k ≡ Some l → ⊥
 unfolding row_at mark_at
 no_row p s k l is e =
     let none : option_and_then (row_of (layout_of p) s.monarch k (at s k).smbase) (option_map (λ address. loaded s.locks true (byte_at s.writes) address 4) (smm_address (at s k))) ≡ None = rw is refl in

@@ -28,7 +28,7 @@ use Rattle.hp_model.specs.Sessions.{bounds_session}
 use Rattle.hp_sealed.specs.Left.{Sound}
 use Rattle.hp_sealed.proofs.Left.{pick_by}
 use Rattle.hp_sealed.proofs.Outside.{acts}
-use Rattle.hp_sealed.proofs.Same.{same_access-is, same_outcome-is}
+use Rattle.hp_model.proofs.Same.{same_access-equal, same_outcome-equal}
 use Rattle.hp_sealed.proofs.Goes.{stepped}
 use Rattle.hp_safety.proofs.Needs.{Nothing, need_of}
 use Rattle.hp_safety.proofs.EachRow.{row_of_each}
@@ -127,7 +127,7 @@ module _ (p : Platform) (m : List Write) (s : State) (k : ℕ) (l : Label) (soun
   steps_made : (a : Access) (w : Option Want) → e.event ≡ Do k a → e.answer ≡ answer_to true a s → want_at (layout_of p) (seat p s k) s.monarch l ≡ w → LeadsOn p k s (seat p s k) s.monarch l w → is_that_access w a ≡ true → MonarchStep p s e (row_led p s k (answer_to true a s) (Some l) (access_effect p k true a s)).monarch
   steps_made a None event answer is leads f = absurd cc
   steps_made a (Some (want.Do b)) event answer is leads f =
-      let same = same_access-is a b f in
+      let same = same_access-equal a b f in
       elim (is_monarchs (part_of l)) [
         | inl mine ↦
             let z = row_first p s k l here mine in
@@ -148,7 +148,7 @@ module _ (p : Platform) (m : List Write) (s : State) (k : ℕ) (l : Label) (soun
   steps_told o None z event answer is f = absurd cc
   steps_told o (Some (want.Do a)) z event answer is f = absurd cc
   steps_told o (Some (want.Tell t)) z event answer is f =
-      row_of 0 (next_at (layout_of p) (seat p s k) s.monarch l 0).monarch (first_runs (part_of l) here.cell.runs) (subst (λ w. IsWanted w e.event) (sym is) (event ∙ ap Tell (same_outcome-is o t f))) (ap value_in answer) refl
+      row_of 0 (next_at (layout_of p) (seat p s k) s.monarch l 0).monarch (first_runs (part_of l) here.cell.runs) (subst (λ w. IsWanted w e.event) (sym is) (event ∙ ap Tell (same_outcome-equal o t f))) (ap value_in answer) refl
     where
       first_runs : (q : Part) → runs_at (layout_of p) q k (at s k).smbase ≡ true → q ≡ Monarchs
       first_runs First runs = absurd (let f : (not (0 == 0) && ((at s k).smbase == 0x30000)) ≡ true = subst (λ i. (not (i == 0) && ((at s k).smbase == 0x30000)) ≡ true) z runs in cc)

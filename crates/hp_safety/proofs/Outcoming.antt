@@ -38,7 +38,8 @@ use Rattle.hp_safety.proofs.Marked.{at_monarch}
 use Rattle.hp_safety.proofs.Placing.{bound_few}
 use Rattle.hp_safety.proofs.Runs.{IsHanded}
 use Rattle.hp_safety.proofs.Named.{Accounted}
-use Rattle.hp_safety.proofs.Moves.{Moves, moves}
+use Rattle.hp_safety.proofs.GateRows.{Moves}
+use Rattle.hp_safety.proofs.Moves.{moves}
 use Rattle.hp_safety.proofs.MonarchSteps.{IsElsewhere, IsWanted, IsRow, MonarchStep, monarch_steps}
 use Rattle.hp_safety.proofs.Tallies.{Tally, tally_of, open_in, held_in, tally_after, Turn, Waiting, Collecting, Beginning, Running, Parting, Telling, Ending, Over, turn_of, TallyAt}
 use Rattle.hp_safety.proofs.Held.{HeldTied, tally_still, after_row, row_says, row_bounds}

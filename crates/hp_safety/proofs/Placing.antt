@@ -86,7 +86,7 @@ is_in_bind : (s : Slots) (a : ℕ) → is_in a (bind a s).bound ≡ true
 is_in_bind s a = pick_by (λ (t : Slots). is_in a t.bound ≡ true) (is_in a s.bound) s (record s { bound = s.bound ++ a ∷ []; known = s.known ++ false ∷ [] }) (λ e. e) (λ e. in_end a s.bound)
 
 -- it is known from then on
-length-set : {A : Type 0} (bs : List A) (k : ℕ) (b : A) → length (slice_set bs k b) ≡ length bs
+pub length-set : {A : Type 0} (bs : List A) (k : ℕ) (b : A) → length (slice_set bs k b) ≡ length bs
 length-set [] k b = refl
 length-set (x ∷ xs) zero b = refl
 length-set (x ∷ xs) (suc k) b = ap suc (length-set xs k b)

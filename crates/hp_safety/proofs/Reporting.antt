@@ -27,7 +27,8 @@ use Rattle.hp_sealed.proofs.Runs.{Made, made}
 use Rattle.hp_safety.specs.Reports.{reports_rise}
 use Rattle.hp_safety.proofs.Invariant.{facts_of}
 use Rattle.hp_safety.proofs.Marked.{at_none, same_index, at_monarch}
-use Rattle.hp_safety.proofs.Moves.{Moves, moves}
+use Rattle.hp_safety.proofs.GateRows.{Moves}
+use Rattle.hp_safety.proofs.Moves.{moves}
 use Rattle.hp_safety.proofs.Runs.{IsHanded}
 use Rattle.hp_safety.proofs.Named.{Accounted, outside_address}
 use Rattle.hp_safety.proofs.MonarchSteps.{MonarchStep, monarch_steps}

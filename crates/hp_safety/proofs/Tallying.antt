@@ -5,7 +5,7 @@ use Rattle.hp_model.specs.declared.outcomes.Outcome.{Outcome}
 use Rattle.hp_model.specs.declared.outcomes.Outcome.TheVariants as outcome
 use Rattle.hp_model.specs.declared.outcomes.Refusal.TheVariants.{Foreign, Disabled, Both, AlreadyKnown, GateHeld, NoUnplug, NotKnown, NotArrived, NotAtGate, NotCheckedIn, NotParked, StillPending}
 use Rattle.hp_model.specs.declared.labels.Label.{Label}
-use Rattle.hp_model.specs.declared.labels.Label.TheVariants.{F1, F2, F3, F4, F5, F6, R1, R2, R3, R4, R5, R6, S0, S1, S2, S3, S4, C1, C2, C3, C4, C5, C6, NB, N0, N1, N2, N3, N4, N5, N6, N7, N8a, N8b, N9, N10, N11, E0, E1, E2, E3, E4a, E4b, E4c, E4d, E4e, E4f, E4g, E4h, T, E5, E6, E7}
+use Rattle.hp_model.specs.declared.labels.Label.TheVariants.{F1, R1, R2, R3, R4, R5, R6, S0, S1, S2, S3, S4, C1, C2, C3, C4, C5, C6, NB, N0, N8a, N8b, N9, N10, N11, E3, E4a, E4c, E4f, E4h, E5, E6, E7}
 use Rattle.hp_model.specs.Labels.{Monarch as Monarchs, part_of}
 use Rattle.hp_model.specs.SharedBytes.{Layout}
 use Rattle.hp_model.specs.Slots.{known_from}
@@ -292,11 +292,6 @@ row_tally A y q r v f l mine is met tally =
 -- where a label needs nothing no add runs, and what was left is held
 pub idle_resting : (A : Tally) (r : Monarch) (l : Label) → need_of l ≡ Nothing → TallyAt A r (turn_of l) → IsIdle A r
 idle_resting A r F1 e h = h
-idle_resting A r F2 e h = absurd cc
-idle_resting A r F3 e h = absurd cc
-idle_resting A r F4 e h = absurd cc
-idle_resting A r F5 e h = absurd cc
-idle_resting A r F6 e h = absurd cc
 idle_resting A r R1 e h = h
 idle_resting A r R2 e h = h
 idle_resting A r R3 e h = h
@@ -314,92 +309,15 @@ idle_resting A r C3 e h = h.3
 idle_resting A r C4 e h = h.3
 idle_resting A r C5 e h = h.3
 idle_resting A r C6 e h = h.3
-idle_resting A r NB e h = absurd cc
-idle_resting A r N0 e h = absurd cc
-idle_resting A r N1 e h = absurd cc
-idle_resting A r N2 e h = absurd cc
-idle_resting A r N3 e h = absurd cc
-idle_resting A r N4 e h = absurd cc
-idle_resting A r N5 e h = absurd cc
-idle_resting A r N6 e h = absurd cc
-idle_resting A r N7 e h = absurd cc
-idle_resting A r N8a e h = absurd cc
-idle_resting A r N8b e h = absurd cc
-idle_resting A r N9 e h = absurd cc
-idle_resting A r N10 e h = absurd cc
-idle_resting A r N11 e h = absurd cc
-idle_resting A r E0 e h = absurd cc
-idle_resting A r E1 e h = absurd cc
-idle_resting A r E2 e h = absurd cc
-idle_resting A r E3 e h = absurd cc
-idle_resting A r E4a e h = absurd cc
-idle_resting A r E4b e h = absurd cc
-idle_resting A r E4c e h = absurd cc
-idle_resting A r E4d e h = absurd cc
-idle_resting A r E4e e h = absurd cc
-idle_resting A r E4f e h = absurd cc
-idle_resting A r E4g e h = absurd cc
-idle_resting A r E4h e h = absurd cc
-idle_resting A r T e h = absurd cc
 idle_resting A r E5 e h = h.1
 idle_resting A r E6 e h = h
 idle_resting A r E7 e h = h
+idle_resting A r _ e h = absurd cc
 
 -- an add is about to begin at NB alone
 pub beginning_is : (l : Label) → turn_of l ≡ Beginning → l ≡ NB
-beginning_is F1 e = absurd cc
-beginning_is F2 e = absurd cc
-beginning_is F3 e = absurd cc
-beginning_is F4 e = absurd cc
-beginning_is F5 e = absurd cc
-beginning_is F6 e = absurd cc
-beginning_is R1 e = absurd cc
-beginning_is R2 e = absurd cc
-beginning_is R3 e = absurd cc
-beginning_is R4 e = absurd cc
-beginning_is R5 e = absurd cc
-beginning_is R6 e = absurd cc
-beginning_is S0 e = absurd cc
-beginning_is S1 e = absurd cc
-beginning_is S2 e = absurd cc
-beginning_is S3 e = absurd cc
-beginning_is S4 e = absurd cc
-beginning_is C1 e = absurd cc
-beginning_is C2 e = absurd cc
-beginning_is C3 e = absurd cc
-beginning_is C4 e = absurd cc
-beginning_is C5 e = absurd cc
-beginning_is C6 e = absurd cc
 beginning_is NB e = refl
-beginning_is N0 e = absurd cc
-beginning_is N1 e = absurd cc
-beginning_is N2 e = absurd cc
-beginning_is N3 e = absurd cc
-beginning_is N4 e = absurd cc
-beginning_is N5 e = absurd cc
-beginning_is N6 e = absurd cc
-beginning_is N7 e = absurd cc
-beginning_is N8a e = absurd cc
-beginning_is N8b e = absurd cc
-beginning_is N9 e = absurd cc
-beginning_is N10 e = absurd cc
-beginning_is N11 e = absurd cc
-beginning_is E0 e = absurd cc
-beginning_is E1 e = absurd cc
-beginning_is E2 e = absurd cc
-beginning_is E3 e = absurd cc
-beginning_is E4a e = absurd cc
-beginning_is E4b e = absurd cc
-beginning_is E4c e = absurd cc
-beginning_is E4d e = absurd cc
-beginning_is E4e e = absurd cc
-beginning_is E4f e = absurd cc
-beginning_is E4g e = absurd cc
-beginning_is E4h e = absurd cc
-beginning_is T e = absurd cc
-beginning_is E5 e = absurd cc
-beginning_is E6 e = absurd cc
-beginning_is E7 e = absurd cc
+beginning_is _ e = absurd cc
 
 -- what is held is the held one, but where an add is about to begin
 pub tally_held : (A : Tally) (r : Monarch) (x : Turn) → TallyAt A r x → (held_in A ≡ r.slots.held) ⊎ ((x ≡ Beginning) × (A.left ≡ None))

@@ -41,8 +41,8 @@ pub fn runs_are_guarded()
     ensures { (p : Platform) (es : List Entry) (s : State) → IsFit p → run p es ≡ Some s → IsGuarded p es }
 {}
 
-/// Each SMBASE that changes is of the processor whose APIC ID is held just before, as the entries say: that of the running add, or
-/// else the one that the last add to fail has left.
+/// Each SMBASE that changes does so by its processor's own RSM, and the APIC ID of that processor is held just before, as the entries
+/// say: that of the running add, or else the one that the last add to fail has left.
 pub fn smbase_changes_while_held()
     ensures { (p : Platform) (es : List Entry) (s : State) → IsFit p → run p es ≡ Some s → at_each (moves_held p) (transitions p es) ≡ true }
 {}

@@ -17,7 +17,8 @@ use Rattle.hp_model.specs.Platform.{tseg}
 use Rattle.hp_sealed.specs.Left.{Sound, Locked}
 use Rattle.hp_sealed.specs.Features.{first_descriptor, stores_bytes, supports, second_descriptor, after_first, after_second, AgreesAt, Agreeing}
 use Rattle.hp_sealed.specs.Booting.{Booting}
-use Rattle.hp_sealed.proofs.Boots.{locked_by, Each, each_at, each_append, ext_length, boot_length}
+use Rattle.hp_sealed.proofs.BootLocks.{locked_by, Each}
+use Rattle.hp_sealed.proofs.Boots.{each_at, each_append, ext_length, boot_length}
 use Rattle.hp_sealed.proofs.Places.{from_size}
 
 -- below the default area nothing is locked

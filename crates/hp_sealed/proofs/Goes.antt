@@ -20,10 +20,12 @@ use Rattle.hp_sealed.specs.Left.{Sound, LeavesLocked}
 use Rattle.hp_sealed.specs.Sealed.{IsOutside, IsSealed}
 use Rattle.hp_sealed.specs.Booting.{Booting, IsBooting, IsRefused, IsBooted, Goes}
 use Rattle.hp_sealed.proofs.Left.{pick_by}
-use Rattle.hp_sealed.proofs.Same.{same_access-is}
+use Rattle.hp_model.proofs.Same.{same_access-equal}
 use Rattle.hp_sealed.proofs.Outside.{Calm, acts, left_acted}
 use Rattle.hp_sealed.specs.Features.{Agreeing}
-use Rattle.hp_sealed.proofs.Boots.{Passes, passes, outside_acts, locked_by}
+use Rattle.hp_sealed.proofs.BootStores.{Passes, outside_acts}
+use Rattle.hp_sealed.proofs.BootLocks.{locked_by}
+use Rattle.hp_sealed.proofs.Boots.{passes}
 use Rattle.hp_sealed.proofs.Features.{Agrees, agree, agrees_still}
 use Rattle.hp_sealed.proofs.Image.{holds_sealed}
 
@@ -51,7 +53,7 @@ boots_event mib done supported (Remove k) is = absurd cc
 boots_event mib done supported (Do k a) is =
     let both = and_parts (k == 0) (same_access a (boot_access mib supported done)) is in
     let first : k ≡ 0 = eqb-true k 0 both.0 in
-    let next : a ≡ boot_access mib supported done = same_access-is a (boot_access mib supported done) both.1 in
+    let next : a ≡ boot_access mib supported done = same_access-equal a (boot_access mib supported done) both.1 in
     rw (first, next) refl
 boots_event mib done supported (TakeSmi k) is = absurd cc
 boots_event mib done supported (TakeInit k) is = absurd cc

@@ -5,7 +5,7 @@ use Rattle.std.proofs.lemmas.Bool.{and_parts, eqb-true, cases_eq, cases_order}
 use Rattle.std.proofs.lemmas.Bool.Decides.{nat_tests}
 use Rattle.hp_model.specs.declared.platforms.Platform.{Platform}
 use Rattle.hp_model.specs.declared.labels.Label.{Label}
-use Rattle.hp_model.specs.declared.labels.Label.TheVariants.{F1, F2, F3, F4, F5, F6, R1, R2, R3, R4, R5, R6, S0, S1, S2, S3, S4, C1, C2, C3, C4, C5, C6, NB, N0, N1, N2, N3, N4, N5, N6, N7, N8a, N8b, N9, N10, N11, E0, E1, E2, E3, E4a, E4b, E4c, E4d, E4e, E4f, E4g, E4h, T, E5, E6, E7}
+use Rattle.hp_model.specs.declared.labels.Label.TheVariants.{F1, F2, F3, F4, F5, F6}
 use Rattle.hp_model.specs.Platform.{tseg, tile, count_of}
 use Rattle.hp_model.specs.Memory.{Write, byte_at, bytes_of, value_from, write_of}
 use Rattle.hp_model.specs.Labels.{Part, First, Relocated, Monarch, part_of, index_of, mark_of, first_cell, cell_of}
@@ -158,53 +158,7 @@ first_cells p F3 e = refl
 first_cells p F4 e = refl
 first_cells p F5 e = refl
 first_cells p F6 e = refl
-first_cells p R1 e = absurd cc
-first_cells p R2 e = absurd cc
-first_cells p R3 e = absurd cc
-first_cells p R4 e = absurd cc
-first_cells p R5 e = absurd cc
-first_cells p R6 e = absurd cc
-first_cells p S0 e = absurd cc
-first_cells p S1 e = absurd cc
-first_cells p S2 e = absurd cc
-first_cells p S3 e = absurd cc
-first_cells p S4 e = absurd cc
-first_cells p C1 e = absurd cc
-first_cells p C2 e = absurd cc
-first_cells p C3 e = absurd cc
-first_cells p C4 e = absurd cc
-first_cells p C5 e = absurd cc
-first_cells p C6 e = absurd cc
-first_cells p NB e = absurd cc
-first_cells p N0 e = absurd cc
-first_cells p N1 e = absurd cc
-first_cells p N2 e = absurd cc
-first_cells p N3 e = absurd cc
-first_cells p N4 e = absurd cc
-first_cells p N5 e = absurd cc
-first_cells p N6 e = absurd cc
-first_cells p N7 e = absurd cc
-first_cells p N8a e = absurd cc
-first_cells p N8b e = absurd cc
-first_cells p N9 e = absurd cc
-first_cells p N10 e = absurd cc
-first_cells p N11 e = absurd cc
-first_cells p E0 e = absurd cc
-first_cells p E1 e = absurd cc
-first_cells p E2 e = absurd cc
-first_cells p E3 e = absurd cc
-first_cells p E4a e = absurd cc
-first_cells p E4b e = absurd cc
-first_cells p E4c e = absurd cc
-first_cells p E4d e = absurd cc
-first_cells p E4e e = absurd cc
-first_cells p E4f e = absurd cc
-first_cells p E4g e = absurd cc
-first_cells p E4h e = absurd cc
-first_cells p T e = absurd cc
-first_cells p E5 e = absurd cc
-first_cells p E6 e = absurd cc
-first_cells p E7 e = absurd cc
+first_cells p _ e = absurd cc
 
 closed_gate : (p : Platform) → value_from (byte_at (memory_after p 17)) gate 8 ≡ closed
 unfolding value_from bytes_of

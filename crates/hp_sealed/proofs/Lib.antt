@@ -5,10 +5,11 @@ pub mod Outside
 pub mod Labels
 pub mod Values
 pub mod Places
-pub mod Same
 pub mod Image
 pub mod BootSlots
 pub mod Starts
+pub mod BootStores
+pub mod BootLocks
 pub mod Boots
 pub mod Features
 pub mod Goes

@@ -6,7 +6,7 @@ use Rattle.std.proofs.lemmas.Bool.{and_parts, eqb-true, ltb-true, cases_eq}
 use Rattle.std.proofs.lemmas.Bool.Decides.{nat_tests}
 use Rattle.hp_model.specs.declared.platforms.Platform.{Platform}
 use Rattle.hp_model.specs.declared.processors.Cpu.{Cpu}
-use Rattle.hp_model.specs.Platform.{IsFit, counts_fit, ids_fit, boot_fits, memory_fits, tseg_fits, tiles_fit, features_fit, ascends_from, ascends_from_zero, all_distinct, tseg, tile, count_of, apic_of, greatest_id, most_tiles, has_room}
+use Rattle.hp_model.specs.Platform.{IsFit, counts_fit, ids_fit, boot_fits, memory_fits, tseg_fits, tiles_fit, features_fit, polls_fit, ascends_from, ascends_from_zero, all_distinct, tseg, tile, count_of, apic_of, greatest_id, most_tiles, has_room}
 use Rattle.hp_model.specs.Cpu.{absent, booted, boot_cpus, cpus_start, cpu_at, smm_address}
 use Rattle.hp_model.specs.Block.{is_in}
 use Rattle.hp_model.specs.SharedBytes.{layout_of}
@@ -67,17 +67,18 @@ boot_list p e = by_list p.boot refl e
 sizes : (m : ℕ) → ((m == 1) || ((m == 2) || ((m == 8) || (m == 48)))) ≡ true → (m ≡ 1) ⊎ ((m ≡ 2) ⊎ ((m ≡ 8) ⊎ (m ≡ 48)))
 sizes m e = grind (arith, nat_tests)
 
--- rules 2 to 8
-record Fits (p : Platform) : Type 0 where
-  counts : counts_fit p ≡ true
-  ids : ids_fit p ≡ true
-  boot : boot_fits p ≡ true
-  memory : memory_fits p ≡ true
-  size : tseg_fits p ≡ true
-  tiles : tiles_fit p ≡ true
-  features : features_fit p ≡ true
+-- rules 2 to 9
+pub record Fits (p : Platform) : Type 0 where
+  pub counts : counts_fit p ≡ true
+  pub ids : ids_fit p ≡ true
+  pub boot : boot_fits p ≡ true
+  pub memory : memory_fits p ≡ true
+  pub size : tseg_fits p ≡ true
+  pub tiles : tiles_fit p ≡ true
+  pub features : features_fit p ≡ true
+  pub polls : polls_fit p ≡ true
 
-fits : (p : Platform) → IsFit p → Fits p
+pub fits : (p : Platform) → IsFit p → Fits p
 fits p e =
     let a = passed (counts_fit p) 2 _ e in
     let b = passed (ids_fit p) 3 _ a.1 in
@@ -86,7 +87,8 @@ fits p e =
     let f = passed (tseg_fits p) 6 _ d.1 in
     let g = passed (tiles_fit p) 7 _ f.1 in
     let k = passed (features_fit p) 8 _ g.1 in
-    record { counts = a.0; ids = b.0; boot = c.0; memory = d.0; size = f.0; tiles = g.0; features = k.0 }
+    let l = passed (polls_fit p) 9 _ k.1 in
+    record { counts = a.0; ids = b.0; boot = c.0; memory = d.0; size = f.0; tiles = g.0; features = k.0; polls = l.0 }
 
 pub sound : (p : Platform) → IsFit p → Sound p
 sound p e =

@@ -1,15 +1,15 @@
 -- How the run of a file that was read ends; where its machine is handed over, to its end.
-use Rattle.std.proofs.Common.{◌≡◌, ℕ, true, List, Option, Some, None, IsSome, Ok, option_map, inr, refl, sym, ◌∙◌, ap, subst}
+use Rattle.std.proofs.Common.{◌≡◌, ℕ, true, List, [], ◌∷◌, ◌++◌, Option, Some, None, IsSome, Ok, option_map, option_and_then, inr, refl, sym, ◌∙◌, ap, subst}
 use Rattle.std.proofs.lemmas.Option.{same_Some}
 use Rattle.hp_model.specs.declared.files.File.{File}
 use Rattle.hp_model.specs.declared.outcomes.BootFact.{BootFact}
 use Rattle.hp_model.specs.Platform.{IsFit}
 use Rattle.hp_model.specs.declared.platforms.Platform.{Platform}
 use Rattle.hp_model.specs.declared.entries.Entry.{Entry}
-use Rattle.hp_model.specs.Runs.{run}
-use Rattle.hp_model.specs.Safety.{IsGuarded}
+use Rattle.hp_model.specs.Runs.{run, run_from, run_on}
+use Rattle.hp_model.specs.Safety.{IsSafe}
 use Rattle.hp_model.specs.Schedule.{booted, boot_fact, scheduled}
-use Rattle.hp_model.specs.Step.{State}
+use Rattle.hp_model.specs.Step.{State, start}
 use Rattle.hp_config.specs.Reading.{Reading, good, broken, file_of, text_reading, IsReadAs}
 use Rattle.hp_config.specs.Sound.{IsSound}
 use Rattle.hp_boot.specs.Ending.{StopsAt, hands_over}
@@ -46,16 +46,30 @@ module _ (sound : (bytes : List ℕ) (f : File) → IsReadAs bytes (Ok f) → Is
   completed bytes old new (TraceRefused line why) f ends written read up = ends
   completed bytes old new NoMemory f ends written read up = tt
 
--- the entries that are written are a run, and guarded
+-- a front of a run is one
+run_from-front : (p : Platform) (s : State) (front rest : List Entry) → IsSome (run_from p s (front ++ rest)) → IsSome (run_from p s front)
+unfolding run_from
+run_from-front p s [] rest some = refl
+run_from-front p s (e ∷ front) rest some = by (run_on p s e) some
+  where
+    by : (o : Option State) → IsSome (option_and_then (λ t. run_from p t (front ++ rest)) o) → IsSome (option_and_then (λ t. run_from p t front) o)
+    by None some = cc
+    by (Some t) some = run_from-front p t front rest some
+
+run-front : (p : Platform) (es front rest : List Entry) → es ≡ front ++ rest → IsSome (run p es) → IsSome (run p front)
+unfolding run
+run-front p es front rest is some = run_from-front p (start p) front rest (subst (λ (fs : List Entry). IsSome (run_from p (start p) fs)) is some)
+
+-- the entries that are written are a run, and safe
 module _ (whole : (f : File) → IsSome (run f.platform (scheduled f))) (boot : (f : File) → IsSome (run f.platform (booted f).entries))
-    (guards : (p : Platform) (es : List Entry) (s : State) → IsFit p → run p es ≡ Some s → IsGuarded p es)
+    (safety : (p : Platform) (es : List Entry) (s : State) → IsFit p → run p es ≡ Some s → IsSafe p es)
     (stops : (f : File) (fact : BootFact) → boot_fact f ≡ Some fact → StopsAt fact (booted f).entries) where
-  guarded_run : (p : Platform) (es : List Entry) → IsFit p → IsSome (run p es) → IsGuarded p es
-  guarded_run p es fit some = by (run p es) refl some
+  safe_run : (p : Platform) (es : List Entry) → IsFit p → IsSome (run p es) → IsSafe p es
+  safe_run p es fit some = by (run p es) refl some
     where
-      by : (o : Option State) → run p es ≡ o → IsSome o → IsGuarded p es
+      by : (o : Option State) → run p es ≡ o → IsSome o → IsSafe p es
       by None e none = cc
-      by (Some s) e found = guards p es s fit e
+      by (Some s) e found = safety p es s fit e
 
   spelled_run : (f : File) → IsSome (run f.platform (spelled f))
   unfolding spelled
@@ -71,7 +85,7 @@ module _ (whole : (f : File) → IsSome (run f.platform (scheduled f))) (boot : 
     read = read;
     front = front;
     is_run = spelled_run f;
-    guarded = guarded_run f.platform (spelled f) sound.fit (spelled_run f);
+    safe = λ written rest is. safe_run f.platform written sound.fit (run-front f.platform (spelled f) written rest is (spelled_run f));
   }
 
   pub ends_read : (bytes : List ℕ) (old new : Option (List ℕ)) (f : File) (status : Status) → IsReadAs bytes (Ok f) → IsSound f → EndsFile f old new status →
@@ -82,7 +96,7 @@ module _ (whole : (f : File) → IsSome (run f.platform (scheduled f))) (boot : 
     handed = written.fact;
     appended = written.appended;
     is_run = whole f;
-    guarded = guarded_run f.platform (scheduled f) sound.fit (whole f);
+    safe = safe_run f.platform (scheduled f) sound.fit (whole f);
   }
   ends_read bytes old new f BadWords read sound written = written
   ends_read bytes old new f ReadFault read sound written = written
@@ -96,7 +110,7 @@ module _ (whole : (f : File) → IsSome (run f.platform (scheduled f))) (boot : 
     appended = written.appended;
     stops = stops f fact written.fact;
     is_run = boot f;
-    guarded = guarded_run f.platform (booted f).entries sound.fit (boot f);
+    safe = safe_run f.platform (booted f).entries sound.fit (boot f);
   }
   ends_read bytes old new f WriteFault read sound front = cut_run bytes old new f read sound front
   ends_read bytes old new f (TraceRefused line why) read sound written = written

@@ -1,12 +1,13 @@
 -- What each answer of the top call says of what was read and of what was written.
-use Rattle.std.specs.Prelude.{◌≡◌, ◌⊎◌, ℕ, Bool, true, false, List, [], ◌∷◌, codes, length, ◌≤◌, Option, Some, None, IsSome, Ok, Err}
+use Rattle.std.specs.Prelude.{◌≡◌, ◌⊎◌, ℕ, Bool, true, false, List, [], ◌∷◌, ◌++◌, codes, length, ◌≤◌, Option, Some, None, IsSome, Ok, Err}
 use Rattle.std.specs.Str.{bytes_eq}
 use Rattle.std.specs.Io.KnownBytes.{Appends, Keeps}
+use Rattle.hp_model.specs.declared.entries.Entry.{Entry}
 use Rattle.hp_model.specs.declared.files.File.{File}
 use Rattle.hp_config.specs.declared.faults.ConfigFault.TheVariants as fault
 use Rattle.hp_config.specs.Reading.{IsReadAs}
 use Rattle.hp_model.specs.Runs.{run}
-use Rattle.hp_model.specs.Safety.{IsGuarded}
+use Rattle.hp_model.specs.Safety.{IsSafe}
 use Rattle.hp_model.specs.Schedule.{booted, boot_fact, scheduled}
 use Rattle.hp_model.specs.declared.outcomes.BootFact.{BootFact}
 use Rattle.hp_boot.specs.Ending.{StopsAt, hands_over}
@@ -40,16 +41,17 @@ EndsFile file old new WriteFault = HoldsFront old new (output file)
 EndsFile file old new (TraceRefused line why) = ⊥
 EndsFile file old new NoMemory = HoldsFront old new (output file)
 
--- the bytes are a file whose boot was handed over, and the whole trace of its run was appended, whose entries are a run of the machine:
--- in it each instruction executed in SMM lies in SMRAM that was locked before it, no two processors have one SMBASE but for the default,
--- and an SMBASE changes only past the gate, while the monarch has named its processor's APIC ID
+-- The bytes are a file whose boot was handed over, and the whole trace of its run was appended, whose entries are a run of the machine, and a
+-- safe one: each instruction executed in SMM lies in SMRAM that was locked before it; no two processors hold one relocated SMBASE; a processor's
+-- SMBASE changes only after it passed the gate while the monarch had named its APIC ID; and in each undisturbed session each completed add or
+-- eject changes exactly the processor that the registers reported, each refusal naming its fact.
 pub record IsWholeRun (bytes : List ℕ) (old new : Option (List ℕ)) : Type 0 where
   pub file : File
   pub read : IsReadAs bytes (Ok file)
   pub handed : boot_fact file ≡ None
   pub appended : Appends old new (run_text file)
   pub is_run : IsSome (run file.platform (scheduled file))
-  pub guarded : IsGuarded file.platform (scheduled file)
+  pub safe : IsSafe file.platform (scheduled file)
 
 -- the bytes are a file whose boot read this value that refuses it, and the header and the boot's lines were appended: the last of
 -- them is the access that read the value
@@ -60,15 +62,15 @@ pub record IsRefusedBoot (bytes : List ℕ) (fact : BootFact) (old new : Option 
   pub appended : Appends old new (boot_text file)
   pub stops : StopsAt fact (booted file).entries
   pub is_run : IsSome (run file.platform (booted file).entries)
-  pub guarded : IsGuarded file.platform (booted file).entries
+  pub safe : IsSafe file.platform (booted file).entries
 
--- the bytes are a file, and a front of what is written for it was appended: of the text that spells a run guarded as above
+-- the bytes are a file, and a front of what is written for it was appended: of the text that spells a run, of which each front is safe as above
 pub record IsCutRun (bytes : List ℕ) (old new : Option (List ℕ)) : Type 0 where
   pub file : File
   pub read : IsReadAs bytes (Ok file)
   pub front : HoldsFront old new (output file)
   pub is_run : IsSome (run file.platform (spelled file))
-  pub guarded : IsGuarded file.platform (spelled file)
+  pub safe : (front rest : List Entry) → spelled file ≡ front ++ rest → IsSafe file.platform front
 
 -- the bytes are no file for this cause, and nothing was written
 pub record IsRefusedFile (bytes : List ℕ) (old new : Option (List ℕ)) (fault : fault.the_data) : Type 0 where

@@ -16,8 +16,8 @@ use crate::statuses::Status;
 use hp_agent::Script;
 use hp_boot::{boot_ends, boot_stops_at_its_fact};
 use hp_config::{ConfigFault, read, read_files_are_sound};
+use hp_exact::runs_are_safe;
 use hp_model::{File, schedule_is_a_run};
-use hp_safety::runs_are_guarded;
 use std::alloc::Global;
 
 fn is_run(word: &str) -> bool
@@ -60,7 +60,7 @@ fn run_bytes<K: Sink>(alloc: Global, bytes: &[u8], out: &mut K) -> Status
     ensures calm { result ≢ Status.WriteFault → K.faults out.new ≡ K.faults out.old }
 {
     schedule_is_a_run();
-    runs_are_guarded();
+    runs_are_safe();
     read_files_are_sound();
     boot_stops_at_its_fact();
     match read(alloc, bytes) {
@@ -87,7 +87,13 @@ fn complete<K: Sink>(alloc: Global, bytes: &[u8], out: &mut K) -> Status
 
 /// Serves the command `run`: reads a platform file to its end, and writes the trace of its run, line by line.
 ///
-/// docs/PROOFS.md says in words what the clauses do.
+/// For every platform, agents of the file and interleaving of its schedule the trace written is a run of the written machine;
+/// every instruction executed in SMM lies in SMRAM locked before it, no two processors hold one relocated SMBASE, a
+/// processor's SMBASE changes only after passing the gate while the monarch had named its APIC ID, and in each undisturbed
+/// session completed adds and ejects change exactly the processors reported, each refusal naming its fact. Clause `ends`
+/// carries it: `IsSafe` of what was written, whole, cut or of a refused boot.
+///
+/// That each line goes to the sink when its step is made is no clause. docs/PROOFS.md says in words what the clauses do.
 pub fn top<S: Source, K: Sink>(alloc: Global, words: &[String], src: &mut S, out: &mut K) -> Status
     ensures bad_words { (result ≡ Status.BadWords) ↔ (are_the_run (map string_bytes words.now) ≡ false) }
     ensures ends { Ends (S.left src.old) (S.left src.new) (K.held out.old) (K.held out.new) result }

@@ -1,4 +1,4 @@
-use Rattle.hp_exact.proofs.Lost.{law}
+use Rattle.hp_exact.proofs.LostLaw.{law}
 use Rattle.hp_exact.proofs.laws.outcomes_lose_none.Goals as goal
 
 pub returns : goal.returns

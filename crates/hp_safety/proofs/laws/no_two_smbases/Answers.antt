@@ -1,4 +1,4 @@
-use Rattle.hp_safety.proofs.Named.{distinct_law}
+use Rattle.hp_safety.proofs.Smbases.{distinct_law}
 use Rattle.hp_safety.proofs.laws.no_two_smbases.Goals as goal
 
 pub returns : goal.returns

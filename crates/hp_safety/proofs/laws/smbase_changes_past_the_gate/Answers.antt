@@ -1,4 +1,4 @@
-use Rattle.hp_safety.proofs.Named.{named_law}
+use Rattle.hp_safety.proofs.Smbases.{named_law}
 use Rattle.hp_safety.proofs.laws.smbase_changes_past_the_gate.Goals as goal
 
 pub returns : goal.returns

@@ -1,11 +1,10 @@
--- The entries are a run, and each run is guarded.
+-- The entries are a run, and each run is safe.
 use Rattle.std.proofs.Common.{subst}
-use Rattle.hp_model.specs.Safety.{IsGuarded}
+use Rattle.hp_model.specs.Safety.{IsSafe}
 use Rattle.hp_platform.specs.World.{World}
-use Rattle.hp_safety.proofs.Guarding.{guarded}
 use Rattle.hp_platform.proofs.worlds.World.entries.Goals as goal
 
-pub returns-clause-guarded : goal.returns-clause-guarded
-returns-clause-guarded g c =
-    subst (λ (w : World). IsGuarded w.platform w.entries) c.self.view_is
-    (guarded c.self.inside.board.platform c.self.inside.entries.items c.self.invariant.replay.state c.self.invariant.fit c.self.invariant.replay.run)
+pub returns-clause-safe : goal.returns-clause-safe
+returns-clause-safe g c =
+    subst (λ (w : World). IsSafe w.platform w.entries) c.self.view_is
+    (c.runs_are_safe.ensures c.self.inside.board.platform c.self.inside.entries.items c.self.invariant.replay.state c.self.invariant.fit c.self.invariant.replay.run)

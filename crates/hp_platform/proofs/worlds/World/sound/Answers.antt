@@ -1,5 +1,5 @@
 -- What a world keeps, as callers see it.
-use Rattle.std.proofs.Common.{IsSome, Option, Some, refl, sym, subst}
+use Rattle.std.proofs.Common.{IsSome, Option, refl, sym, subst}
 use Rattle.hp_model.specs.Step.{State}
 use Rattle.hp_platform.specs.World.{IsSound, World}
 use Rattle.hp_platform.proofs.worlds.World.sound.Goals as goal
