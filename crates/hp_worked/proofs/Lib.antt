@@ -9,8 +9,12 @@ pub mod EjectsRun
 pub mod EjectsScheduled
 pub mod Opened
 pub mod FedRecords
+pub mod Follows
+pub mod Hosted
 pub mod Runs
 pub mod SafeTraces
 pub mod Scheduled
+pub mod Untouched
 pub mod Ways
 pub mod WrongTraces
+pub mod WrongStepsRefused

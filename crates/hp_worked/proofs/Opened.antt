@@ -16,6 +16,7 @@ use Rattle.hp_model.specs.Step.{step, same_access, same_outcome, mark_at, row_at
 use Rattle.hp_model.specs.Runs.{run, run_from, run_on}
 use Rattle.hp_model.specs.Voices.{says}
 use Rattle.hp_model.specs.Schedule.{act, act_all, actors_of, turns_from, booted, boot_fact, scheduled}
+use Rattle.hp_model.specs.Following.{carried_all, follows}
 use Rattle.hp_model.specs.Transitions.{transitions_by, transitions, since, older_than, newest, at_each, at_each_state, places}
 use Rattle.hp_model.specs.Account.{bound, is_known, left_held}
 use Rattle.hp_model.specs.Sessions.{triples, outcomes, disturbed_in}
@@ -35,6 +36,11 @@ the_run = tt
 unfoldable pub the_schedule : ⊤
 unfolding the_run says act act_all actors_of turns_from booted boot_fact scheduled
 the_schedule = tt
+
+-- and what entries that follow voices carry
+unfoldable pub the_voices : ⊤
+unfolding the_schedule carried_all follows
+the_voices = tt
 
 -- what is read from entries, and the laws of safety
 unfoldable pub the_laws : ⊤

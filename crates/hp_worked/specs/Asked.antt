@@ -8,10 +8,12 @@ use Rattle.hp_model.specs.declared.files.File.{File}
 use Rattle.hp_model.specs.View.{is_locked}
 use Rattle.hp_model.specs.Boot.{Handed}
 use Rattle.hp_model.specs.Step.{State, at, start, stands_in_smm}
+use Rattle.hp_model.specs.Platform.{count_of}
 use Rattle.hp_model.specs.Runs.{run, run_from, run_on}
 use Rattle.hp_model.specs.Schedule.{Scene, scene_start, boot_turns, turns_from}
 use Rattle.hp_model.specs.Memory.{touched}
 use Rattle.hp_model.specs.Safety.{is_astray}
+use Rattle.hp_model.specs.Transitions.{places}
 
 -- the entries are a run of the file's platform
 abbrev pub is_run : File → List Entry → Bool
@@ -60,6 +62,10 @@ is_never_astray f k es = all_the_way f.platform (λ s address. not (is_astray f.
 -- and none of these is
 abbrev pub is_nobody_astray : File → List ℕ → List Entry → Bool
 is_nobody_astray f ks es = all_the_way f.platform (λ s address. not (list_any (is_astray f.platform s) ks)) es (start f.platform)
+
+-- and no processor of the platform is
+abbrev pub is_none_astray : File → List Entry → Bool
+is_none_astray f es = is_nobody_astray f (places (count_of f.platform)) es
 
 -- whether the processor is in SMM after the entries, and whether it is astray
 abbrev pub in_smm_after : File → ℕ → List Entry → Option Bool

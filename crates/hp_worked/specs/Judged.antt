@@ -1,17 +1,16 @@
 -- What the laws of safety say of transitions, each by its test; and the transitions of firmware that does something wrong.
-use Rattle.std.specs.Prelude.{Bool, true, false, not, ◌&&◌, ◌||◌, ◌==◌, List, [], ◌∷◌, Option, Some, None, length, if◌then◌else◌}
+use Rattle.std.specs.Prelude.{Bool, true, ◌&&◌, ◌==◌, List, [], Option, Some, None, length, if◌then◌else◌}
 use Rattle.hp_model.specs.declared.platforms.Platform.{Platform}
 use Rattle.hp_model.specs.declared.entries.Entry.{Entry}
 use Rattle.hp_model.specs.declared.files.File.{File}
 use Rattle.hp_model.specs.View.{is_locked}
 use Rattle.hp_model.specs.Step.{State, start, is_enabled, answer_of, effect_of}
 use Rattle.hp_model.specs.Runs.{same_answer}
-use Rattle.hp_model.specs.Sessions.{is_called_in, is_disturbed}
-use Rattle.hp_model.specs.Transitions.{Transition, entries_of, transitions, transitions_by, at_each, at_each_state, moved_in}
-use Rattle.hp_model.specs.Smbases.{have_own_smbases, are_all_apart, is_named}
+use Rattle.hp_model.specs.Sessions.{flag_tells}
+use Rattle.hp_model.specs.Transitions.{Transition, transitions, transitions_by, at_each, at_each_state}
+use Rattle.hp_model.specs.Smbases.{have_own_smbases, have_smbases_apart, moves_named}
 use Rattle.hp_model.specs.Outcomes.{answers, shows, loses_none, each_told}
 use Rattle.hp_model.specs.Exact.{is_quiet, reports_truly, answers_all, moves_held}
-use Rattle.std.specs.List.{list_all}
 use Rattle.hp_worked.specs.Asked.{four_bytes}
 
 -- the machine alone makes an event that it can, with its answer, whatever the firmware wants; instruction addresses are the entries' own
@@ -26,14 +25,7 @@ recorded p es = transitions_by (machine_on p) [] (start p) es
 abbrev pub finds_locked : List Transition → Bool
 finds_locked xs = at_each (λ older x. four_bytes (is_locked x.before.locks) x.entry.at) xs
 
-abbrev pub are_named : Platform → List Transition → Bool
-are_named p xs = at_each (λ older x. list_all (is_named p older x) (moved_in p x)) xs
-
-abbrev pub same_truth : Bool → Bool → Bool
-same_truth true b = b
-same_truth false b = not b
-
--- what each part of the laws says of transitions, in order
+-- what each test of the laws says of transitions, in order; of the law of locked instructions the one that they are locked
 pub record Verdicts : Type 0 where
   pub locked : Bool
   pub own : Bool
@@ -52,8 +44,8 @@ verdicts p xs =
     record {
       locked = finds_locked xs;
       own = at_each_state p (have_own_smbases p) xs;
-      apart = at_each_state p (λ older s. are_all_apart p s) xs;
-      named = are_named p xs;
+      apart = at_each_state p (have_smbases_apart p) xs;
+      named = at_each (moves_named p) xs;
       quiet = at_each (is_quiet p) xs;
       reports = at_each (reports_truly p) xs;
       outcomes_answer = each_told p answers xs;
@@ -80,9 +72,4 @@ is_record f es = length (recorded f.platform es) == length es
 
 -- while all others are called in, the state's flag is what the entries say of the session
 abbrev pub flag_is_right : File → List Entry → Bool
-flag_is_right f es =
-    at_each
-    (λ older x.
-    not (is_called_in f.platform (entries_of (x ∷ older)))
-    || same_truth x.after.disturbed (is_disturbed f.platform (entries_of (x ∷ older))))
-    (transitions f.platform es)
+flag_is_right f es = at_each_state f.platform (flag_tells f.platform) (transitions f.platform es)

@@ -6,6 +6,7 @@ pub mod Ejects
 pub mod Entries
 pub mod Fed
 pub mod Files
+pub mod Followed
 pub mod GateHeld
 pub mod Judged
 pub mod Late
@@ -19,3 +20,4 @@ pub mod TwoAdds
 pub mod TwoNewProcessors
 pub mod Wide
 pub mod WrongBodies
+pub mod WrongSteps

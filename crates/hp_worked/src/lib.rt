@@ -4,9 +4,11 @@
 mod accounts;
 mod adds;
 mod ejects;
+mod followed;
 mod laws;
 mod records;
 mod safety;
+mod steps;
 
 pub use accounts::{
     an_apic_id_is_held, apic_ids_are_bound, apic_ids_are_known, reports_have_their_class,
@@ -20,6 +22,11 @@ pub use ejects::{
     changed_ejects_are_none, changed_ejects_stop_at_the_change, files_make_worked_ejects,
     worked_ejects_are_runs, worked_tseg_is_refused,
 };
+pub use followed::{
+    a_worked_add_is_hosted, hosts_and_entries_go_together, unsaid_accesses_are_steps,
+    unsaid_accesses_follow_no_voice, voices_are_carried_on, worked_runs_follow_their_voices,
+    worked_runs_leave_what_the_schedule_leaves,
+};
 pub use laws::{
     changed_traces_are_none, changed_traces_stop_at_the_change, files_make_traces_alone,
     files_make_worked_traces, nobody_is_astray_in_worked_traces, without_boot_one_is_astray,
@@ -28,6 +35,8 @@ pub use laws::{
 };
 pub use records::monarch_believes_no_answer;
 pub use safety::{
-    runs_are_recorded_well, worked_traces_are_safe, wrong_traces_are_no_runs,
-    wrong_traces_are_recorded, wrong_traces_are_refused,
+    nobody_is_astray_in_safe_traces, runs_are_recorded_well, worked_traces_are_safe,
+    worked_traces_are_untouched, wrong_traces_are_no_runs, wrong_traces_are_recorded,
+    wrong_traces_are_refused,
 };
+pub use steps::{wrong_steps_are_no_runs, wrong_steps_are_recorded, wrong_steps_are_refused};

@@ -2,7 +2,7 @@
 
 ghost use Rattle.std.specs.Prelude.{◌≡◌, true, false};
 ghost use Rattle.hp_worked.specs.Judged.{verdicts_of_run, verdicts_of_record, is_record, all_well};
-ghost use Rattle.hp_worked.specs.Asked.{is_run};
+ghost use Rattle.hp_worked.specs.Asked.{is_run, is_none_astray, is_untouched_at_each};
 ghost use Rattle.hp_worked.specs.Files.{already_known_file, an_add_file, disabled_processor_file, eject_led_astray_file, ejected_and_added_again_file, few_looks_file, gate_held_file, insert_and_eject_file, late_alone_file, no_unplug_file, not_arrived_file, not_at_gate_file, not_known_file, not_parked_file, rendezvous_file, selector_taken_away_file, two_adds_file, two_new_processors_file, wide_add_file};
 ghost use Rattle.hp_worked.specs.Adds.{an_add};
 ghost use Rattle.hp_worked.specs.Ejects.{ejected_and_added_again};
@@ -16,8 +16,9 @@ ghost use Rattle.hp_worked.specs.TwoNewProcessors.{two_new_processors};
 ghost use Rattle.hp_worked.specs.Wide.{wide_add};
 ghost use Rattle.hp_worked.specs.WrongBodies.{default_area_left_open, added_at_the_flag, no_smi_to_itself, added_beside_a_held_one, slot_given_away, ejected_outside, called_in_before_release, collected_past_the_end};
 
-/// Each part of the laws holds of these runs: locked instructions, SMBASEs of one's own, apart and named, and of sessions quiet, true reports, an outcome
-/// for each, outcomes that show in their entries, nobody lost, and no SMBASE changed but the held one.
+/// Eleven tests are true of these runs: locked instructions, SMBASEs of one's own, apart and named, and of sessions quiet, true reports, an outcome
+/// for each, outcomes that show in their entries, nobody lost, and no SMBASE changed but the held one. They are all of the laws of safety, but for what the
+/// law of locked instructions says of writes and of who is astray.
 #[tactic(auto, using(crate::proofs::SafeTraces::safe_traces))]
 pub fn worked_traces_are_safe()
     ensures an_add { verdicts_of_run an_add_file an_add ≡ all_well }
@@ -37,6 +38,45 @@ pub fn worked_traces_are_safe()
     ensures selector_taken_away { verdicts_of_run selector_taken_away_file selector_taken_away ≡ all_well }
     ensures eject_led_astray { verdicts_of_run eject_led_astray_file eject_led_astray ≡ all_well }
     ensures wide_add { verdicts_of_run wide_add_file wide_add ≡ all_well }
+{}
+
+/// In these fourteen of them no write has covered one of the four bytes at the instruction address of an entry made in SMM since the boot. The other three
+/// are in `instructions_of_worked_adds_are_locked`.
+#[tactic(auto, using(crate::proofs::Untouched::untouched))]
+pub fn worked_traces_are_untouched()
+    ensures two_adds { is_untouched_at_each two_adds_file two_adds ≡ true }
+    ensures insert_and_eject { is_untouched_at_each insert_and_eject_file insert_and_eject ≡ true }
+    ensures disabled_processor { is_untouched_at_each disabled_processor_file disabled_processor ≡ true }
+    ensures already_known { is_untouched_at_each already_known_file already_known ≡ true }
+    ensures not_at_gate { is_untouched_at_each not_at_gate_file not_at_gate ≡ true }
+    ensures ejected_and_added_again { is_untouched_at_each ejected_and_added_again_file ejected_and_added_again ≡ true }
+    ensures no_unplug { is_untouched_at_each no_unplug_file no_unplug ≡ true }
+    ensures not_known { is_untouched_at_each not_known_file not_known ≡ true }
+    ensures not_arrived { is_untouched_at_each not_arrived_file not_arrived ≡ true }
+    ensures not_parked { is_untouched_at_each not_parked_file not_parked ≡ true }
+    ensures late_alone { is_untouched_at_each late_alone_file late_alone ≡ true }
+    ensures selector_taken_away { is_untouched_at_each selector_taken_away_file selector_taken_away ≡ true }
+    ensures eject_led_astray { is_untouched_at_each eject_led_astray_file eject_led_astray ≡ true }
+    ensures wide_add { is_untouched_at_each wide_add_file wide_add ≡ true }
+{}
+
+/// And in no state of them is one of their processors astray. The other three are in `nobody_is_astray_in_worked_adds`.
+#[tactic(auto, using(crate::proofs::Untouched::none_astray))]
+pub fn nobody_is_astray_in_safe_traces()
+    ensures two_adds { is_none_astray two_adds_file two_adds ≡ true }
+    ensures insert_and_eject { is_none_astray insert_and_eject_file insert_and_eject ≡ true }
+    ensures disabled_processor { is_none_astray disabled_processor_file disabled_processor ≡ true }
+    ensures already_known { is_none_astray already_known_file already_known ≡ true }
+    ensures not_at_gate { is_none_astray not_at_gate_file not_at_gate ≡ true }
+    ensures ejected_and_added_again { is_none_astray ejected_and_added_again_file ejected_and_added_again ≡ true }
+    ensures no_unplug { is_none_astray no_unplug_file no_unplug ≡ true }
+    ensures not_known { is_none_astray not_known_file not_known ≡ true }
+    ensures not_arrived { is_none_astray not_arrived_file not_arrived ≡ true }
+    ensures not_parked { is_none_astray not_parked_file not_parked ≡ true }
+    ensures late_alone { is_none_astray late_alone_file late_alone ≡ true }
+    ensures selector_taken_away { is_none_astray selector_taken_away_file selector_taken_away ≡ true }
+    ensures eject_led_astray { is_none_astray eject_led_astray_file eject_led_astray ≡ true }
+    ensures wide_add { is_none_astray wide_add_file wide_add ≡ true }
 {}
 
 /// The machine alone can make each entry of these traces of wrong firmware, with its answer.
