@@ -8,12 +8,13 @@ use Rattle.hp_model.specs.declared.files.VoiceKind.{VoiceKind}
 use Rattle.hp_model.specs.Platform.{count_of, IsFit}
 use Rattle.hp_config.specs.declared.parts.AgentRow.{AgentRow}
 use Rattle.hp_config.specs.declared.parts.Parts.{Parts}
-use Rattle.hp_config.specs.Rules.{hosts_fit, stalls_fit, agents_fit, steps_fit}
+use Rattle.hp_config.specs.Rules.{hosts_are_hosts, hosts_fit, stalls_fit, agents_fit, steps_fit}
 use Rattle.hp_config.specs.Unbuilt.{parts_run}
 use Rattle.hp_config.specs.Kinds.{default_kind, default_kinds, put_kind, put_kinds, kinds_of}
 use Rattle.hp_config.specs.Shape.{parts_of}
 use Rattle.hp_config.specs.Reading.{good, platform_fault, later_fault, first_of, file_from, judged, reading_of, file_of}
 use Rattle.hp_config.specs.Sound.{IsSound}
+use Rattle.hp_config.proofs.HostRows.{hosts_are}
 
 length-default_kinds : (boot : List ℕ) (count : ℕ) → length (default_kinds boot count) ≡ count
 length-default_kinds boot zero = refl
@@ -56,6 +57,7 @@ hold_later parts e =
 -- the parts of a good file
 record AreParts (parts : Parts) (f : File) : Type 0 where
   fit : IsFit parts.machine.platform
+  actors : hosts_are_hosts parts.hosts ≡ true
   later : HoldLater parts
   file : file_from parts ≡ f
 
@@ -63,32 +65,33 @@ record HasParts (f : File) : Type 0 where
   parts : Parts
   are : AreParts parts f
 
-parts_are : (parts : Parts) (f : File) → reading_of (Some parts) ≡ good f → AreParts parts f
+parts_are : (parts : Parts) (f : File) → hosts_are_hosts parts.hosts ≡ true → reading_of (Some parts) ≡ good f → AreParts parts f
 unfolding platform_fault
-parts_are parts f e = by (platform_fault parts.machine.platform) refl (later_fault parts) refl e
+parts_are parts f actors e = by (platform_fault parts.machine.platform) refl (later_fault parts) refl e
   where
     by : (a : Option ℕ) → platform_fault parts.machine.platform ≡ a → (b : Option ℕ) → later_fault parts ≡ b → judged parts (first_of a b) ≡ good f → AreParts parts f
     by (Some rule) fit b later e = absurd (cc)
     by None fit (Some rule) later e = absurd (cc)
-    by None fit None later e = record { fit = fit; later = hold_later parts later; file = cc }
+    by None fit None later e = record { fit = fit; actors = actors; later = hold_later parts later; file = cc }
 
 has_parts : (ms : Members) (f : File) → file_of ms ≡ good f → HasParts f
 unfolding file_of
-has_parts ms f e = by (parts_of ms) e
+has_parts ms f e = by (parts_of ms) refl e
   where
-    by : (o : Option Parts) → reading_of o ≡ good f → HasParts f
-    by None e = absurd (cc)
-    by (Some parts) e = record { parts = parts; are = parts_are parts f e }
+    by : (o : Option Parts) → parts_of ms ≡ o → reading_of o ≡ good f → HasParts f
+    by None is e = absurd (cc)
+    by (Some parts) is e = record { parts = parts; are = parts_are parts f (hosts_are ms parts is) e }
 
-sound_parts : (parts : Parts) → IsFit parts.machine.platform → HoldLater parts → IsSound (file_from parts)
-sound_parts parts fit later = record {
+sound_parts : (parts : Parts) → IsFit parts.machine.platform → hosts_are_hosts parts.hosts ≡ true → HoldLater parts → IsSound (file_from parts)
+sound_parts parts fit actors later = record {
   fit = fit;
   voices = length-kinds_of parts.agents parts.machine.platform.boot (count_of parts.machine.platform);
   hosts = later.hosts;
+  actors = actors;
   stalls = later.stalls;
 }
 
 pub good_is_sound : (ms : Members) (f : File) → file_of ms ≡ good f → IsSound f
 good_is_sound ms f e =
     let has = has_parts ms f e in
-    subst IsSound has.are.file (sound_parts has.parts has.are.fit has.are.later)
+    subst IsSound has.are.file (sound_parts has.parts has.are.fit has.are.actors has.are.later)

@@ -6,4 +6,5 @@ pub mod HexText
 pub mod Groups
 pub mod StepText
 pub mod StepRead
+pub mod HostRows
 pub mod Good

@@ -6,6 +6,7 @@ use Rattle.hp_model.specs.declared.entries.Actor.{Actor}
 use Rattle.hp_model.specs.declared.entries.Actor.TheVariants.{Insert, Remove, Cpu, Smi}
 use Rattle.hp_model.specs.declared.files.HostEvent.{HostEvent}
 use Rattle.hp_model.specs.declared.files.Stall.{Stall}
+use Rattle.hp_model.specs.Hosting.{is_host}
 use Rattle.hp_config.specs.declared.parts.AgentRow.{AgentRow}
 
 -- the processor of an actor
@@ -18,6 +19,10 @@ place_of (Smi k) = k
 -- rule 12: the processor of each host event is below the count
 abbrev pub hosts_fit : ℕ → List HostEvent → Bool
 hosts_fit count hosts = list_all (λ h. nat_lt (place_of h.actor) count) hosts
+
+-- each host event is an insert or a remove
+abbrev pub hosts_are_hosts : List HostEvent → Bool
+hosts_are_hosts hosts = list_all (λ h. is_host h.actor) hosts
 
 -- rule 13: the processor of each stall is below the count, and it does not end before it starts
 abbrev pub stalls_fit : ℕ → List Stall → Bool

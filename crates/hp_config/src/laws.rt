@@ -15,8 +15,8 @@ pub fn steps_are_read_as_spelled()
     ensures { (text : List ℕ) (a : Access) → (script_step text ≡ Some a) ↔ IsSpelled text a }
 {}
 
-/// In each file that is read the platform fits, each possible processor has one voice, and host events and stalls name
-/// possible processors.
+/// In each file that is read the platform fits, each possible processor has one voice, host events and stalls name possible
+/// processors, and each host event is an insert or a remove.
 pub fn good_files_are_sound()
     ensures { (ms : Members) (f : File) → file_of ms ≡ good f → IsSound f }
 {}
