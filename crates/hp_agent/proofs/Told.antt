@@ -1,14 +1,14 @@
--- What places tell once one of them has changed.
-use Rattle.std.proofs.Common.{◌≡◌, ℕ, ◌<◌, ◌≤◌, List, length, Option, Some, None, get_or, slice_set, refl, ap, ◌∙◌}
+-- What places tell, and what their agents have heard, once one of them has changed.
+use Rattle.std.proofs.Common.{◌≡◌, ℕ, ◌<◌, ◌≤◌, List, length, Option, Some, None, get_or, slice_set, refl, sym, ap, ◌∙◌}
 use Rattle.std.proofs.Math.ListN.{get_or-map, get_or-eq_default}
 use Rattle.std.proofs.lemmas.List.{map-set, set-get_or, get_or-set_same, get_or_default}
 use Rattle.hp_model.specs.Voices as model
 use Rattle.hp_model.specs.declared.accesses.Access.{Access}
 use Rattle.hp_model.specs.declared.accesses.Access.TheVariants.{Halt}
 use Rattle.hp_agent.specs.declared.kinds.Voice.{Voice}
-use Rattle.hp_agent.specs.Kinds.{place_tells, all_tell}
+use Rattle.hp_agent.specs.Kinds.{all_heard, all_tell, hears, hears_at, place_heard, place_tells}
 use Rattle.hp_model.specs.Following.{told_at}
-use Rattle.hp_agent.specs.Speaking.{Speaks}
+use Rattle.hp_agent.specs.Speaking.{Heard, Speaks}
 use Rattle.hp_agent.proofs.Said.{silent_halts}
 
 module _ {A : Type 0} (handed : A → Option model.Voice) where
@@ -43,4 +43,30 @@ module _ {A : Type 0} (handed : A → Option model.Voice) where
 pub told_same : (os : List (Option model.Voice)) (k : ℕ) → slice_set os k (told_at os k) ≡ os
 told_same os k = set-get_or os k (Some model.silent)
 
+module _ {A : Type 0} (handed : A → Heard) where
+  heard_is : (ps : List (Option (Voice A))) (k : ℕ) → get_or (all_heard handed ps) k None ≡ place_heard handed (get_or ps k None)
+  heard_is ps k = get_or-map (place_heard handed) ps k None
+
+  -- the agent of one place alone
+  pub heard_put : (ps : List (Option (Voice A))) (k : ℕ) (p : Option (Voice A)) →
+      all_heard handed (slice_set ps k p) ≡ slice_set (all_heard handed ps) k (place_heard handed p)
+  heard_put ps k p = map-set (place_heard handed) ps k p
+
+  pub heard_asked : (ps : List (Option (Voice A))) (k : ℕ) (d p : Option (Voice A)) (q : model.Question) (access : Access) →
+      k < length ps → place_heard handed p ≡ hears (place_heard handed (get_or ps k d)) q access →
+      all_heard handed (slice_set ps k p) ≡ hears_at (all_heard handed ps) k q access
+  heard_asked ps k d p q access h heard =
+      heard_put ps k p
+      ∙ ap (slice_set (all_heard handed ps) k) (rw (heard_is ps k, get_or_default ps k None d h) heard)
+
+  -- past the last place nobody hears
+  pub heard_nobody : (ps : List (Option (Voice A))) (k : ℕ) (q : model.Question) (access : Access) → length ps ≤ k →
+      all_heard handed ps ≡ hears_at (all_heard handed ps) k q access
+  heard_nobody ps k q access h =
+      let none : get_or (all_heard handed ps) k None ≡ None = heard_is ps k ∙ ap (place_heard handed) (get_or-eq_default ps None h) in
+      sym (ap (λ (o : Option Heard). slice_set (all_heard handed ps) k (hears o q access)) none
+      ∙ ap (slice_set (all_heard handed ps) k) (sym none) ∙ set-get_or (all_heard handed ps) k None)
+
 pub ruleset told_facts = (told_put, told_put_at, told_same)
+
+pub ruleset dropped_facts = (told_put, heard_put)

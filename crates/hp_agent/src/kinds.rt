@@ -1,8 +1,8 @@
 //! The kinds of agents.
 
-ghost use Rattle.std.specs.Prelude.{◌≡◌, Some};
+ghost use Rattle.std.specs.Prelude.{◌≡◌, [], Some};
 ghost use Rattle.hp_model.specs.Voices.{voice_of};
-ghost use Rattle.hp_agent.specs.Kinds.{tells};
+ghost use Rattle.hp_agent.specs.Kinds.{has_heard, tells};
 
 use crate::asking::Agent;
 use crate::pens::PenAgent;
@@ -21,6 +21,8 @@ pub enum Voice<A: Agent> {
 impl<A: Agent> Agent for Voice<A> {
     ghost voice = { λ v. tells A.voice v };
 
+    ghost heard = { λ v. has_heard A.heard v };
+
     fn next(&mut self, cpu: u32, page: u32, last: Answer) -> Access {
         match self {
             Voice::Script(script) => script.next(cpu, page, last),
@@ -32,7 +34,8 @@ impl<A: Agent> Agent for Voice<A> {
 
 /// An agent of a kind. Kinds that aren't built yet halt.
 pub fn voice_for<A: Agent>(alloc: Global, kind: VoiceKind) -> Voice<A>
-    ensures { tells A.voice result ≡ Some (voice_of kind) }
+    ensures voice { tells A.voice result ≡ Some (voice_of kind) }
+    ensures heard { has_heard A.heard result ≡ [] }
 {
     match kind {
         VoiceKind::Script(steps) => Voice::Script(Script::new(steps)),

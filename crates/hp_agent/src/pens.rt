@@ -1,10 +1,12 @@
 //! Pens: where new processors wait for the operating system.
 
 ghost use Rattle.std.specs.Prelude.{◌≡◌, false, Some};
+ghost use Rattle.hp_agent.specs.Speaking.{fresh};
 ghost use Rattle.hp_model.specs.Voices.{pen};
 
 use crate::asking::Agent;
 use hp_model::{Access, Answer};
+use http_server::Log;
 use std::marker::Model;
 
 /// The page of the pen: address bits 31:12.
@@ -21,33 +23,43 @@ const PEN_STORE: Access = Access::Store {
 #[derive(Drop)]
 pub struct PenAgent {
     stored: bool,
+    log: Log<(u32, u32, Answer), Access>,
 }
 
 impl Model for PenAgent {
-    ghost use Rattle.hp_model.specs.Voices.{Voice, pen};
+    ghost use Rattle.hp_model.specs.Voices.{pen};
+    ghost use Rattle.hp_agent.specs.Speaking.{Speaker};
 
-    ghost Value = { Voice };
+    ghost Value = { Speaker };
 
-    ghost view = { λ p. pen p.stored };
+    ghost view = { λ p. record { voice = pen p.stored; heard = p.log.items } };
 }
 
 impl PenAgent {
     pub fn new() -> PenAgent
-        ensures { result ≡ pen false }
+        ensures { result ≡ fresh (pen false) }
     {
-        PenAgent { stored: false }
+        PenAgent {
+            stored: false,
+            log: Log::new(),
+        }
     }
 }
 
 impl Agent for PenAgent {
-    ghost voice = { λ p. Some p };
+    ghost voice = { λ p. Some p.voice };
+
+    ghost heard = { λ p. p.heard };
 
     #[tactic(auto, unfolding(hp_model::specs::Voices::says))]
-    fn next(&mut self, _cpu: u32, page: u32, _last: Answer) -> Access {
-        if self.stored || page != PEN_PAGE {
-            return Access::Halt;
-        }
-        self.stored = true;
-        PEN_STORE
+    fn next(&mut self, cpu: u32, page: u32, last: Answer) -> Access {
+        let access = if self.stored || page != PEN_PAGE {
+            Access::Halt
+        } else {
+            self.stored = true;
+            PEN_STORE
+        };
+        self.log = self.log.and(&(cpu, page, last), &access);
+        access
     }
 }

@@ -1,8 +1,8 @@
 //! The agents of all processors, by place.
 
-ghost use Rattle.std.specs.Prelude.{◌≡◌, Some, slice_set};
+ghost use Rattle.std.specs.Prelude.{◌≡◌, None, Some, slice_set};
 ghost use Rattle.hp_model.specs.Voices.{silent};
-ghost use Rattle.hp_agent.specs.Kinds.{place_tells, all_tell};
+ghost use Rattle.hp_agent.specs.Kinds.{all_heard, all_tell, hears, hears_at, place_heard, place_tells};
 ghost use Rattle.hp_model.specs.Following.{told_at};
 ghost use Rattle.hp_agent.specs.Speaking.{Speaks, asked};
 
@@ -18,20 +18,18 @@ pub struct Agents<A: Agent> {
 }
 
 impl<A: Agent> Model for Agents<A> {
-    ghost use Rattle.std.specs.Prelude.{List, Option, map};
-    ghost use Rattle.hp_model.specs.Voices as model;
+    ghost use Rattle.hp_agent.specs.Kinds.{Places, all_heard, all_tell};
 
-    ghost Value = { List (Option model.Voice) };
+    ghost Value = { Places };
 
-    ghost use Rattle.hp_agent.specs.Kinds.{all_tell};
-
-    ghost view = { λ a. all_tell A.voice a.places.items };
+    ghost view = { λ a. record { voices = all_tell A.voice a.places.items; heard = all_heard A.heard a.places.items } };
 }
 
 /// Asks a place; it answers `Halt` where it has no agent.
 #[tactic(auto, using(crate::proofs::Said::silent_halts))]
 fn ask<A: Agent>(place: &mut Option<Voice<A>>, cpu: u32, page: u32, last: Answer) -> Access
-    ensures { Speaks (place_tells A.voice place.old) (place_tells A.voice place.new) (asked cpu page last) result }
+    ensures says { Speaks (place_tells A.voice place.old) (place_tells A.voice place.new) (asked cpu page last) result }
+    ensures hears { place_heard A.heard place.new ≡ hears (place_heard A.heard place.old) (asked cpu page last) result }
 {
     match place {
         Some(agent) => agent.next(cpu, page, last),
@@ -44,6 +42,7 @@ fn ask<A: Agent>(place: &mut Option<Voice<A>>, cpu: u32, page: u32, last: Answer
 fn ask_at<A: Agent>(places: &mut [Option<Voice<A>>], cpu: u32, page: u32, last: Answer) -> Access
     ensures says { Speaks (told_at (all_tell A.voice places.old) cpu) (told_at (all_tell A.voice places.new) cpu) (asked cpu page last) result }
     ensures others { all_tell A.voice places.new ≡ slice_set (all_tell A.voice places.old) cpu (told_at (all_tell A.voice places.new) cpu) }
+    ensures hears { all_heard A.heard places.new ≡ hears_at (all_heard A.heard places.old) cpu (asked cpu page last) result }
 {
     let place = cpu as usize;
     if place < places.len() {
@@ -55,15 +54,17 @@ fn ask_at<A: Agent>(places: &mut [Option<Voice<A>>], cpu: u32, page: u32, last: 
 
 /// Drops the agent of a place.
 fn empty<A: Agent>(place: &mut Option<Voice<A>>)
-    ensures { place_tells A.voice place.new ≡ Some silent }
+    ensures tells { place_tells A.voice place.new ≡ Some silent }
+    ensures heard { place_heard A.heard place.new ≡ None }
 {
     *place = None;
 }
 
 /// Drops the agent in a place, if it is one.
-#[tactic(auto, using(crate::proofs::Told::told_put))]
+#[tactic(auto, using(crate::proofs::Told::dropped_facts))]
 fn drop_at<A: Agent>(places: &mut [Option<Voice<A>>], cpu: u32)
-    ensures { all_tell A.voice places.new ≡ slice_set (all_tell A.voice places.old) cpu (Some silent) }
+    ensures tells { all_tell A.voice places.new ≡ slice_set (all_tell A.voice places.old) cpu (Some silent) }
+    ensures heard { all_heard A.heard places.new ≡ slice_set (all_heard A.heard places.old) cpu None }
 {
     let place = cpu as usize;
     if place < places.len() {
@@ -74,7 +75,8 @@ fn drop_at<A: Agent>(places: &mut [Option<Voice<A>>], cpu: u32)
 impl<A: Agent> Agents<A> {
     /// An agent, or none, for each processor, in the order of their places.
     pub fn new(list: Vec<Option<Voice<A>>>) -> Agents<A>
-        ensures { result ≡ all_tell A.voice list.items }
+        ensures voices { result.voices ≡ all_tell A.voice list.items }
+        ensures heard { result.heard ≡ all_heard A.heard list.items }
     {
         Agents { places: list }
     }
@@ -83,16 +85,18 @@ impl<A: Agent> Agents<A> {
     /// processor's access before. `Halt` where there is no agent, or no such place.
     #[tactic(auto, using(crate::proofs::Said::silent_halts))]
     pub fn next(&mut self, cpu: u32, page: u32, last: Answer) -> Access
-        ensures says { Speaks (told_at self.old cpu) (told_at self.new cpu) (asked cpu page last) result }
-        ensures halts { told_at self.old cpu ≡ Some silent → result ≡ Access.Halt }
-        ensures others { self.new ≡ slice_set self.old cpu (told_at self.new cpu) }
+        ensures says { Speaks (told_at self.old.voices cpu) (told_at self.new.voices cpu) (asked cpu page last) result }
+        ensures halts { told_at self.old.voices cpu ≡ Some silent → result ≡ Access.Halt }
+        ensures others { self.new.voices ≡ slice_set self.old.voices cpu (told_at self.new.voices cpu) }
+        ensures hears { self.new.heard ≡ hears_at self.old.heard cpu (asked cpu page last) result }
     {
         ask_at(&mut self.places, cpu, page, last)
     }
 
     /// Drops the agent of processor `cpu`. Its place then has none.
     pub fn drop_of(&mut self, cpu: u32)
-        ensures dropped { self.new ≡ slice_set self.old cpu (Some silent) }
+        ensures voices { self.new.voices ≡ slice_set self.old.voices cpu (Some silent) }
+        ensures heard { self.new.heard ≡ slice_set self.old.heard cpu None }
     {
         drop_at(&mut self.places, cpu);
     }

@@ -24,9 +24,10 @@ use Rattle.hp_model.specs.Step.{State, after, answer_of, at, normal, start, step
 use Rattle.hp_model.specs.Turn.{due_of}
 use Rattle.hp_model.specs.Voices.{Voice}
 use Rattle.hp_model.proofs.Scheduled.{run_from-append, same_address-refl, same_answer-refl}
+use Rattle.hp_agent.specs.Kinds.{hears_at}
 use Rattle.hp_agent.specs.Speaking.{Speaks, asked}
 use Rattle.hp_platform.specs.Board.{Board, IsReady, Shows, is_step}
-use Rattle.hp_platform.specs.World.{HasNone, IsIdle, IsKept, IsMade, IsNoted, IsSaid, IsStepOf, Says, WasIdle, World, asked_place, counted, counted_at, idle_place, idle_place_of, idle_places, noted, one_more}
+use Rattle.hp_platform.specs.World.{HasNone, IsIdle, IsKept, IsMade, IsNoted, IsSaid, IsStepOf, Says, WasIdle, World, asked_place, counted, counted_at, idle_place, idle_place_of, idle_places, noted, one_more, without_heard}
 use Rattle.hp_platform.proofs.Leading.{left}
 use Rattle.hp_platform.proofs.Stepping.{asks_is, makes_is}
 
@@ -251,21 +252,29 @@ module _ (old new : World) (b c : Board) (asks0 : List ℕ) (notes : List (Optio
   shown_by s is = shown b old.entries asks0 notes kept s (subst (λ (p : Platform). run p old.entries ≡ Some s) platform is)
 
   -- nobody was asked
-  pub makes_turn : ((s : State) → Shows b s → due_of b.platform s a ≡ due.Makes x) → new.voices ≡ without_agent c.machine.ejected old.voices → new.last ≡ old.last → IsMade old new a e
-  makes_turn makes voices last = record { entries = entries; is = λ s so. by s (shown_by s so); asked = counts; idle = idle }
+  pub makes_turn : ((s : State) → Shows b s → due_of b.platform s a ≡ due.Makes x) → new.voices ≡ without_agent c.machine.ejected old.voices → new.heard ≡ without_heard c.machine.ejected old.heard
+      → new.last ≡ old.last → IsMade old new a e
+  makes_turn makes voices heard last = record { entries = entries; is = λ s so. by s (shown_by s so); asked = counts; idle = idle }
     where
       by : (s : State) → Shows b s → IsStepOf old new s a e
       by s shows =
           let m = makes_is b.platform s a x (makes s shows) in
           stepped s shows m.step m.actor
-          (subst (λ (d : Due). Says d old new s e (ejected_by s.block (after b.platform s x).state.block)) (sym (makes s shows))
-          (made.event, record { voices = voices ∙ ap (λ (o : Option ℕ). without_agent o old.voices) (ejected-is b c x e made s shows); last = last }))
+          (subst (λ (d : Due). Says d old new s e (ejected_by s.block (after b.platform s x).state.block)) (sym (makes s shows)) (
+            made.event,
+            record {
+              voices = voices ∙ ap (λ (o : Option ℕ). without_agent o old.voices) (ejected-is b c x e made s shows);
+              heard = heard ∙ ap (λ (o : Option ℕ). without_heard o old.heard) (ejected-is b c x e made s shows);
+              last = last;
+            },
+          ))
 
   -- the agent of processor k was asked
   pub asks_turn : (k page : ℕ) (access : Access) (left : Option Voice) → ((s : State) → Shows b s → due_of b.platform s a ≡ due.Asks k) → ((s : State) → Shows b s → page ≡ page_of (at s k).mode)
       → Speaks (told_at old.voices k) left (asked k page (slice_index_or old.last k Quiet)) access → x ≡ event.Do k (normal access)
-      → new.voices ≡ without_agent c.machine.ejected (slice_set old.voices k left) → new.last ≡ slice_set old.last k e.answer → IsMade old new a e
-  asks_turn k page access left its on speaks event voices last = record { entries = entries; is = λ s so. by s (shown_by s so); asked = counts; idle = idle }
+      → new.voices ≡ without_agent c.machine.ejected (slice_set old.voices k left) → new.heard ≡ without_heard c.machine.ejected (hears_at old.heard k (asked k page (slice_index_or old.last k Quiet)) access)
+      → new.last ≡ slice_set old.last k e.answer → IsMade old new a e
+  asks_turn k page access left its on speaks event voices heard last = record { entries = entries; is = λ s so. by s (shown_by s so); asked = counts; idle = idle }
     where
       said : (s : State) → Shows b s → IsSaid old new s k e (ejected_by s.block (after b.platform s x).state.block)
       said s shows = record {
@@ -274,6 +283,9 @@ module _ (old new : World) (b c : Board) (asks0 : List ℕ) (notes : List (Optio
         speaks = subst (λ (n : ℕ). Speaks (told_at old.voices k) left (asked k n (slice_index_or old.last k Quiet)) access) (on s shows) speaks;
         event = made.event ∙ event;
         voices = voices ∙ ap (λ (o : Option ℕ). without_agent o (slice_set old.voices k left)) (ejected-is b c x e made s shows);
+        heard =
+            heard ∙ ap (λ (o : Option ℕ). without_heard o (hears_at old.heard k (asked k page (slice_index_or old.last k Quiet)) access)) (ejected-is b c x e made s shows)
+            ∙ ap (λ (n : ℕ). without_heard (ejected_by s.block (after b.platform s x).state.block) (hears_at old.heard k (asked k n (slice_index_or old.last k Quiet)) access)) (on s shows);
         last = last;
       }
 
@@ -285,12 +297,13 @@ module _ (old new : World) (b c : Board) (asks0 : List ℕ) (notes : List (Optio
 
 -- a turn without a step
 pub idle_turn : (old new : World) (b : Board) (asks0 : List ℕ) (notes : List (Option ℕ)) (handed : Bool) (a : Actor) → IsKept b old.entries asks0 notes → old.platform ≡ b.platform → ((s : State) → Shows b s → HasNone b.platform s a)
-    → handed ≡ is_handed b.boot.stage → new.entries ≡ old.entries → new.voices ≡ old.voices → new.last ≡ old.last → new.asked ≡ counted (count_of old.platform) a old.asked
+    → handed ≡ is_handed b.boot.stage → new.entries ≡ old.entries → new.voices ≡ old.voices → new.heard ≡ old.heard → new.last ≡ old.last → new.asked ≡ counted (count_of old.platform) a old.asked
     → new.idle ≡ noted handed (idle_place_of b.platform a) (length old.entries) old.idle → IsIdle old new a
-idle_turn old new b asks0 notes handed a kept platform none is entries voices last counts idle = record {
+idle_turn old new b asks0 notes handed a kept platform none is entries voices heard last counts idle = record {
   entries = entries;
   none = λ s so. subst (λ (p : Platform). HasNone p s a) (sym platform) (none s (shown_by s so));
   voices = voices;
+  heard = heard;
   last = last;
   asked = counts;
   idle = λ s so.

@@ -19,7 +19,8 @@ use Rattle.hp_model.specs.Schedule.{Scene, question_in, Made as Scheduled}
 use Rattle.hp_model.specs.Step.{State, after, answer_of, normal, step}
 use Rattle.hp_model.specs.Turn.{due_of}
 use Rattle.hp_model.specs.Voices.{Voice}
-use Rattle.hp_agent.specs.Speaking.{Speaks}
+use Rattle.hp_agent.specs.Kinds.{hears_at}
+use Rattle.hp_agent.specs.Speaking.{Heard, Speaks}
 use Rattle.hp_platform.specs.declared.worlds.Turn.{Turn}
 use Rattle.hp_platform.specs.declared.worlds.Turn.TheVariants.{Made, Idle}
 use Rattle.hp_platform.specs.Board.{Board, Shows}
@@ -28,6 +29,7 @@ pub record World : Type 0 where
   pub platform : Platform
   pub entries : List Entry  -- all steps that were made, in their order
   pub voices : List (Option Voice)  -- what the agent of each processor tells of itself
+  pub heard : List (Option Heard)  -- all that the agent of each processor was asked, with what it said; None where there is no agent
   pub last : List Answer  -- of each processor, the answer to the last access that its agent was asked for
   pub asked : List ℕ  -- how many turns each processor had, as itself or as its SMI, and then how many the host
   pub idle : List (Option ℕ)  -- of each actor of a processor, how many entries there were at its last turn without a step after the hand-over
@@ -72,18 +74,25 @@ turns_at (Some place) ns = slice_index_or ns place 0
 abbrev pub turns_of : ℕ → Actor → List ℕ → ℕ
 turns_of count a ns = turns_at (asked_place count a) ns
 
--- the agent of processor k said this access, which the machine takes as a normal one, and tells what is left of its voice
+-- an ejected processor has no agent: nobody hears there
+abbrev pub without_heard : Option ℕ → List (Option Heard) → List (Option Heard)
+without_heard None heard = heard
+without_heard (Some k) heard = slice_set heard k None
+
+-- the agent of processor k was asked, once, and no other. It said this access, which the machine takes as a normal one, and tells what is left of its voice
 pub record IsSaid (old new : World) (s : State) (k : ℕ) (e : Entry) (ejected : Option ℕ) : Type 0 where
   pub access : Access
   pub left : Option Voice
   pub speaks : Speaks (told_at old.voices k) left (question_in s k old.last) access
   pub event : e.event ≡ event.Do k (normal access)
   pub voices : new.voices ≡ without_agent ejected (slice_set old.voices k left)
+  pub heard : new.heard ≡ without_heard ejected (hears_at old.heard k (question_in s k old.last) access)
   pub last : new.last ≡ slice_set old.last k e.answer
 
 -- nobody was asked
 pub record IsUnasked (old new : World) (ejected : Option ℕ) : Type 0 where
   pub voices : new.voices ≡ without_agent ejected old.voices
+  pub heard : new.heard ≡ without_heard ejected old.heard
   pub last : new.last ≡ old.last
 
 -- what was due is what was made
@@ -124,6 +133,7 @@ pub record IsIdle (old new : World) (a : Actor) : Type 0 where
   pub entries : new.entries ≡ old.entries
   pub none : (s : State) → run old.platform old.entries ≡ Some s → HasNone old.platform s a
   pub voices : new.voices ≡ old.voices
+  pub heard : new.heard ≡ old.heard
   pub last : new.last ≡ old.last
   pub asked : new.asked ≡ counted (count_of old.platform) a old.asked
   pub idle : (s : State) → run old.platform old.entries ≡ Some s → new.idle ≡ noted (is_handed s.stage) (idle_place_of old.platform a) (length old.entries) old.idle

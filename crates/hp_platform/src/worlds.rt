@@ -10,7 +10,7 @@ ghost use Rattle.hp_model.specs.Runs.{address_of, run};
 ghost use Rattle.hp_model.specs.Safety.{IsSafe};
 ghost use Rattle.hp_model.specs.Step.{State, after as step_after, answer_of, normal as normal_of};
 ghost use Rattle.hp_platform.specs.Board.{IsReady, Shows};
-ghost use Rattle.hp_platform.specs.World.{IsSound, IsTurned, asked_place, counted, counted_at, idle_place_of, idle_places, noted, turns_at, turns_of};
+ghost use Rattle.hp_platform.specs.World.{IsSound, IsTurned, asked_place, counted, counted_at, idle_place_of, idle_places, noted, turns_at, turns_of, without_heard};
 
 use crate::boards::{Board, is_late};
 use crate::normal::normal;
@@ -48,7 +48,7 @@ impl<A: Agent> Model for World<A> {
 
     ghost Value = { seen.World };
 
-    ghost view = { λ w. record { platform = w.board.platform; entries = w.entries.items; voices = w.agents; last = w.last.items; asked = w.asked.items; idle = w.idle.items } };
+    ghost view = { λ w. record { platform = w.board.platform; entries = w.entries.items; voices = w.agents.voices; heard = w.agents.heard; last = w.last.items; asked = w.asked.items; idle = w.idle.items } };
 
     ghost invariant = { λ w. IsKept w.board w.entries.items w.asked.items w.idle.items };
 }
@@ -178,7 +178,8 @@ fn note_idle(idle: &mut Vec<Option<u64>>, handed: bool, place: Option<usize>, en
 
 /// An ejected processor loses its agent.
 fn drop_ejected<A: Agent>(agents: &mut Agents<A>, ejected: Option<u32>)
-    ensures { agents.new ≡ without_agent ejected agents.old }
+    ensures voices { agents.new.voices ≡ without_agent ejected agents.old.voices }
+    ensures heard { agents.new.heard ≡ without_heard ejected agents.old.heard }
 {
     if let Some(k) = ejected {
         agents.drop_of(k);
@@ -213,10 +214,11 @@ impl<A: Agent> World<A> {
     /// A machine before its first step, in front of its boot sequence, with an agent, or none, for each possible processor.
     pub fn new(alloc: Global, p: &Platform, agents: Agents<A>) -> Result<World<A>, NoMemory>
         requires fit { IsFit p.now }
-        requires places { length agents ≡ count_of p.now }
+        requires places { length agents.voices ≡ count_of p.now }
         ensures platform { IfOk result (λ w. w.platform ≡ p.now) }
         ensures entries { IfOk result (λ w. w.entries ≡ []) }
-        ensures voices { IfOk result (λ w. w.voices ≡ agents) }
+        ensures voices { IfOk result (λ w. w.voices ≡ agents.voices) }
+        ensures heard { IfOk result (λ w. w.heard ≡ agents.heard) }
         ensures last { IfOk result (λ w. w.last ≡ replicate (count_of p.now) Quiet) }
         ensures asked { IfOk result (λ w. w.asked ≡ replicate (count_of p.now + 1) 0) }
         ensures idle { IfOk result (λ w. w.idle ≡ replicate (idle_places (comes_late p.now.delivery) (count_of p.now)) None) }
@@ -245,8 +247,10 @@ impl<A: Agent> World<A> {
     /// come late it alone takes them, and a running processor goes on until then. An access of a width that there is none is made as
     /// `Nop`, and a value is cut to its width. A step that ejects a processor drops its agent.
     ///
-    /// `Idle` comes exactly where there is no step of the actor; no agent is asked then. Room for the entry and for what the
-    /// step writes is taken first, so after `NoMemory` no agent was asked and nothing has changed but that room.
+    /// Where the step is an agent's, that agent alone is asked, and once: as that processor, at the page where it runs, with the
+    /// answer to its last access. `Idle` comes exactly where there is no step of the actor; no agent is asked then. Room for the
+    /// entry and for what the step writes is taken first, so after `NoMemory` no agent was asked and nothing has changed but that
+    /// room.
     pub fn turn(&mut self, a: Actor) -> Result<Turn, NoMemory>
         ensures platform { self.new.platform ≡ self.old.platform }
         ensures turned { IfOk result (IsTurned self.old self.new a) }

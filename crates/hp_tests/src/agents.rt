@@ -235,10 +235,7 @@ fn a_boxed_agent_is_asked_until_it_is_dropped(rt: HostRuntime) -> Result<(), Fai
     let drops = Arc::new(rt.alloc(), AtomicU32::new(0))?;
     let mut list: Vec<Box<dyn Agent + Send>> = Vec::new(rt.alloc());
     for _place in 0..2 {
-        let agent = Echo {
-            asked: Arc::try_clone(&asked)?,
-            drops: Arc::try_clone(&drops)?,
-        };
+        let agent = Echo::new(Arc::try_clone(&asked)?, Arc::try_clone(&drops)?);
         list.push(Box::new(rt.alloc(), agent)?)?;
     }
     try_drops(&rt, rt.alloc(), list, &drops)?;

@@ -166,10 +166,7 @@ fn an_agent_is_asked_where_its_processor_runs(rt: HostRuntime) -> Result<(), Fai
     let asked = Arc::new(rt.alloc(), AtomicU32::new(0))?;
     let drops = Arc::new(rt.alloc(), AtomicU32::new(0))?;
     let mut list: Vec<Box<dyn Agent + Send>> = Vec::new(rt.alloc());
-    let agent = Echo {
-        asked: Arc::try_clone(&asked)?,
-        drops: Arc::try_clone(&drops)?,
-    };
+    let agent = Echo::new(Arc::try_clone(&asked)?, Arc::try_clone(&drops)?);
     list.push(Box::new(rt.alloc(), agent)?)?;
     try_questions(&rt, rt.alloc(), list, &asked)
 }
@@ -225,10 +222,7 @@ fn an_ejected_processor_has_no_agent(rt: HostRuntime) -> Result<(), Fail> {
     let asked = Arc::new(rt.alloc(), AtomicU32::new(0))?;
     let drops = Arc::new(rt.alloc(), AtomicU32::new(0))?;
     let mut list: Vec<Box<dyn Agent + Send>> = Vec::new(rt.alloc());
-    let agent = Echo {
-        asked: Arc::try_clone(&asked)?,
-        drops: Arc::try_clone(&drops)?,
-    };
+    let agent = Echo::new(Arc::try_clone(&asked)?, Arc::try_clone(&drops)?);
     list.push(Box::new(rt.alloc(), agent)?)?;
     try_eject(&rt, rt.alloc(), list, &asked, &drops)
 }

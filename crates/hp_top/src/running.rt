@@ -282,7 +282,7 @@ fn take_voices(alloc: Global, file: File) -> (File, Vec<VoiceKind>)
 
 /// An agent of each of these kinds.
 fn agents_of<A: Agent>(alloc: Global, kinds: Vec<VoiceKind>) -> Result<Agents<A>, NoMemory>
-    ensures { IfOk result (λ agents. agents ≡ map (λ v. Some v) (map voice_of kinds.items)) }
+    ensures { IfOk result (λ agents. agents.voices ≡ map (λ v. Some v) (map voice_of kinds.items)) }
 {
     let mut places = Vec::new(alloc);
     for kind in kinds {
