@@ -1,12 +1,12 @@
 -- Traces of firmware that does one thing wrong: each begins as a worked trace, and goes on as the machine then records it. No trace is a run.
 use Rattle.std.specs.Prelude.{List, [], ◌∷◌, ◌++◌, take}
-use Rattle.hp_model.specs.declared.accesses.Access.TheVariants.{Load, Store, In, Out, Icr, Halt}
+use Rattle.hp_model.specs.declared.accesses.Access.TheVariants.{Load, Store, Swap, In, Out, Icr, Halt}
 use Rattle.hp_model.specs.declared.outcomes.Outcome.TheVariants.{Added, Refused}
 use Rattle.hp_model.specs.declared.outcomes.Refusal.TheVariants.{NotAtGate, NotParked, Foreign}
 use Rattle.hp_model.specs.declared.entries.Entry.{Entry}
 use Rattle.hp_worked.specs.Entries.{does, does_at, reads_at, takes_smi, takes_init, resumes, tells, waits}
 use Rattle.hp_worked.specs.Adds.{an_add}
-use Rattle.hp_worked.specs.RefusedAdds.{not_at_gate}
+use Rattle.hp_worked.specs.RefusedAdds.{insert_and_eject, not_at_gate}
 use Rattle.hp_worked.specs.RefusedEjects.{not_parked}
 use Rattle.hp_worked.specs.TwoAdds.{two_adds}
 use Rattle.hp_worked.specs.TwoNewProcessors.{two_new_processors}
@@ -46,6 +46,62 @@ passed_the_closed_gate =
     ∷ does 0 Halt
     ∷ does 1 (Store 0x9f010 1 0x1)
     ∷ does 1 Halt
+    ∷ [])
+
+-- The same firmware: the processor comes while the gate is open for it, and passes once the monarch has closed it.
+unfoldable pub passed_once_it_was_shut : List Entry
+passed_once_it_was_shut =
+    take 52 not_at_gate ++
+    (takes_smi 1
+    ∷ does_at 0 0x7f28058 (Store 0x30000 8 0xffffffffffffffff)
+    ∷ waits 1
+    ∷ does_at 0 0x7f28030 (Store 0x7f00001 1 0)
+    ∷ reads_at 1 0x38004 (Load 0x30008 4) 0x7f30000
+    ∷ does_at 0 0x7f28034 (Store 0x3000c 1 0)
+    ∷ does_at 1 0x38008 (Store 0x3ff00 4 0x7f30000)
+    ∷ does_at 0 0x7f28038 (Store 0x30008 4 0x7f30000)
+    ∷ does_at 1 0x3800c (Store 0x3000c 1 0x1)
+    ∷ does_at 0 0x7f2803c (Icr 0x1000000 0x200)
+    ∷ does_at 1 0x38010 (Icr 0x1000000 0x200)
+    ∷ does_at 0 0x7f28040 (Icr 0x1000000 0x500)
+    ∷ resumes 1 0x38014
+    ∷ does_at 0 0x7f28044 (Icr 0x1000000 0x69f)
+    ∷ takes_smi 1
+    ∷ does_at 0 0x7f28048 (Icr 0x1000000 0x69f)
+    ∷ does_at 1 0x7f38000 (Store 0x7f00001 1 0x1)
+    ∷ [])
+
+-- The first handler stores no flag, and its RSM stands a cell earlier.
+unfoldable pub left_a_cell_early : List Entry
+left_a_cell_early =
+    take 56 an_add ++
+    (does_at 1 0x3800c (Icr 0x1000000 0x200)
+    ∷ reads_at 0 0x7f28054 (Load 0x7f00001 1) 0
+    ∷ resumes 1 0x38010
+    ∷ reads_at 0 0x7f28050 (Load 0x3000c 1) 0
+    ∷ takes_smi 1
+    ∷ reads_at 0 0x7f28054 (Load 0x7f00001 1) 0
+    ∷ does_at 1 0x7f38000 (Store 0x7f00001 1 0x1)
+    ∷ reads_at 0 0x7f28050 (Load 0x3000c 1) 0
+    ∷ reads_at 1 0x7f38004 (Load 0x7f02001 1) 0
+    ∷ reads_at 0 0x7f28054 (Load 0x7f00001 1) 0x1
+    ∷ reads_at 1 0x7f38008 (Load 0x7f01001 1) 0
+    ∷ does_at 0 0x7f28058 (Store 0x30000 8 0xffffffffffffffff)
+    ∷ does_at 1 0x7f38000 (Store 0x7f00001 1 0x1)
+    ∷ does_at 0 0x7f2805c (Store 0x7f00001 1 0)
+    ∷ reads_at 1 0x7f38004 (Load 0x7f02001 1) 0
+    ∷ reads_at 0 0x7f28060 (Load 0x7f00001 1) 0
+    ∷ reads_at 1 0x7f38008 (Load 0x7f01001 1) 0
+    ∷ reads_at 0 0x7f28060 (Load 0x7f00001 1) 0
+    ∷ does_at 1 0x7f38000 (Store 0x7f00001 1 0x1)
+    ∷ reads_at 0 0x7f28060 (Load 0x7f00001 1) 0x1
+    ∷ reads_at 1 0x7f38004 (Load 0x7f02001 1) 0
+    ∷ tells 0x7f28088 (Added 1 1 1)
+    ∷ reads_at 1 0x7f38008 (Load 0x7f01001 1) 0
+    ∷ does_at 0 0x7f2808c (Store 0x7f04000 1 0)
+    ∷ does_at 1 0x7f38000 (Store 0x7f00001 1 0x1)
+    ∷ does_at 0 0x7f28090 (Store 0x7f01001 1 0x1)
+    ∷ reads_at 1 0x7f38004 (Load 0x7f02001 1) 0
     ∷ [])
 
 -- The same firmware, and a second new processor that nobody has called in: it takes the SMBASE that the first one has got.
@@ -192,6 +248,53 @@ given_up_after_two_attempts =
     ∷ does 0 (Out 0xcd8 4 0x1)
     ∷ does 0 (Out 0xcdc 1 0x2)
     ∷ does 0 Halt
+    ∷ [])
+
+-- A processor that has an eject beside its insert is added.
+unfoldable pub added_with_an_eject : List Entry
+added_with_an_eject =
+    take 41 insert_and_eject ++
+    (does_at 0 0x7f2802c (Store 0x7f01001 1 0)
+    ∷ does_at 0 0x7f28030 (Store 0x7f00001 1 0)
+    ∷ does_at 0 0x7f28034 (Store 0x3000c 1 0)
+    ∷ does_at 0 0x7f28038 (Store 0x30008 4 0x7f30000)
+    ∷ does_at 0 0x7f2803c (Icr 0x1000000 0x200)
+    ∷ does_at 0 0x7f28040 (Icr 0x1000000 0x500)
+    ∷ does_at 0 0x7f28044 (Icr 0x1000000 0x69f)
+    ∷ takes_smi 1
+    ∷ does_at 0 0x7f28048 (Icr 0x1000000 0x69f)
+    ∷ waits 1
+    ∷ does_at 0 0x7f2804c (Store 0x30000 8 0x1)
+    ∷ reads_at 1 0x38000 (Swap 0x30000 0x1 0xffffffffffffffff) 0x1
+    ∷ reads_at 0 0x7f28050 (Load 0x3000c 1) 0
+    ∷ reads_at 1 0x38004 (Load 0x30008 4) 0x7f30000
+    ∷ reads_at 0 0x7f28054 (Load 0x7f00001 1) 0
+    ∷ does_at 1 0x38008 (Store 0x3ff00 4 0x7f30000)
+    ∷ reads_at 0 0x7f28050 (Load 0x3000c 1) 0
+    ∷ does_at 1 0x3800c (Store 0x3000c 1 0x1)
+    ∷ reads_at 0 0x7f28054 (Load 0x7f00001 1) 0
+    ∷ does_at 1 0x38010 (Icr 0x1000000 0x200)
+    ∷ reads_at 0 0x7f28050 (Load 0x3000c 1) 0x1
+    ∷ resumes 1 0x38014
+    ∷ does_at 0 0x7f28058 (Store 0x30000 8 0xffffffffffffffff)
+    ∷ takes_smi 1
+    ∷ does_at 0 0x7f2805c (Store 0x7f00001 1 0)
+    ∷ does_at 1 0x7f38000 (Store 0x7f00001 1 0x1)
+    ∷ reads_at 0 0x7f28060 (Load 0x7f00001 1) 0x1
+    ∷ reads_at 1 0x7f38004 (Load 0x7f02001 1) 0
+    ∷ tells 0x7f28088 (Added 1 1 1)
+    ∷ reads_at 1 0x7f38008 (Load 0x7f01001 1) 0
+    ∷ does_at 0 0x7f2808c (Store 0x7f04000 1 0)
+    ∷ does_at 1 0x7f38000 (Store 0x7f00001 1 0x1)
+    ∷ does_at 0 0x7f28090 (Store 0x7f01001 1 0x1)
+    ∷ reads_at 1 0x7f38004 (Load 0x7f02001 1) 0
+    ∷ resumes 0 0x7f28094
+    ∷ reads_at 1 0x7f38008 (Load 0x7f01001 1) 0x1
+    ∷ does 0 Halt
+    ∷ does_at 1 0x7f3800c (Store 0x7f00001 1 0)
+    ∷ resumes 1 0x7f38010
+    ∷ does 1 (Store 0x9f010 1 0x1)
+    ∷ does 1 Halt
     ∷ [])
 
 -- A processor that was read as parked is told as not parked.
