@@ -74,7 +74,7 @@ hosts_are ms parts e =
   where
     by : (b : Bool) (m : Option Machine) (hs : Option (List HostEvent)) → rows_in (in_table host_of) (get_member (codes "host") ms) ≡ hs → (ss : Option (List Stall)) (as' : Option (List AgentRow)) →
         (if b then
-          given m (λ machine. given hs (λ hosts. given ss (λ stalls. given as' (λ agents. Some (record { machine = machine; hosts = hosts; stalls = stalls; agents = agents })))))
+        given m (λ machine. given hs (λ hosts. given ss (λ stalls. given as' (λ agents. Some (record { machine = machine; hosts = hosts; stalls = stalls; agents = agents })))))
         else None) ≡ Some parts → hosts_are_hosts parts.hosts ≡ true
     by false m hs is ss as' e = cc
     by true None hs is ss as' e = cc

@@ -50,11 +50,12 @@ module _ (sound : (bytes : List ℕ) (f : File) → IsReadAs bytes (Ok f) → Is
 run_from-front : (p : Platform) (s : State) (front rest : List Entry) → IsSome (run_from p s (front ++ rest)) → IsSome (run_from p s front)
 unfolding run_from
 run_from-front p s [] rest some = refl
-run_from-front p s (e ∷ front) rest some = by (run_on p s e) some
+run_from-front p s (e ∷ front) rest some = by (λ t. run_from-front p t front rest) (run_on p s e) some
   where
-    by : (o : Option State) → IsSome (option_and_then (λ t. run_from p t (front ++ rest)) o) → IsSome (option_and_then (λ t. run_from p t front) o)
-    by None some = cc
-    by (Some t) some = run_from-front p t front rest some
+    by : ((t : State) → IsSome (run_from p t (front ++ rest)) → IsSome (run_from p t front)) → (o : Option State) →
+        IsSome (option_and_then (λ t. run_from p t (front ++ rest)) o) → IsSome (option_and_then (λ t. run_from p t front) o)
+    by further None some = cc
+    by further (Some t) some = further t some
 
 run-front : (p : Platform) (es front rest : List Entry) → es ≡ front ++ rest → IsSome (run p es) → IsSome (run p front)
 unfolding run

@@ -1,6 +1,5 @@
 -- A turn of the boot after those before it.
 use Rattle.std.proofs.Common.{◌∙◌, refl, arith}
-use Rattle.hp_top.specs.Turns.{boot_left}
 use Rattle.hp_top.proofs.Turning.{boot_start, boot_next, boot_all, done_more, done_front, done_all}
 use Rattle.hp_top.proofs.running.make_boot.Goals as goal
 
