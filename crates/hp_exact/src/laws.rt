@@ -50,8 +50,9 @@ pub fn sessions_are_exact()
     ensures { (p : Platform) (es : List Entry) → IsFit p → IsExact p es }
 {}
 
-/// Every run is safe: what is executed in SMM was locked before it, no two processors hold one relocated SMBASE, an SMBASE changes only past the
-/// gate, and each completed add or eject of an undisturbed session changes exactly the processor that was reported, each refusal naming its fact.
+/// Every run is safe: every instruction executed in SMM lies in SMRAM locked before it, no two processors hold one relocated SMBASE, a processor's
+/// SMBASE changes only after passing the gate while the monarch had named its APIC ID, and in each undisturbed session completed adds and ejects
+/// change exactly the processors reported, each refusal naming its fact.
 pub fn runs_are_safe()
     ensures { (p : Platform) (es : List Entry) (s : State) → IsFit p → run p es ≡ Some s → IsSafe p es }
 {}

@@ -248,9 +248,9 @@ impl<A: Agent> World<A> {
     /// `Nop`, and a value is cut to its width. A step that ejects a processor drops its agent.
     ///
     /// Where the step is an agent's, that agent alone is asked, and once: as that processor, at the page where it runs, with the
-    /// answer to its last access. `Idle` comes exactly where there is no step of the actor; no agent is asked then. Room for the
-    /// entry and for what the step writes is taken first, so after `NoMemory` no agent was asked and nothing has changed but that
-    /// room.
+    /// answer to its last access. `Idle` comes exactly where there is no step of the actor; no agent is asked then. All this is said
+    /// of each agent but one that the step itself drops: what that one has heard ends with it. Room for the entry and for what the
+    /// step writes is taken first, so after `NoMemory` no agent was asked and nothing has changed but that room.
     pub fn turn(&mut self, a: Actor) -> Result<Turn, NoMemory>
         ensures platform { self.new.platform ≡ self.old.platform }
         ensures turned { IfOk result (IsTurned self.old self.new a) }
@@ -286,10 +286,10 @@ impl<A: Agent> World<A> {
         }
     }
 
-    /// All steps that were made, in their order: a run of the machine from its start, and a safe one. In it each instruction
-    /// executed in SMM lies in SMRAM that was locked before it; no two processors hold one relocated SMBASE; a processor's SMBASE
-    /// changes only after it passed the gate while the monarch had named its APIC ID; and in each undisturbed session each completed
-    /// add or eject changes exactly the processor that the registers reported, each refusal naming its fact.
+    /// All steps that were made, in their order: a run of the machine from its start, and a safe one. In it every instruction
+    /// executed in SMM lies in SMRAM locked before it, no two processors hold one relocated SMBASE, a processor's SMBASE changes only
+    /// after passing the gate while the monarch had named its APIC ID, and in each undisturbed session completed adds and ejects
+    /// change exactly the processors reported, each refusal naming its fact.
     pub fn entries(&self) -> &[Entry]
         ensures entries { result.now ≡ self.now.entries }
         ensures run { IsSome (run self.now.platform self.now.entries) }

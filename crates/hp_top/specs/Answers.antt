@@ -42,9 +42,9 @@ EndsFile file old new (TraceRefused line why) = ⊥
 EndsFile file old new NoMemory = HoldsFront old new (output file)
 
 -- The bytes are a file whose boot was handed over, and the whole trace of its run was appended, whose entries are a run of the machine, and a
--- safe one: each instruction executed in SMM lies in SMRAM that was locked before it; no two processors hold one relocated SMBASE; a processor's
--- SMBASE changes only after it passed the gate while the monarch had named its APIC ID; and in each undisturbed session each completed add or
--- eject changes exactly the processor that the registers reported, each refusal naming its fact.
+-- safe one: every instruction executed in SMM lies in SMRAM locked before it, no two processors hold one relocated SMBASE, a processor's SMBASE
+-- changes only after passing the gate while the monarch had named its APIC ID, and in each undisturbed session completed adds and ejects change
+-- exactly the processors reported, each refusal naming its fact.
 pub record IsWholeRun (bytes : List ℕ) (old new : Option (List ℕ)) : Type 0 where
   pub file : File
   pub read : IsReadAs bytes (Ok file)

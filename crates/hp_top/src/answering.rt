@@ -87,11 +87,13 @@ fn complete<K: Sink>(alloc: Global, bytes: &[u8], out: &mut K) -> Status
 
 /// Serves the command `run`: reads a platform file to its end, and writes the trace of its run, line by line.
 ///
-/// For every platform, agents of the file and interleaving of its schedule the trace written is a run of the written machine;
-/// every instruction executed in SMM lies in SMRAM locked before it, no two processors hold one relocated SMBASE, a
-/// processor's SMBASE changes only after passing the gate while the monarch had named its APIC ID, and in each undisturbed
-/// session completed adds and ejects change exactly the processors reported, each refusal naming its fact. Clause `ends`
-/// carries it: `IsSafe` of what was written, whole, cut or of a refused boot.
+/// For every platform, agents and interleaving, the trace written is a run of the written machine; every instruction executed
+/// in SMM lies in SMRAM locked before it, no two processors hold one relocated SMBASE, a processor's SMBASE changes only after
+/// passing the gate while the monarch had named its APIC ID, and in each undisturbed session completed adds and ejects change
+/// exactly the processors reported, each refusal naming its fact.
+///
+/// Clause `ends` carries it: `IsSafe` of what was written, whole, cut or of a refused boot. Agents are those of the file, and the
+/// interleaving is its schedule's.
 ///
 /// That each line goes to the sink when its step is made is no clause. docs/PROOFS.md says in words what the clauses do.
 pub fn top<S: Source, K: Sink>(alloc: Global, words: &[String], src: &mut S, out: &mut K) -> Status
