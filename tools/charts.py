@@ -25,6 +25,8 @@ ROW, TOP, LEFT, GAP, MARGIN, INSET, LABEL = 16, 106, 58, 46, 16, 8, 36
 NARROWEST, LEAST_LANE = 680, 190
 NEAR = 60  # rows over which a store is still tied to the load that finds it
 RECENT = 4  # steps of one processor in which a loop comes round
+# rows of handlers that are made again while nothing has changed
+POLLED = {"F1", "R1", "R2", "R3", "R6", "S3", "N8a", "N8b", "N11", "E2"}
 
 
 @dataclass
@@ -51,7 +53,7 @@ def rows_of(platform, entries):
     for entry in entries[boot:]:
         seen = recent.setdefault(entry.actor, [])
         key = (entry.address, entry.kind, tuple(entry.text.values()))
-        again = next((row for old, row in seen if old == key), None) if repeats(entry, key, seen) else None
+        again = next((row for old, row in seen if old == key), None) if repeats(platform, entry, key, seen) else None
         if again:
             again.count += 1
             continue
@@ -61,11 +63,16 @@ def rows_of(platform, entries):
     return rows
 
 
-def repeats(entry, key, seen):
-    """It may be a round of a loop: a step in SMM, or outside the one just made again. No loop sends interrupts."""
+def repeats(platform, entry, key, seen):
+    """It may be a round of a loop: a polled row in SMM, or outside the step just made again. No loop sends interrupts.
+
+    The rounds of a collection aren't: each is of another processor.
+    """
     if entry.actor is None or entry.kind in ("icr", "tell"):
         return False
-    return entry.address is not None or bool(seen) and seen[-1][0] == key
+    if entry.address is not None:
+        return label_at(platform, entry.address) in POLLED
+    return bool(seen) and seen[-1][0] == key
 
 
 class Chart:

@@ -140,15 +140,33 @@ def is_at(entry, port, width):
     return entry.value("place") == port and int(entry.text["width"]) == width
 
 
-def landings(entries):
-    """Where each SMI entry leads, by its number: its processor's next lines alone have an instruction address."""
+def landings(platform, entries):
+    """Where each SMI entry leads, by its number: its processor's next lines alone have an instruction address.
+
+    Where it has no such line any more, it is where its last RSM left it: a new processor at the default SMBASE.
+    """
     ahead, found = {}, {}
     for entry in reversed(entries):
         if entry.kind == "smi":
-            found[entry.number] = ahead.pop(entry.actor, TSEG)
+            found[entry.number] = ahead.pop(entry.actor, None)
+        elif entry.kind == "insert":
+            ahead.pop(entry.processor, None)
         elif entry.address is not None:
-            ahead[entry.actor] = DEFAULT if DEFAULT_SMBASE <= entry.address < DEFAULT_SMBASE + TILE else TSEG
+            ahead[entry.actor] = DEFAULT if is_default(entry.address) else TSEG
+    bases = dict.fromkeys(platform.boot, TSEG)
+    for entry in entries:
+        if entry.kind == "insert":
+            bases[entry.processor] = DEFAULT
+        elif entry.kind == "rsm" and is_default(entry.address):
+            bases[entry.actor] = TSEG
+        elif entry.kind == "smi":
+            bases[entry.actor] = found[entry.number] = found[entry.number] or bases.get(entry.actor, TSEG)
     return found
+
+
+def is_default(address):
+    """An instruction address at the default SMBASE."""
+    return DEFAULT_SMBASE <= address < DEFAULT_SMBASE + TILE
 
 
 @dataclass
@@ -172,7 +190,7 @@ def replay(platform, entries):
     """A mode changes with the entry that changes it, but for RSM, which is still made in SMM."""
     machine = Machine(platform)
     changes = [[(1, mode)] for mode in machine.modes]
-    found = landings(entries)
+    found = landings(platform, entries)
     hits = {}
     for entry in entries:
         hit = machine.hits(entry)

@@ -1,21 +1,26 @@
 """Traces of `hotplug`, read: the header's platform and one entry a line, by the grammar of docs/FORMATS.md."""
 
 import argparse
+import contextlib
+import os
 import re
 import signal
 import sys
 from dataclasses import dataclass
 
 MIB = 0x100000
+TSEG_SIZES = (1, 2, 8, 48)
 
+# a decimal below 2^32, and so of at most ten digits, with no zero in front
+N = r"(?:0|[1-9]\d{0,9})"
 HEADER = re.compile(
-    r"platform apic=(?P<apic>\d+(,\d+)*) boot=(?P<boot>\d+(,\d+)*) low=(?P<low>[0-9a-f]{8})"
-    r" tseg=(?P<tseg>\d+)( ext=false)?"
-    r" features=(?P<features>\d+) polls=(?P<polls>\d+) turns=(?P<turns>\d+) modern=(?P<modern>true|false)"
-    r" smram=(true|false) delivery=(prompt|late lag=(?P<lag>\d+))(?P<x2apic> x2apic=true)?"
+    rf"platform apic=(?P<apic>{N}(,{N})*) boot=(?P<boot>{N}(,{N})*) low=(?P<low>[0-9a-f]{{8}})"
+    rf" tseg=(?P<tseg>{N})( ext=false)?"
+    rf" features=(?P<features>{N}) polls=(?P<polls>{N}) turns=(?P<turns>{N}) modern=(?P<modern>true|false)"
+    rf" smram=(true|false) delivery=(prompt|late lag=(?P<lag>{N}))(?P<x2apic> x2apic=true)?"
 )
-ACTOR = re.compile(r"(?P<actor>host|p\d+) (@(?P<address>[0-9a-f]{8}) )?(?P<kind>[a-z]+)(?P<rest>.*)")
-END = re.compile(r"end (\d+)")
+ACTOR = re.compile(rf"(?P<actor>host|p{N}) (@(?P<address>[0-9a-f]{{8}}) )?(?P<kind>[a-z]+)(?P<rest>.*)")
+END = re.compile(r"end \d+")
 
 # What stands behind each step's word. Values have two digits for each byte of the width.
 STEPS = {
@@ -30,8 +35,8 @@ STEPS = {
     "cfgw": re.compile(r" (?P<place>[0-9a-f]{2}) (?P<value>[0-9a-f]{2})"),
     "icr": re.compile(r" (?P<high>[0-9a-f]{8}) (?P<low>[0-9a-f]{8})"),
     "tell": re.compile(r" (?P<outcome>[a-z]+) (?P<numbers>[0-9a-f]+( [0-9a-f]+){1,2})"),
-    "insert": re.compile(r" (?P<processor>\d+)"),
-    "remove": re.compile(r" (?P<processor>\d+)"),
+    "insert": re.compile(rf" (?P<processor>{N})"),
+    "remove": re.compile(rf" (?P<processor>{N})"),
     "halt": re.compile(""),
     "nop": re.compile(""),
     "smi": re.compile(""),
@@ -39,6 +44,8 @@ STEPS = {
     "rsm": re.compile(""),
 }
 HOST_EVENTS = {"insert", "remove"}
+# what stands in SMM alone, and what outside SMM alone
+INSIDE, OUTSIDE = {"rsm", "tell"}, {"smi", "init"}
 
 # what the numbers of each outcome are
 OUTCOMES = {
@@ -57,6 +64,7 @@ OUTCOMES = {
     "foreign": ("processor", "apic"),
     "stillpending": ("processor", "status"),
 }
+NUMBER, STATUS = re.compile(N), re.compile(r"[0-9a-f]{2}")
 
 
 class NoTrace(Exception):
@@ -142,9 +150,17 @@ def read_header(line):
         lag=int(found["lag"] or 0),
         x2apic=found["x2apic"] is not None,
     )
-    if platform.tseg < 0 or max(platform.boot) >= len(platform.apic):
+    if not is_platform(platform):
         raise NoTrace(1, "no platform has these numbers")
     return platform
+
+
+def is_platform(platform):
+    """There may be such a machine: what would mislead who reads the entries by it is looked at."""
+    are_distinct = len(set(platform.apic)) == len(platform.apic)
+    boot = platform.boot
+    is_boot = boot == sorted({0, *boot}) and boot[-1] < len(platform.apic)
+    return are_distinct and is_boot and platform.tseg_mib in TSEG_SIZES and platform.tseg >= 0
 
 
 def read_step(kind, rest):
@@ -153,31 +169,54 @@ def read_step(kind, rest):
     if not found:
         return None
     text = found.groupdict()
-    if kind == "tell" and len(text["numbers"].split()) != len(OUTCOMES.get(text["outcome"], ())):
+    if kind == "tell" and not is_outcome(text["outcome"], text["numbers"].split()):
         return None
     digits = 2 * int(text["width"]) if text.get("width") else None
     values = [text[name] for name in ("value", "answer") if digits and text.get(name)]
     return text if all(len(value) == digits for value in values) else None
 
 
+def is_outcome(outcome, numbers):
+    """The numbers are those of this outcome: a status byte in two hexadecimal digits, all others decimal."""
+    names = OUTCOMES.get(outcome, ())
+    if len(names) != len(numbers):
+        return False
+    forms = (STATUS if name == "status" else NUMBER for name in names)
+    return all(form.fullmatch(digits) for form, digits in zip(forms, numbers, strict=True))
+
+
+def is_by(actor, address, kind):
+    """Who makes such a step, and where: the host its events, p0 outcomes; RSM is in SMM, SMI entry and INIT outside."""
+    if (actor == "host") != (kind in HOST_EVENTS) or kind == "tell" and actor != "p0":
+        return False
+    return kind not in (INSIDE if address is None else {*OUTSIDE, *HOST_EVENTS})
+
+
 def read_entry(line, number, count):
     """The entry of a line, on a platform of so many possible processors."""
     found = ACTOR.fullmatch(line)
     text = read_step(found["kind"], found["rest"]) if found else None
-    if text is None or (found["actor"] == "host") != (found["kind"] in HOST_EVENTS):
-        raise NoTrace(number + 1, f"no entry of a trace: {line[:60]}")
+    if text is None or not is_by(found["actor"], found["address"], found["kind"]):
+        raise NoTrace(number + 1, f"no entry of a trace: {shown(line)}")
     actor = None if found["actor"] == "host" else int(found["actor"][1:])
     address = int(found["address"], 16) if found["address"] else None
     entry = Entry(line, number, actor, address, found["kind"], text)
-    if entry.processor >= count:
-        raise NoTrace(number + 1, f"the platform has no processor {entry.processor}")
+    told = [int(text["numbers"].split()[0])] if entry.kind == "tell" else []
+    missing = [place for place in (entry.processor, *told) if place >= count]
+    if missing:
+        raise NoTrace(number + 1, f"the platform has no processor {missing[0]}")
     return entry
+
+
+def shown(line):
+    """The front of a line, with nothing in it that a terminal would act on."""
+    return "".join(letter if letter.isprintable() else "?" for letter in line[:60])
 
 
 def read_end(line, number):
     """The end line behind so many entries."""
     if line != f"end {number}":
-        raise NoTrace(number + 2, f"{line}, where there are {number} entries")
+        raise NoTrace(number + 2, f"{shown(line)}, where there are {number} entries")
     return End(line)
 
 
@@ -204,13 +243,41 @@ def command(about):
     return words
 
 
+def opened(trace):
+    """The lines of a file, or of standard input where none is named."""
+    if trace is None and sys.stdin is None:
+        raise OSError("standard input is closed")
+    source = sys.stdin.fileno() if trace is None else trace
+    return open(source, encoding="ascii", errors="replace", newline="\n")
+
+
+def reason_of(fault):
+    """What is wrong: a file by its name."""
+    if isinstance(fault, OSError) and fault.strerror:
+        return f"{fault.filename}: {fault.strerror}" if isinstance(fault.filename, str) else fault.strerror
+    return str(fault)
+
+
 def run(name, work, trace):
-    """Hands the lines of a trace to `work`; status 2 and one line on standard error where they are none."""
-    signal.signal(signal.SIGPIPE, signal.SIG_DFL)  # a reader that goes away ends a tool as it ends `cat`
+    """Hands the lines of a trace to `work`; status 2 and one line on standard error where they are none.
+
+    So it is where they can't be read, or what `work` writes can't be written.
+    """
+    # a reader that goes away ends a tool as it ends `cat`, and so does a signal from the keyboard
+    for it in (signal.SIGPIPE, signal.SIGINT):
+        signal.signal(it, signal.SIG_DFL)
     try:
-        with open(trace or sys.stdin.fileno(), encoding="ascii", errors="replace", newline="\n") as lines:
+        if sys.stdout is None:
+            raise OSError("standard output is closed")
+        with opened(trace) as lines:
             work(lines)
-    except (NoTrace, OSError) as fault:
         sys.stdout.flush()
-        print(f"{name}: {fault}", file=sys.stderr)
-        sys.exit(2)
+    except (NoTrace, OSError) as fault:
+        with contextlib.suppress(OSError):
+            if sys.stdout:
+                sys.stdout.flush()
+        with contextlib.suppress(OSError):
+            if sys.stderr:
+                print(f"{name}: {reason_of(fault)}", file=sys.stderr, flush=True)
+        # what couldn't be written isn't tried again at the end
+        os._exit(2)
