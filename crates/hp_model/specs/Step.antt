@@ -1,6 +1,5 @@
 -- One step of the machine and its firmware: a table of events over guards and effects, where the boot sequence and the handlers in SMM say what is wanted.
-use Rattle.std.specs.Prelude.{ℕ, Bool, true, false, not, ◌&&◌, ◌||◌, ◌==◌, nat_lt, nat_le, ◌-◌, ◌%◌, ◌^◌, List, [], ◌∷◌, Option, Some, None, option_map, option_and_then, slice_set, if◌then◌else◌}
-use Rattle.std.specs.Str.{bytes_eq}
+use Rattle.std.specs.Prelude.{ℕ, Bool, true, false, not, ◌&&◌, ◌||◌, ◌==◌, nat_lt, nat_le, ◌-◌, ◌%◌, ◌^◌, List, Option, Some, None, option_map, option_and_then, slice_set, if◌then◌else◌}
 use Rattle.std.specs.Option.{unwrap_or}
 use Rattle.hp_model.specs.declared.platforms.Platform.{Platform}
 use Rattle.hp_model.specs.declared.processors.Cpu.{Cpu}
@@ -12,6 +11,7 @@ use Rattle.hp_model.specs.declared.accesses.Want.{Want}
 use Rattle.hp_model.specs.declared.accesses.Want.TheVariants as want
 use Rattle.hp_model.specs.declared.outcomes.Outcome.{Outcome}
 use Rattle.hp_model.specs.declared.outcomes.Outcome.TheVariants as outcome
+use Rattle.hp_model.specs.declared.outcomes.Refusal.{Refusal}
 use Rattle.hp_model.specs.declared.outcomes.Refusal.TheVariants as refusal
 use Rattle.hp_model.specs.declared.labels.Label.{Label}
 use Rattle.hp_model.specs.declared.labels.Label.TheVariants.{S2, E6, E7}
@@ -138,21 +138,19 @@ can_do late count cs (Tell o) = stands_in_smm (cpu_at cs 0)
 abbrev pub is_enabled : Platform → State → Event → Bool
 is_enabled p s e = can_do (is_late p.delivery) (count_of p) s.cpus e
 
--- an access as numbers, its kind first: two accesses are one where these are equal
-abbrev pub numbers_of : Access → List ℕ
-numbers_of (Load addr width) = 0 ∷ addr ∷ width ∷ []
-numbers_of (Store addr width value) = 1 ∷ addr ∷ width ∷ value ∷ []
-numbers_of (Swap addr expected desired) = 2 ∷ addr ∷ expected ∷ desired ∷ []
-numbers_of (In port width) = 3 ∷ port ∷ width ∷ []
-numbers_of (Out port width value) = 4 ∷ port ∷ width ∷ value ∷ []
-numbers_of (CfgRead reg) = 5 ∷ reg ∷ []
-numbers_of (CfgWrite reg value) = 6 ∷ reg ∷ value ∷ []
-numbers_of (Icr high low) = 7 ∷ high ∷ low ∷ []
-numbers_of Halt = 8 ∷ []
-numbers_of Nop = 9 ∷ []
-
+-- two accesses are one where their kinds and fields are
 unfoldable pub same_access : Access → Access → Bool
-same_access a b = bytes_eq (numbers_of a) (numbers_of b)
+same_access (Load addr width) (Load at wide) = (addr == at) && (width == wide)
+same_access (Store addr width value) (Store at wide other) = (addr == at) && ((width == wide) && (value == other))
+same_access (Swap addr expected desired) (Swap at seen other) = (addr == at) && ((expected == seen) && (desired == other))
+same_access (In port width) (In at wide) = (port == at) && (width == wide)
+same_access (Out port width value) (Out at wide other) = (port == at) && ((width == wide) && (value == other))
+same_access (CfgRead reg) (CfgRead at) = reg == at
+same_access (CfgWrite reg value) (CfgWrite at other) = (reg == at) && (value == other)
+same_access (Icr high low) (Icr up down) = (high == up) && (low == down)
+same_access Halt Halt = true
+same_access Nop Nop = true
+same_access _ _ = false
 
 -- before the hand-over only the boot sequence steps, on processor 0
 abbrev pub is_boots : ℕ → ℕ → ℕ → Event → Bool
@@ -164,25 +162,27 @@ is_boots mib done supported (TakeInit k) = false
 is_boots mib done supported (Resume k) = false
 is_boots mib done supported (Tell o) = false
 
--- an outcome as numbers, its kind first: two outcomes are one where these are equal
-abbrev pub outcome_numbers : Outcome → List ℕ
-outcome_numbers (outcome.Added cpu apic slot) = 0 ∷ cpu ∷ apic ∷ slot ∷ []
-outcome_numbers (outcome.Ejected cpu apic slot) = 1 ∷ cpu ∷ apic ∷ slot ∷ []
-outcome_numbers (outcome.Refused (refusal.Disabled cpu status)) = 2 ∷ cpu ∷ status ∷ []
-outcome_numbers (outcome.Refused (refusal.Both cpu status)) = 3 ∷ cpu ∷ status ∷ []
-outcome_numbers (outcome.Refused (refusal.AlreadyKnown cpu apic slot)) = 4 ∷ cpu ∷ apic ∷ slot ∷ []
-outcome_numbers (outcome.Refused (refusal.GateHeld cpu apic held)) = 5 ∷ cpu ∷ apic ∷ held ∷ []
-outcome_numbers (outcome.Refused (refusal.NotAtGate cpu apic)) = 6 ∷ cpu ∷ apic ∷ []
-outcome_numbers (outcome.Refused (refusal.NotCheckedIn cpu apic)) = 7 ∷ cpu ∷ apic ∷ []
-outcome_numbers (outcome.Refused (refusal.NoUnplug cpu features)) = 8 ∷ cpu ∷ features ∷ []
-outcome_numbers (outcome.Refused (refusal.NotKnown cpu apic)) = 9 ∷ cpu ∷ apic ∷ []
-outcome_numbers (outcome.Refused (refusal.NotArrived cpu apic)) = 10 ∷ cpu ∷ apic ∷ []
-outcome_numbers (outcome.Refused (refusal.NotParked cpu apic)) = 11 ∷ cpu ∷ apic ∷ []
-outcome_numbers (outcome.Refused (refusal.Foreign cpu apic)) = 12 ∷ cpu ∷ apic ∷ []
-outcome_numbers (outcome.Refused (refusal.StillPending cpu status)) = 13 ∷ cpu ∷ status ∷ []
+-- two refusals, and two outcomes, likewise
+unfoldable pub same_refusal : Refusal → Refusal → Bool
+same_refusal (refusal.Disabled cpu status) (refusal.Disabled k t) = (cpu == k) && (status == t)
+same_refusal (refusal.Both cpu status) (refusal.Both k t) = (cpu == k) && (status == t)
+same_refusal (refusal.AlreadyKnown cpu apic slot) (refusal.AlreadyKnown k a t) = (cpu == k) && ((apic == a) && (slot == t))
+same_refusal (refusal.GateHeld cpu apic held) (refusal.GateHeld k a h) = (cpu == k) && ((apic == a) && (held == h))
+same_refusal (refusal.NotAtGate cpu apic) (refusal.NotAtGate k a) = (cpu == k) && (apic == a)
+same_refusal (refusal.NotCheckedIn cpu apic) (refusal.NotCheckedIn k a) = (cpu == k) && (apic == a)
+same_refusal (refusal.NoUnplug cpu features) (refusal.NoUnplug k f) = (cpu == k) && (features == f)
+same_refusal (refusal.NotKnown cpu apic) (refusal.NotKnown k a) = (cpu == k) && (apic == a)
+same_refusal (refusal.NotArrived cpu apic) (refusal.NotArrived k a) = (cpu == k) && (apic == a)
+same_refusal (refusal.NotParked cpu apic) (refusal.NotParked k a) = (cpu == k) && (apic == a)
+same_refusal (refusal.Foreign cpu apic) (refusal.Foreign k a) = (cpu == k) && (apic == a)
+same_refusal (refusal.StillPending cpu status) (refusal.StillPending k t) = (cpu == k) && (status == t)
+same_refusal _ _ = false
 
 unfoldable pub same_outcome : Outcome → Outcome → Bool
-same_outcome a b = bytes_eq (outcome_numbers a) (outcome_numbers b)
+same_outcome (outcome.Added cpu apic slot) (outcome.Added k a t) = (cpu == k) && ((apic == a) && (slot == t))
+same_outcome (outcome.Ejected cpu apic slot) (outcome.Ejected k a t) = (cpu == k) && ((apic == a) && (slot == t))
+same_outcome (outcome.Refused why) (outcome.Refused other) = same_refusal why other
+same_outcome _ _ = false
 
 -- the four bytes at the instruction address of a processor in SMM, as it loads them
 unfoldable pub mark_at : State → ℕ → Option ℕ

@@ -1,7 +1,6 @@
 -- Which row loads an arrived byte, and what one entry more makes of the last look at it.
 use Rattle.std.specs.Prelude.{slice_index_or, if◌then◌else◌}
 use Rattle.std.proofs.Common.{ℕ, zero, suc, ◌≡◌, ◌+◌, ◌≤◌, ◌==◌, Bool, true, false, ◌&&◌, ◌||◌, List, [], ◌∷◌, length, replicate, refl, ap, ◌∙◌, arith}
-use Rattle.std.specs.Str.{bytes_eq}
 use Rattle.std.proofs.lemmas.Bool.Decides.{nat_tests}
 use Rattle.hp_model.specs.declared.platforms.Platform.{Platform}
 use Rattle.hp_model.specs.declared.accesses.Access.TheVariants.{Load}
@@ -31,7 +30,7 @@ makes_load p k v = monarch_makes (Load (arrived_byte (layout_of p) k) 1) v
 abbrev pub loads_at : Label → Monarch → ℕ → Bool
 loads_at l r k = if index_of l == 3 then k == r.slot else if (index_of l == 21) || (index_of l == 24) then k == r.add.slot else false
 
-same_byte : (base a b : ℕ) → bytes_eq (0 ∷ (base + a) ∷ 1 ∷ []) (0 ∷ (base + b) ∷ 1 ∷ []) ≡ (a == b)
+same_byte : (base a b : ℕ) → ((base + a == base + b) && true) ≡ (a == b)
 same_byte base a b = by_same (a == b) refl
   where
     more : (c d : Bool) → c ≡ d → (c && true) ≡ d
@@ -42,16 +41,16 @@ same_byte base a b = by_same (a == b) refl
     plain base a b true e = grind (arith, nat_tests)
     plain base a b false e = grind (arith, nat_tests)
 
-    by_same : (c : Bool) → (a == b) ≡ c → bytes_eq (0 ∷ (base + a) ∷ 1 ∷ []) (0 ∷ (base + b) ∷ 1 ∷ []) ≡ c
+    by_same : (c : Bool) → (a == b) ≡ c → ((base + a == base + b) && true) ≡ c
     by_same c e = more (base + a == base + b) c (plain base a b c e)
 
 not_same : (c : Bool) → c ≡ false → (c && true) ≡ false
 not_same c e = rw e refl
 
-not_flag : (base k : ℕ) → 0x800000 ≤ base → bytes_eq (0 ∷ (base + k) ∷ 1 ∷ []) (0 ∷ 0x3000c ∷ 1 ∷ []) ≡ false
+not_flag : (base k : ℕ) → 0x800000 ≤ base → ((base + k == 0x3000c) && true) ≡ false
 not_flag base k above = not_same (base + k == 0x3000c) (grind (arith, nat_tests))
 
-not_parked : (base k slot : ℕ) → k ≤ 512 → bytes_eq (0 ∷ (base + k) ∷ 1 ∷ []) (0 ∷ (base + 0x3000 + slot) ∷ 1 ∷ []) ≡ false
+not_parked : (base k slot : ℕ) → k ≤ 512 → ((base + k == base + 0x3000 + slot) && true) ≡ false
 not_parked base k slot small = not_same (base + k == base + 0x3000 + slot) (grind (arith, nat_tests))
 
 pub row_loads : (p : Platform) (q : Seat) (r : Monarch) (ws : List Write) (apic base k : ℕ) (v : Event) (l : Label) → Sound p → k ≤ 512 → part_of l ≡ Monarchs → Met p r ws apic base l → IsWanted (want_at (layout_of p) q r l) v → makes_load p k v ≡ loads_at l r k

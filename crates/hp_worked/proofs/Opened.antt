@@ -12,7 +12,7 @@ use Rattle.hp_model.specs.Boot.{boot_accesses, boot_access}
 use Rattle.hp_model.specs.Labels.{label_with}
 use Rattle.hp_model.specs.Image.{image, with_cells, with_tiles, with_releases}
 use Rattle.hp_model.specs.Handlers.{row_of}
-use Rattle.hp_model.specs.Step.{step, same_access, same_outcome, mark_at, row_at}
+use Rattle.hp_model.specs.Step.{step, same_access, same_refusal, same_outcome, mark_at, row_at}
 use Rattle.hp_model.specs.Runs.{run, run_from, run_on}
 use Rattle.hp_model.specs.Voices.{says}
 use Rattle.hp_model.specs.Schedule.{act, act_all, actors_of, turns_from, booted, boot_fact, scheduled}
@@ -29,7 +29,7 @@ use Rattle.hp_worked.specs.Traces.{boot}
 
 -- the machine's step and its runs, and the boot, with which all traces begin
 unfoldable pub the_run : ⊤
-unfolding boot_cpus cpus_start first_places bytes_of value_from is_hole hit_each saved saved_smbase saved_rip big_bytes big_value little_value directory listed bytes_stored bytes_loaded transfer boot_accesses boot_access label_with image with_cells with_tiles with_releases row_of step same_access same_outcome mark_at row_at run run_from run_on first_stop all_the_way boot without_turns numbers_from
+unfolding boot_cpus cpus_start first_places bytes_of value_from is_hole hit_each saved saved_smbase saved_rip big_bytes big_value little_value directory listed bytes_stored bytes_loaded transfer boot_accesses boot_access label_with image with_cells with_tiles with_releases row_of step same_access same_refusal same_outcome mark_at row_at run run_from run_on first_stop all_the_way boot without_turns numbers_from
 the_run = tt
 
 -- the schedule too
