@@ -37,62 +37,6 @@ init_to y apic = access (Icr (high_half y.x2apic apic) 0x500)
 abbrev pub sipi_to : Layout → ℕ → Option Want
 sipi_to y apic = access (Icr (high_half y.x2apic apic) 0x69f)
 
--- what a label wants
-abbrev pub want_at : Layout → Seat → Monarch → Label → Option Want
-want_at y x r F1 = access (Swap gate x.apic closed)
-want_at y x r F2 = access (Load new_smbase 4)
-want_at y x r F3 = access (Store default_smbase_field 4 x.base)
-want_at y x r F4 = store_byte flag 1
-want_at y x r F5 = smi_to y x.apic
-want_at y x r F6 = Some want.Resume
-want_at y x r R1 = store_byte (arrived_byte y x.slot) 1
-want_at y x r R2 = access (Load (map_byte y x.slot) 1)
-want_at y x r R3 = access (Load (release_byte y x.slot) 1)
-want_at y x r R4 = store_byte (arrived_byte y x.slot) 0
-want_at y x r R5 = Some want.Resume
-want_at y x r R6 = store_byte (parked_byte y x.slot) 1
-want_at y x r S0 = store_byte (session_byte y) 1
-want_at y x r S1 = store_byte (release_byte y r.slot) 0
-want_at y x r S2 = access (Icr 0 0xc0200)
-want_at y x r S3 = access (Load (arrived_byte y r.slot) 1)
-want_at y x r S4 = access (In 0xb2 1)
-want_at y x r C1 = access (Out 0xcd8 4 r.collection.cpu)
-want_at y x r C2 = access (Out 0xcdd 1 0)
-want_at y x r C3 = access (In 0xce0 4)
-want_at y x r C4 = access (In 0xcdc 1)
-want_at y x r C5 = access (Out 0xcdd 1 3)
-want_at y x r C6 = access (In 0xce0 4)
-want_at y x r NB = store_byte (release_byte y r.add.slot) 0
-want_at y x r N0 = store_byte (arrived_byte y r.add.slot) 0
-want_at y x r N1 = store_byte flag 0
-want_at y x r N2 = access (Store new_smbase 4 (tile_in y r.add.slot))
-want_at y x r N3 = smi_to y r.add.apic
-want_at y x r N4 = init_to y r.add.apic
-want_at y x r N5 = sipi_to y r.add.apic
-want_at y x r N6 = sipi_to y r.add.apic
-want_at y x r N7 = access (Store gate 8 r.add.apic)
-want_at y x r N8a = access (Load flag 1)
-want_at y x r N8b = access (Load (arrived_byte y r.add.slot) 1)
-want_at y x r N9 = access (Store gate 8 closed)
-want_at y x r N10 = store_byte (arrived_byte y r.add.slot) 0
-want_at y x r N11 = access (Load (arrived_byte y r.add.slot) 1)
-want_at y x r E0 = store_byte (parked_byte y r.eject.slot) 0
-want_at y x r E1 = store_byte (map_byte y r.eject.slot) 1
-want_at y x r E2 = access (Load (parked_byte y r.eject.slot) 1)
-want_at y x r E3 = store_byte (map_byte y r.eject.slot) 0
-want_at y x r E4a = access (Out 0xcd8 4 r.eject.cpu)
-want_at y x r E4b = access (Out 0xcdc 1 8)
-want_at y x r E4c = store_byte (arrived_byte y r.eject.slot) 0
-want_at y x r E4d = store_byte (map_byte y r.eject.slot) 0
-want_at y x r E4e = store_byte (parked_byte y r.eject.slot) 0
-want_at y x r E4f = access (Out 0xcd8 4 r.eject.cpu)
-want_at y x r E4g = access (In 0xcdc 1)
-want_at y x r E4h = store_byte (map_byte y r.eject.slot) 0
-want_at y x r T = Some (want.Tell r.outcome)
-want_at y x r E5 = store_byte (session_byte y) 0
-want_at y x r E6 = store_byte (release_byte y r.slot) 1
-want_at y x r E7 = Some want.Resume
-
 -- where the answer leads: the next label, the base, and the monarch's record
 pub record Next : Type 0 where
   pub label : Label
@@ -107,61 +51,90 @@ stays l x r = record { label = l; base = x.base; monarch = r }
 abbrev pub goes : Seat → Monarch → Next
 goes x r = record { label = r.label; base = x.base; monarch = r }
 
--- v is the value of the answer, 0 where it has none
-abbrev pub next_at : Layout → Seat → Monarch → Label → ℕ → Next
-next_at y x r F1 v = stays (if v == x.apic then F2 else F1) x r
-next_at y x r F2 v = record { label = F3; base = v; monarch = r }
-next_at y x r F3 v = stays F4 x r
-next_at y x r F4 v = stays F5 x r
-next_at y x r F5 v = stays F6 x r
-next_at y x r F6 v = stays F6 x r
-next_at y x r R1 v = stays R2 x r
-next_at y x r R2 v = stays (if v == 1 then R6 else R3) x r
-next_at y x r R3 v = stays (if v == 1 then R4 else R1) x r
-next_at y x r R4 v = stays R5 x r
-next_at y x r R5 v = stays R5 x r
-next_at y x r R6 v = stays R2 x r
-next_at y x r S0 v = goes x (first_slot S1 S2 r)
-next_at y x r S1 v = goes x (next_slot S1 S2 r)
-next_at y x r S2 v = goes x (look_at y.polls (known_from r.slots 1) r)
-next_at y x r S3 v = goes x (looked y.polls v (noted r.slot v r))
-next_at y x r S4 v = goes x (commanded v r)
-next_at y x r C1 v = goes x (at_label C2 r)
-next_at y x r C2 v = goes x (at_label C3 r)
-next_at y x r C3 v = goes x (collected y.apics (found y.count v r.collection) r)
-next_at y x r C4 v = goes x (collected y.apics (judged y.count v r.collection) r)
-next_at y x r C5 v = goes x (at_label C6 r)
-next_at y x r C6 v = goes x (collected y.apics (reported y.count v r.collection) r)
-next_at y x r NB v = goes x (led (begun r.add) r)
-next_at y x r N0 v = goes x (at_label N1 r)
-next_at y x r N1 v = goes x (at_label N2 r)
-next_at y x r N2 v = goes x (at_label N3 r)
-next_at y x r N3 v = goes x (at_label N4 r)
-next_at y x r N4 v = goes x (at_label N5 r)
-next_at y x r N5 v = goes x (at_label N6 r)
-next_at y x r N6 v = goes x (at_label N7 r)
-next_at y x r N7 v = goes x (led (looks N8a y.polls r.add) r)
-next_at y x r N8a v = goes x (led (saw_flag v r.add) r)
-next_at y x r N8b v = goes x (led (saw_pair v r.add) (noted r.add.slot v r))
-next_at y x r N9 v = goes x (led (shut r.add) r)
-next_at y x r N10 v = goes x (led (looks N11 y.polls r.add) r)
-next_at y x r N11 v = goes x (led (saw_arrival v r.add) (noted r.add.slot v r))
-next_at y x r E0 v = goes x (at_label E1 r)
-next_at y x r E1 v = goes x (eject_led (awaits y.polls r.eject) r)
-next_at y x r E2 v = goes x (eject_led (saw_parked v r.eject) r)
-next_at y x r E3 v = goes x (eject_led (unparked r.eject) r)
-next_at y x r E4a v = goes x (at_label E4b r)
-next_at y x r E4b v = goes x (at_label (handed_to_block y.late) r)
-next_at y x r E4c v = goes x (at_label E4d r)
-next_at y x r E4d v = goes x (at_label E4e r)
-next_at y x r E4e v = goes x (eject_led (gone r.eject) r)
-next_at y x r E4f v = goes x (at_label E4g r)
-next_at y x r E4g v = goes x (eject_led (saw_status v r.eject) r)
-next_at y x r E4h v = goes x (eject_led (given_up r.eject) r)
-next_at y x r T v = goes x (next_report y.apics (told r.outcome r))
-next_at y x r E5 v = goes x (first_slot E6 E7 r)
-next_at y x r E6 v = goes x (next_slot E6 E7 r)
-next_at y x r E7 v = goes x r
+-- a row of a handler: what it wants, and where the value of the answer leads, 0 where it has none
+pub record Row : Type 0 where
+  pub want : Option Want
+  pub next : ℕ → Next
+
+infixl 10 ◌⇒◌
+abbrev pub ◌⇒◌ : Option Want → (ℕ → Next) → Row
+want ⇒ next = record { want = want; next = next }
+
+-- the handlers' table: a line a label, and behind it why it stands where it does
+module _ (layout : Layout) (me : Seat) (monarch : Monarch) where
+  abbrev to : Label → Next
+  to label = stays label me monarch
+
+  abbrev by : Monarch → Next
+  by gone_on = goes me gone_on
+
+  abbrev pub row : Label → Row
+  -- the first handler, at the default SMBASE
+  row F1 = access (Swap gate me.apic closed) ⇒ λ v. to (if v == me.apic then F2 else F1)  -- waits until the gate names it, and closes it behind itself in the same step
+  row F2 = access (Load new_smbase 4) ⇒ λ v. record { label = F3; base = v; monarch = monarch }  -- past the gate: the SMBASE that is meant for it
+  row F3 = access (Store default_smbase_field 4 me.base) ⇒ λ v. to F4  -- RSM alone changes SMBASE, and takes it from there
+  row F4 = store_byte flag 1 ⇒ λ v. to F5  -- after F3: tells that the new SMBASE is stored
+  row F5 = smi_to layout me.apic ⇒ λ v. to F6  -- before RSM: latched, and with prompt SMIs taken before it runs anything outside
+  row F6 = Some want.Resume ⇒ λ v. to F6  -- last: what F3 stored becomes its SMBASE
+  -- the relocated handler, in the tile of a slot from 1
+  row R1 = store_byte (arrived_byte layout me.slot) 1 ⇒ λ v. to R2
+  row R2 = access (Load (map_byte layout me.slot) 1) ⇒ λ v. to (if v == 1 then R6 else R3)  -- one that is to park doesn't look at release
+  row R3 = access (Load (release_byte layout me.slot) 1) ⇒ λ v. to (if v == 1 then R4 else R1)  -- stays in SMM until it is released
+  row R4 = store_byte (arrived_byte layout me.slot) 0 ⇒ λ v. to R5  -- before RSM: past it it can't
+  row R5 = Some want.Resume ⇒ λ v. to R5
+  row R6 = store_byte (parked_byte layout me.slot) 1 ⇒ λ v. to R2  -- and R2 again: parked until the map says otherwise
+  -- the monarch: start of a session
+  row S0 = store_byte (session_byte layout) 1 ⇒ λ v. by (first_slot S1 S2 monarch)  -- before the first release byte is cleared
+  row S1 = store_byte (release_byte layout monarch.slot) 0 ⇒ λ v. by (next_slot S1 S2 monarch)  -- before S2: whoever comes by that SMI stays
+  row S2 = access (Icr 0 0xc0200) ⇒ λ v. by (look_at layout.polls (known_from monarch.slots 1) monarch)  -- before S4: calls all others into SMM, without broadcast too
+  row S3 = access (Load (arrived_byte layout monarch.slot) 1) ⇒ λ v. by (looked layout.polls v (noted monarch.slot v monarch))
+  row S4 = access (In 0xb2 1) ⇒ λ v. by (commanded v monarch)  -- after all others are called: the SMI command
+  -- the monarch: collection of reports
+  row C1 = access (Out 0xcd8 4 monarch.collection.cpu) ⇒ λ v. by (at_label C2 monarch)  -- before C2: the search begins at the selector, and others write it too
+  row C2 = access (Out 0xcdd 1 0) ⇒ λ v. by (at_label C3 monarch)
+  row C3 = access (In 0xce0 4) ⇒ λ v. by (collected layout.apics (found layout.count v monarch.collection) monarch)
+  row C4 = access (In 0xcdc 1) ⇒ λ v. by (collected layout.apics (judged layout.count v monarch.collection) monarch)  -- after C3: the status of the one that was found
+  row C5 = access (Out 0xcdd 1 3) ⇒ λ v. by (at_label C6 monarch)  -- after C4, for one that is reported: command data reads the APIC ID after it
+  row C6 = access (In 0xce0 4) ⇒ λ v. by (collected layout.apics (reported layout.count v monarch.collection) monarch)
+  -- the monarch: an add
+  row NB = store_byte (release_byte layout monarch.add.slot) 0 ⇒ λ v. by (led (begun monarch.add) monarch)  -- once an add, before the gate opens: who comes to the tile of the slot stays in SMM until E6
+  row N0 = store_byte (arrived_byte layout monarch.add.slot) 0 ⇒ λ v. by (at_label N1 monarch)  -- first in each attempt: what N8b and N11 read as 1 was stored since
+  row N1 = store_byte flag 0 ⇒ λ v. by (at_label N2 monarch)  -- the same for N8a
+  row N2 = access (Store new_smbase 4 (tile_in layout monarch.add.slot)) ⇒ λ v. by (at_label N3 monarch)  -- before N7: whoever passes loads it
+  row N3 = smi_to layout monarch.add.apic ⇒ λ v. by (at_label N4 monarch)  -- before N5: latched by one that waits for SIPI, and taken before it runs
+  row N4 = init_to layout monarch.add.apic ⇒ λ v. by (at_label N5 monarch)  -- before N5: one that was started elsewhere waits for SIPI after it
+  row N5 = sipi_to layout monarch.add.apic ⇒ λ v. by (at_label N6 monarch)
+  row N6 = sipi_to layout monarch.add.apic ⇒ λ v. by (at_label N7 monarch)
+  row N7 = access (Store gate 8 monarch.add.apic) ⇒ λ v. by (led (looks N8a layout.polls monarch.add) monarch)  -- after N2: all that whoever passes will find is in place
+  row N8a = access (Load flag 1) ⇒ λ v. by (led (saw_flag v monarch.add) monarch)
+  row N8b = access (Load (arrived_byte layout monarch.add.slot) 1) ⇒ λ v. by (led (saw_pair v monarch.add) (noted monarch.add.slot v monarch))
+  row N9 = access (Store gate 8 closed) ⇒ λ v. by (led (shut monarch.add) monarch)  -- always, and before anything else is stored: after it nobody passes
+  row N10 = store_byte (arrived_byte layout monarch.add.slot) 0 ⇒ λ v. by (led (looks N11 layout.polls monarch.add) monarch)  -- after N9: who is at its own handler stores 1 anew at R1
+  row N11 = access (Load (arrived_byte layout monarch.add.slot) 1) ⇒ λ v. by (led (saw_arrival v monarch.add) (noted monarch.add.slot v monarch))  -- after N10: a 1 tells that it is there
+  -- the monarch: an eject
+  row E0 = store_byte (parked_byte layout monarch.eject.slot) 0 ⇒ λ v. by (at_label E1 monarch)  -- before E1: what E2 reads as 1 was stored since
+  row E1 = store_byte (map_byte layout monarch.eject.slot) 1 ⇒ λ v. by (eject_led (awaits layout.polls monarch.eject) monarch)
+  row E2 = access (Load (parked_byte layout monarch.eject.slot) 1) ⇒ λ v. by (eject_led (saw_parked v monarch.eject) monarch)  -- before E4b: one that has parked stays in SMM until the map says otherwise
+  row E3 = store_byte (map_byte layout monarch.eject.slot) 0 ⇒ λ v. by (eject_led (unparked monarch.eject) monarch)
+  row E4a = access (Out 0xcd8 4 monarch.eject.cpu) ⇒ λ v. by (at_label E4b monarch)  -- before E4b: control acts on the processor that is selected
+  row E4b = access (Out 0xcdc 1 8) ⇒ λ v. by (at_label (handed_to_block layout.late) monarch)  -- after E2 read 1: the eject, once it has parked
+  row E4c = store_byte (arrived_byte layout monarch.eject.slot) 0 ⇒ λ v. by (at_label E4d monarch)  -- to E4e: the bytes of the slot are as before its first SMI
+  row E4d = store_byte (map_byte layout monarch.eject.slot) 0 ⇒ λ v. by (at_label E4e monarch)
+  row E4e = store_byte (parked_byte layout monarch.eject.slot) 0 ⇒ λ v. by (eject_led (gone monarch.eject) monarch)
+  row E4f = access (Out 0xcd8 4 monarch.eject.cpu) ⇒ λ v. by (at_label E4g monarch)  -- another processor may have moved the selector before E4b
+  row E4g = access (In 0xcdc 1) ⇒ λ v. by (eject_led (saw_status v monarch.eject) monarch)
+  row E4h = store_byte (map_byte layout monarch.eject.slot) 0 ⇒ λ v. by (eject_led (given_up monarch.eject) monarch)
+  -- the monarch: an outcome is told; end of the session
+  row T = Some (want.Tell monarch.outcome) ⇒ λ v. by (next_report layout.apics (told monarch.outcome monarch))  -- after all that the outcome speaks of
+  row E5 = store_byte (session_byte layout) 0 ⇒ λ v. by (first_slot E6 E7 monarch)  -- before E6: cleared while all that the session holds are in SMM
+  row E6 = store_byte (release_byte layout monarch.slot) 1 ⇒ λ v. by (next_slot E6 E7 monarch)
+  row E7 = Some want.Resume ⇒ λ v. by monarch  -- last: its next SMI entry begins anew
+
+  abbrev pub want_at : Label → Option Want
+  want_at l = (row l).want
+
+  abbrev pub next_at : Label → ℕ → Next
+  next_at l v = (row l).next v
 
 -- the slot whose tile this SMBASE is, if it is one of a possible slot
 abbrev pub slot_at : Layout → ℕ → ℕ
