@@ -96,15 +96,15 @@ ends_eject t (Ejected cpu apic slot) = (cpu == t.cpu) && (apic == t.apic)
 ends_eject t (Refused why) = fails_eject t why
 
 -- the class tells the outcome itself, or the outcome is one that may follow it
-abbrev pub follows : Class → Report → Outcome → Bool
-follows (Tells told) t o = same_outcome o told
-follows Adds t o = ends_add t o
-follows Ejects t o = ends_eject t o
+abbrev pub may_follow : Class → Report → Outcome → Bool
+may_follow (Tells told) t o = same_outcome o told
+may_follow Adds t o = ends_add t o
+may_follow Ejects t o = ends_eject t o
 
 -- what is told answers the session's first report without an outcome, by its class
 abbrev pub answers_by : Class → Outcome → Option Report → Bool
 answers_by c o None = false
-answers_by c o (Some t) = follows c t o
+answers_by c o (Some t) = may_follow c t o
 
 abbrev pub answers : Telling → Bool
 answers t = answers_by t.class t.outcome t.report

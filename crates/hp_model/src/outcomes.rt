@@ -6,10 +6,11 @@
 /// that the firmware has bound.
 #[derive(Clone, Copy)]
 pub enum Outcome {
-    /// The processor has its own SMBASE and has arrived at its own handler (in a session that nobody outside SMM has
-    /// disturbed).
+    /// The arrived byte of the slot was read as 1, after the gate was closed and that byte cleared. In a session that
+    /// nobody outside SMM has disturbed the processor has the tile of the slot as its SMBASE.
     Added { cpu: u32, apic: u32, slot: u32 },
-    /// The APIC ID is no longer known, and the processor is absent (in a session that nobody outside SMM has disturbed).
+    /// The APIC ID is no longer known. In a session that nobody outside SMM has disturbed the processor became absent, by
+    /// the monarch's eject.
     Ejected { cpu: u32, apic: u32, slot: u32 },
     /// Nothing of both, for this reason.
     Refused(Refusal),
