@@ -15,7 +15,7 @@ use Rattle.hp_model.specs.View.{Locks, is_hole, tseg_size}
 use Rattle.hp_model.specs.Block.{Block, bit}
 use Rattle.hp_model.specs.FwCfg.{FwCfg, fw_cfg_start}
 use Rattle.hp_model.specs.Boot.{Stage, Boots, Refused, pen_mark, tseg_enabled, boot_accesses, boot_access, ext_count, stage_after}
-use Rattle.hp_model.specs.Step.{State}
+use Rattle.hp_model.specs.State.{State}
 use Rattle.hp_boot.specs.Booting.{tail_accesses}
 use Rattle.hp_boot.specs.Ending.{has_size, is_negotiable}
 use Rattle.hp_boot.proofs.Start.{Facts}

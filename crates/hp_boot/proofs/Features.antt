@@ -13,7 +13,8 @@ use Rattle.hp_model.specs.Ich9.{ich9_start}
 use Rattle.hp_model.specs.FwCfg.{FwCfg, fw_cfg_start, big_value, selected, advanced, dma_address, without_high}
 use Rattle.hp_model.specs.Transfers.{ask, descriptor_at, Transferred, transfer}
 use Rattle.hp_model.specs.Boot.{Stage, Boots, Refused, Handed, boot_access, ext_count, stage_after}
-use Rattle.hp_model.specs.Step.{State, with_agreed}
+use Rattle.hp_model.specs.State.{State}
+use Rattle.hp_model.specs.Firmware.{with_agreed}
 use Rattle.hp_boot.specs.Booting.{tail_accesses}
 use Rattle.hp_boot.specs.Ending.{is_negotiable}
 use Rattle.hp_boot.proofs.Start.{Facts}

@@ -10,7 +10,9 @@ use Rattle.hp_model.specs.Block.{Block, slots_from, block_start, block_write, bl
 use Rattle.hp_model.specs.FwCfg.{fw_cfg_start}
 use Rattle.hp_model.specs.Boot.{Stage, Boots, Refused, boot_accesses, boot_access, stage_after}
 use Rattle.hp_model.specs.Image.{image}
-use Rattle.hp_model.specs.Step.{State, write_block, with_agreed, start}
+use Rattle.hp_model.specs.State.{State, start}
+use Rattle.hp_model.specs.Ports.{write_block}
+use Rattle.hp_model.specs.Firmware.{with_agreed}
 use Rattle.hp_model.specs.declared.files.File.{File}
 use Rattle.hp_model.specs.Platform.{IsFit}
 use Rattle.hp_model.specs.Schedule.{boot_turns, booted, scene_start}

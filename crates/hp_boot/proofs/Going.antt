@@ -11,7 +11,11 @@ use Rattle.hp_model.specs.declared.outcomes.BootFact.{BootFact}
 use Rattle.hp_model.specs.declared.processors.Cpu.{Cpu as OneCpu}
 use Rattle.hp_model.specs.Cpu.{is_free, is_in_smm, cpu_at, cpus_start}
 use Rattle.hp_model.specs.Boot.{Stage, Boots, Refused, boot_access, stage_after}
-use Rattle.hp_model.specs.Step.{State, After, at as state_cpu, is_normal, same_access, is_enabled, is_wanted, wanted_in, access_effect, effect_of, answer_to, answer_of, disturbs, writes_block, with_agreed, firmware_led, after, step}
+use Rattle.hp_model.specs.State.{State, at as state_cpu}
+use Rattle.hp_model.specs.Ports.{writes_block}
+use Rattle.hp_model.specs.Access.{is_normal, same_access, access_effect, answer_to}
+use Rattle.hp_model.specs.Firmware.{is_wanted, wanted_in, with_agreed, firmware_led}
+use Rattle.hp_model.specs.Step.{After, is_enabled, effect_of, answer_of, disturbs, after, step}
 use Rattle.hp_model.specs.Schedule.{Scene, Made, made_by, act, act_all}
 use Rattle.hp_model.proofs.Same.{same_access-refl}
 use Rattle.hp_boot.proofs.Turns.{all_refused, act_boots}

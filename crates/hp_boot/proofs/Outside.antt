@@ -11,7 +11,9 @@ use Rattle.hp_model.specs.Platform.{count_of, tile}
 use Rattle.hp_model.specs.Cpu.{is_in_smm, absent, booted, cpu_at, boot_cpus, cpus_start}
 use Rattle.hp_model.specs.Block.{block_write, ejected_by}
 use Rattle.hp_model.specs.Boot.{block_accesses, area_accesses, pen_accesses, mark_accesses, gate_accesses, lock_accesses, feature_accesses, last_accesses, boot_accesses, boot_access}
-use Rattle.hp_model.specs.Step.{State, without_ejected, is_on_block, is_fw_cfg_data, is_fw_cfg_selector, is_dma_high, is_dma_low, write_ich9, write_port, access_effect}
+use Rattle.hp_model.specs.State.{State}
+use Rattle.hp_model.specs.Ports.{without_ejected, is_on_block, is_fw_cfg_data, is_fw_cfg_selector, is_dma_high, is_dma_low, write_ich9, write_port}
+use Rattle.hp_model.specs.Access.{access_effect}
 
 abbrev pub IsOutside : List Cpu → Type 0
 IsOutside cs = is_in_smm (cpu_at cs 0).mode ≡ false

@@ -16,7 +16,8 @@ use Rattle.hp_model.specs.Ich9.{ich9_start}
 use Rattle.hp_model.specs.FwCfg.{FwCfg}
 use Rattle.hp_model.specs.Monarch.{monarch_start, with_features}
 use Rattle.hp_model.specs.Boot.{Stage, Boots, tseg_enabled, boot_access, ext_count, stage_after}
-use Rattle.hp_model.specs.Step.{State, answer_to, is_normal}
+use Rattle.hp_model.specs.State.{State}
+use Rattle.hp_model.specs.Access.{answer_to, is_normal}
 use Rattle.hp_boot.specs.Ending.{legacy_value, ended}
 use Rattle.hp_boot.proofs.Start.{Facts}
 use Rattle.hp_boot.proofs.Going.{Ends, made, ends_later}

@@ -19,7 +19,10 @@ use Rattle.hp_model.specs.declared.processors.Mode.{Mode}
 use Rattle.hp_model.specs.declared.processors.Mode.TheVariants.{Wait, Running, Halted, Smm}
 use Rattle.hp_model.specs.Cpu.{is_in_smm, address_in, smm_address}
 use Rattle.hp_model.specs.Boot.{Stage, Boots, Refused, Handed, boot_accesses, boot_access, boot_refusal, ext_count, value_in, stage_after, stage_by, fact_of}
-use Rattle.hp_model.specs.Step.{State, After, at, effect_of, answer_to, firmware_led, after, step}
+use Rattle.hp_model.specs.State.{State, at}
+use Rattle.hp_model.specs.Access.{answer_to}
+use Rattle.hp_model.specs.Firmware.{firmware_led}
+use Rattle.hp_model.specs.Step.{After, effect_of, after, step}
 use Rattle.hp_model.specs.Schedule.{Scene, Made, makes_none, both_make, made_by, entry_of, act, act_all, booted, boot_fact, boot_turns, scene_start}
 use Rattle.hp_boot.specs.Ending.{reads_fact, IsRefusing, StopsAt}
 use Rattle.hp_boot.proofs.Parts.{at_ext, at_ok}

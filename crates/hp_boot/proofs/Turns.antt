@@ -8,7 +8,10 @@ use Rattle.hp_model.specs.declared.entries.Event.{Event}
 use Rattle.hp_model.specs.declared.entries.Event.TheVariants.{Do}
 use Rattle.hp_model.specs.declared.outcomes.BootFact.{BootFact}
 use Rattle.hp_model.specs.Boot.{Stage, Boots, Refused, Handed, boot_access, stage_after}
-use Rattle.hp_model.specs.Step.{State, After, is_enabled, is_wanted, wanted_in, answer_of, after, normal, step}
+use Rattle.hp_model.specs.State.{State}
+use Rattle.hp_model.specs.Access.{normal}
+use Rattle.hp_model.specs.Firmware.{is_wanted, wanted_in}
+use Rattle.hp_model.specs.Step.{After, is_enabled, answer_of, after, step}
 use Rattle.hp_model.specs.declared.accesses.Answer.{Answer}
 use Rattle.hp_model.specs.declared.turns.Due.{Due}
 use Rattle.hp_model.specs.declared.turns.Due.TheVariants.{Idle, Makes, Asks}

@@ -14,7 +14,8 @@ use Rattle.hp_model.specs.FwCfg.{big_bytes, big_value, little_value, directory, 
 use Rattle.hp_model.specs.Transfers.{bytes_stored, bytes_loaded, transfer}
 use Rattle.hp_model.specs.Boot.{boot_accesses, boot_access}
 use Rattle.hp_model.specs.Voices.{says}
-use Rattle.hp_model.specs.Step.{step, same_access}
+use Rattle.hp_model.specs.Access.{same_access}
+use Rattle.hp_model.specs.Step.{step}
 use Rattle.hp_model.specs.Schedule.{booted, boot_fact, act, act_all}
 
 -- two possible processors with 128 MiB of RAM, of which these are there at boot, with a TSEG of so many MiB

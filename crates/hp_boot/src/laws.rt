@@ -7,7 +7,8 @@ ghost use Rattle.hp_model.specs.declared.files.File.{File};
 ghost use Rattle.hp_model.specs.declared.outcomes.BootFact.{BootFact};
 ghost use Rattle.hp_model.specs.Platform.{IsFit};
 ghost use Rattle.hp_model.specs.Boot.{Refused, is_booting};
-ghost use Rattle.hp_model.specs.Step.{State, step};
+ghost use Rattle.hp_model.specs.State.{State};
+ghost use Rattle.hp_model.specs.Step.{step};
 ghost use Rattle.hp_model.specs.Schedule.{booted, boot_fact};
 ghost use Rattle.hp_boot.specs.Ending.{hands_over, refusal_of, end_of, StopsAt};
 

@@ -4,7 +4,7 @@ use Rattle.std.proofs.lemmas.Bool.{lt-ltb, and_from}
 use Rattle.std.proofs.lemmas.Option.{none-some, same_Some, option_and_then_some}
 use Rattle.hp_model.specs.declared.accesses.Access.{Access}
 use Rattle.hp_model.specs.declared.accesses.Access.TheVariants.{Load, Store, Swap, In, Out, CfgRead, CfgWrite, Icr, Halt, Nop}
-use Rattle.hp_model.specs.Step.{is_memory_width, is_port_width}
+use Rattle.hp_model.specs.Access.{is_memory_width, is_port_width}
 use Rattle.hp_config.specs.Script.{past, one, two, three, memory_width, port_width, load_step, store_step, in_step, out_step, end_step, swap_step, read_step, write_step, icr_step, row, script_step}
 use Rattle.hp_config.specs.Spelling.{script_text, IsSpelled}
 use Rattle.hp_config.proofs.Groups.{mapped, past_is, IsOne, one_is, IsTwo, two_is, IsThree, three_is}

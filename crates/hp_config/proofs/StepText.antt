@@ -6,7 +6,7 @@ use Rattle.std.proofs.lemmas.Option.{none-some, same_Some}
 use Rattle.std.specs.Fmt.{decimal}
 use Rattle.hp_model.specs.declared.accesses.Access.{Access}
 use Rattle.hp_model.specs.declared.accesses.Access.TheVariants.{Load, Store, Swap, In, Out, CfgRead, CfgWrite, Icr, Halt, Nop}
-use Rattle.hp_model.specs.Step.{is_memory_width, is_port_width, is_normal}
+use Rattle.hp_model.specs.Access.{is_memory_width, is_port_width, is_normal}
 use Rattle.hp_config.specs.Script.{past, memory_width, port_width, load_step, store_step, in_step, out_step, end_step, swap_step, read_step, write_step, icr_step, script_step}
 use Rattle.hp_config.specs.Spelling.{script_text, fields_fit}
 use Rattle.hp_config.proofs.Groups.{one-text, two-text, three-text}

@@ -2,7 +2,7 @@
 use Rattle.std.specs.Prelude.{◌≡◌, ℕ, Bool, true, ◌&&◌, nat_lt, ◌*◌, ◌^◌, List, [], ◌∷◌, codes}
 use Rattle.hp_model.specs.declared.accesses.Access.{Access}
 use Rattle.hp_model.specs.declared.accesses.Access.TheVariants.{Load, Store, Swap, In, Out, CfgRead, CfgWrite, Icr, Halt, Nop}
-use Rattle.hp_model.specs.Step.{is_normal}
+use Rattle.hp_model.specs.Access.{is_normal}
 use Rattle.hp_model.specs.Text.{Piece, word, number, hexadecimal, spell}
 
 abbrev pub script_pieces : Access → List Piece

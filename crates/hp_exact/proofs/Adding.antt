@@ -21,7 +21,11 @@ use Rattle.hp_model.specs.Events.{is_access_of}
 use Rattle.hp_model.specs.SharedBytes.{layout_of, flag, arrived_byte, gate}
 use Rattle.hp_model.specs.Monarch.{Monarch, restarted}
 use Rattle.hp_model.specs.Handlers.{want_at, next_at}
-use Rattle.hp_model.specs.Step.{State, at, seat, access_effect, answer_to, insert, request_removal, enter_smm, leave_smm, set_cpu, with_session, same_outcome, writes_block, is_after_broadcast}
+use Rattle.hp_model.specs.State.{State, at, set_cpu}
+use Rattle.hp_model.specs.Ports.{writes_block}
+use Rattle.hp_model.specs.Access.{access_effect, answer_to}
+use Rattle.hp_model.specs.Firmware.{seat, with_session, same_outcome}
+use Rattle.hp_model.specs.Step.{insert, request_removal, enter_smm, leave_smm, is_after_broadcast}
 use Rattle.hp_model.specs.Runs.{run_on}
 use Rattle.hp_model.specs.Transitions.{Transition, entries_of}
 use Rattle.hp_model.specs.Account.{is_at, bound}

@@ -14,7 +14,9 @@ use Rattle.hp_model.specs.View.{Locks, is_hole, loaded, stored}
 use Rattle.hp_model.specs.SharedBytes.{layout_of, tile_in, arrived_byte, release_byte, map_byte, parked_byte, session_byte, gate, closed, new_smbase, flag, default_smbase_field}
 use Rattle.hp_model.specs.Monarch.{Monarch}
 use Rattle.hp_model.specs.Handlers.{Seat, want_at}
-use Rattle.hp_model.specs.Step.{State, at, access_effect, enter_smm}
+use Rattle.hp_model.specs.State.{State, at}
+use Rattle.hp_model.specs.Access.{access_effect}
+use Rattle.hp_model.specs.Step.{enter_smm}
 use Rattle.hp_sealed.specs.Left.{Sound, Locked}
 use Rattle.hp_sealed.proofs.Left.{pick, left_store}
 use Rattle.hp_sealed.proofs.Outside.{left_acted}

@@ -22,7 +22,11 @@ use Rattle.hp_model.specs.Slots.{place_of}
 use Rattle.hp_model.specs.Account.{with_bound}
 use Rattle.hp_model.specs.Monarch.{Monarch, restarted}
 use Rattle.hp_model.specs.Handlers.{Seat, want_at, next_at, runs_at, slot_at}
-use Rattle.hp_model.specs.Step.{State, at, seat, access_effect, answer_to, enter_smm, is_after_broadcast, writes_block}
+use Rattle.hp_model.specs.State.{State, at}
+use Rattle.hp_model.specs.Ports.{writes_block}
+use Rattle.hp_model.specs.Access.{access_effect, answer_to}
+use Rattle.hp_model.specs.Firmware.{seat}
+use Rattle.hp_model.specs.Step.{enter_smm, is_after_broadcast}
 use Rattle.hp_model.specs.Runs.{run_on}
 use Rattle.hp_model.specs.Transitions.{Transition}
 use Rattle.hp_sealed.specs.Left.{Sound}

@@ -14,7 +14,8 @@ use Rattle.hp_model.specs.Platform.{IsFit, tile}
 use Rattle.hp_model.specs.Block.{is_in}
 use Rattle.hp_model.specs.SharedBytes.{layout_of}
 use Rattle.hp_model.specs.Slots.{place_of}
-use Rattle.hp_model.specs.Step.{State, at, start, same_outcome}
+use Rattle.hp_model.specs.State.{State, at, start}
+use Rattle.hp_model.specs.Firmware.{same_outcome}
 use Rattle.hp_model.specs.Sessions.{is_disturbed}
 use Rattle.hp_model.specs.Runs.{run_on}
 use Rattle.hp_model.specs.Events.{outcome_in}

@@ -17,7 +17,9 @@ use Rattle.hp_model.specs.Block.{Block, Slot, no_slot, slot_at, set_slot, is_sel
 use Rattle.hp_model.specs.Interrupts.{decoded, is_target, hit_each, sent, smi_raised}
 use Rattle.hp_model.specs.Ich9.{raises_smi}
 use Rattle.hp_model.specs.FwCfg.{selected, advanced, with_high, has_broadcast}
-use Rattle.hp_model.specs.Step.{State, at, without_ejected, write_block, is_on_block, is_fw_cfg_data, is_fw_cfg_selector, is_dma_high, is_dma_low, start_transfer, write_ich9, write_port, writes_block, access_effect}
+use Rattle.hp_model.specs.State.{State, at}
+use Rattle.hp_model.specs.Ports.{without_ejected, write_block, is_on_block, is_fw_cfg_data, is_fw_cfg_selector, is_dma_high, is_dma_low, start_transfer, write_ich9, write_port, writes_block}
+use Rattle.hp_model.specs.Access.{access_effect}
 use Rattle.hp_sealed.proofs.Left.{pick, pick_by}
 use Rattle.hp_sealed.proofs.Stay.{stays_sent, stays_raised, at_set}
 use Rattle.hp_exact.proofs.Invariant.{Agrees}

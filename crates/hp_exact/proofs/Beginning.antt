@@ -19,7 +19,10 @@ use Rattle.hp_model.specs.Boot.{Stage, Boots, Refused, Handed, is_handed, ext_co
 use Rattle.hp_model.specs.SharedBytes.{layout_of, release_byte}
 use Rattle.hp_model.specs.Slots.{boot_ids}
 use Rattle.hp_model.specs.Monarch.{monarch_start, with_features}
-use Rattle.hp_model.specs.Step.{State, After, at, is_boots, wanted_in, answer_to, start, after}
+use Rattle.hp_model.specs.State.{State, at, start}
+use Rattle.hp_model.specs.Access.{answer_to}
+use Rattle.hp_model.specs.Firmware.{is_boots, wanted_in}
+use Rattle.hp_model.specs.Step.{After, after}
 use Rattle.hp_model.specs.Runs.{address_of, run_on}
 use Rattle.hp_model.specs.Transitions.{Transition, entries_of, since, newest}
 use Rattle.hp_model.specs.Sessions.{interferes, triples, disturbed_in}

@@ -7,7 +7,8 @@ use Rattle.hp_model.specs.declared.accesses.Want.{Want}
 use Rattle.hp_model.specs.declared.accesses.Want.TheVariants as want
 use Rattle.hp_model.specs.Memory.{Write, covers, byte_at, bytes_of, write_of}
 use Rattle.hp_model.specs.View.{Locks, is_hole, stored}
-use Rattle.hp_model.specs.Step.{State, access_effect}
+use Rattle.hp_model.specs.State.{State}
+use Rattle.hp_model.specs.Access.{access_effect}
 use Rattle.hp_sealed.proofs.Left.{pick, length-bytes_of, left_store}
 
 -- a byte is left as it was, or becomes 0

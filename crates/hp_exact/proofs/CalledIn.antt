@@ -8,7 +8,8 @@ use Rattle.hp_model.specs.declared.labels.Label.TheVariants.{S2}
 use Rattle.hp_model.specs.Platform.{is_late}
 use Rattle.hp_model.specs.Cpu.{cpu_at, is_running, is_outside, is_in_smm, is_unlatched, is_free, smm_address, may_take_init}
 use Rattle.hp_model.specs.Labels.{same_label, mark_of}
-use Rattle.hp_model.specs.Step.{State, at, is_after_broadcast}
+use Rattle.hp_model.specs.State.{State, at}
+use Rattle.hp_model.specs.Step.{is_after_broadcast}
 use Rattle.hp_model.specs.Transitions.{Transition}
 use Rattle.hp_sealed.specs.Left.{Sound}
 use Rattle.hp_sealed.proofs.Stay.{at_set}

@@ -19,7 +19,11 @@ use Rattle.hp_model.specs.Labels.{Monarch as Monarchs, part_of, index_of}
 use Rattle.hp_model.specs.SharedBytes.{Layout, layout_of}
 use Rattle.hp_model.specs.Monarch.{Monarch, at_label}
 use Rattle.hp_model.specs.Handlers.{Seat, Next, want_at, next_at, address_of_label}
-use Rattle.hp_model.specs.Step.{State, at, seat, access_effect, without_ejected, stands_in_smm, go_on, is_after_broadcast}
+use Rattle.hp_model.specs.State.{State, at}
+use Rattle.hp_model.specs.Ports.{without_ejected}
+use Rattle.hp_model.specs.Access.{access_effect, stands_in_smm}
+use Rattle.hp_model.specs.Firmware.{seat, go_on}
+use Rattle.hp_model.specs.Step.{is_after_broadcast}
 use Rattle.hp_sealed.specs.Left.{Sound}
 use Rattle.hp_sealed.proofs.Left.{pick}
 use Rattle.hp_sealed.proofs.Stay.{at_set}

@@ -4,7 +4,7 @@ use Rattle.std.specs.Prelude.{filter}
 use Rattle.std.proofs.lemmas.Bool.Decides.{nat_tests}
 use Rattle.hp_model.specs.declared.platforms.Platform.{Platform}
 use Rattle.hp_model.specs.Platform.{count_of}
-use Rattle.hp_model.specs.Step.{at}
+use Rattle.hp_model.specs.State.{at}
 use Rattle.hp_model.specs.Transitions.{Transition, places, has_left, left_in}
 use Rattle.hp_model.specs.Outcomes.{Departure, departures, is_none}
 

@@ -21,7 +21,11 @@ use Rattle.hp_model.specs.Labels.{Monarch as Monarchs, part_of, index_of, same_l
 use Rattle.hp_model.specs.SharedBytes.{layout_of, parked_byte}
 use Rattle.hp_model.specs.Monarch.{Monarch, restarted}
 use Rattle.hp_model.specs.Handlers.{want_at}
-use Rattle.hp_model.specs.Step.{State, at, set_cpu, seat, access_effect, answer_to, insert, request_removal, enter_smm, leave_smm, with_session, is_after_broadcast, writes_block, same_outcome}
+use Rattle.hp_model.specs.State.{State, at, set_cpu}
+use Rattle.hp_model.specs.Ports.{writes_block}
+use Rattle.hp_model.specs.Access.{access_effect, answer_to}
+use Rattle.hp_model.specs.Firmware.{seat, with_session, same_outcome}
+use Rattle.hp_model.specs.Step.{insert, request_removal, enter_smm, leave_smm, is_after_broadcast}
 use Rattle.hp_model.specs.Runs.{run_on}
 use Rattle.hp_model.specs.Transitions.{Transition, entries_of}
 use Rattle.hp_model.specs.Account.{is_at}

@@ -10,7 +10,8 @@ use Rattle.hp_model.specs.Platform.{IsFit}
 use Rattle.hp_model.specs.Block.{is_in}
 use Rattle.hp_model.specs.Boot.{is_handed}
 use Rattle.hp_model.specs.Slots.{place_of}
-use Rattle.hp_model.specs.Step.{State, start, same_outcome}
+use Rattle.hp_model.specs.State.{State, start}
+use Rattle.hp_model.specs.Firmware.{same_outcome}
 use Rattle.hp_model.specs.Events.{outcome_in}
 use Rattle.hp_model.specs.Runs.{run_on}
 use Rattle.hp_model.specs.Transitions.{Transition, transitions, entries_of}

@@ -21,7 +21,9 @@ use Rattle.hp_model.specs.FwCfg.{selected, advanced, with_high, has_broadcast}
 use Rattle.hp_model.specs.SharedBytes.{layout_of}
 use Rattle.hp_model.specs.Monarch.{Monarch}
 use Rattle.hp_model.specs.Handlers.{Seat, want_at}
-use Rattle.hp_model.specs.Step.{State, at, without_ejected, write_block, is_on_block, is_fw_cfg_data, is_fw_cfg_selector, is_dma_high, is_dma_low, start_transfer, write_ich9, write_port, access_effect}
+use Rattle.hp_model.specs.State.{State, at}
+use Rattle.hp_model.specs.Ports.{without_ejected, write_block, is_on_block, is_fw_cfg_data, is_fw_cfg_selector, is_dma_high, is_dma_low, start_transfer, write_ich9, write_port}
+use Rattle.hp_model.specs.Access.{access_effect}
 use Rattle.hp_sealed.proofs.Left.{pick}
 use Rattle.hp_sealed.proofs.Stay.{Stays, stays_same, stays_hit, stays_halt, at_set}
 use Rattle.hp_sealed.proofs.Ejects.{ejects_none}

@@ -6,7 +6,8 @@ use Rattle.hp_model.specs.declared.processors.Mode.TheVariants.{Wait, Running, H
 use Rattle.hp_model.specs.declared.processors.Cpu.{Cpu}
 use Rattle.hp_model.specs.Cpu.{cpu_at, may_take_init, is_running, is_outside, is_in_smm, address_in, smm_address, moved}
 use Rattle.hp_model.specs.Handlers.{Next, address_of_label}
-use Rattle.hp_model.specs.Step.{stands_in_smm, go_on}
+use Rattle.hp_model.specs.Access.{stands_in_smm}
+use Rattle.hp_model.specs.Firmware.{go_on}
 use Rattle.hp_sealed.proofs.Left.{pick}
 use Rattle.hp_exact.proofs.Hits.{Alike}
 

@@ -13,7 +13,8 @@ use Rattle.hp_model.specs.SharedBytes.{layout_of, release_byte}
 use Rattle.hp_model.specs.Collection.{Report}
 use Rattle.hp_model.specs.Monarch.{Monarch, is_own}
 use Rattle.hp_model.specs.Handlers.{address_of_label}
-use Rattle.hp_model.specs.Step.{State, is_after_broadcast}
+use Rattle.hp_model.specs.State.{State}
+use Rattle.hp_model.specs.Step.{is_after_broadcast}
 use Rattle.hp_model.specs.Runs.{same_address}
 use Rattle.hp_model.specs.Transitions.{Transition, entries_of, newest}
 use Rattle.hp_model.specs.Account.{is_at}

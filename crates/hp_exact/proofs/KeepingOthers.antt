@@ -19,7 +19,11 @@ use Rattle.hp_model.specs.SharedBytes.{layout_of}
 use Rattle.hp_model.specs.SaveArea.{saved_smbase, saved_rip}
 use Rattle.hp_model.specs.Monarch.{restarted}
 use Rattle.hp_model.specs.Handlers.{Next, want_at, next_at, address_of_label}
-use Rattle.hp_model.specs.Step.{State, at, set_cpu, seat, stands_in_smm, access_effect, answer_to, insert, request_removal, enter_smm, leave_smm, go_on, with_session, is_after_broadcast, writes_block}
+use Rattle.hp_model.specs.State.{State, at, set_cpu}
+use Rattle.hp_model.specs.Ports.{writes_block}
+use Rattle.hp_model.specs.Access.{stands_in_smm, access_effect, answer_to}
+use Rattle.hp_model.specs.Firmware.{seat, go_on, with_session}
+use Rattle.hp_model.specs.Step.{insert, request_removal, enter_smm, leave_smm, is_after_broadcast}
 use Rattle.hp_model.specs.Transitions.{Transition, entries_of}
 use Rattle.hp_model.specs.Account.{is_at}
 use Rattle.hp_model.specs.Sessions.{bounds_session, interferes}

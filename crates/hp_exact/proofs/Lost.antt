@@ -19,7 +19,11 @@ use Rattle.hp_model.specs.SharedBytes.{layout_of}
 use Rattle.hp_model.specs.SaveArea.{saved_smbase, saved_rip}
 use Rattle.hp_model.specs.Monarch.{Monarch, restarted, is_own}
 use Rattle.hp_model.specs.Handlers.{Next, want_at, next_at}
-use Rattle.hp_model.specs.Step.{State, at, set_cpu, seat, access_effect, answer_to, insert, request_removal, enter_smm, leave_smm, go_on, with_session, is_after_broadcast, writes_block, same_outcome}
+use Rattle.hp_model.specs.State.{State, at, set_cpu}
+use Rattle.hp_model.specs.Ports.{writes_block}
+use Rattle.hp_model.specs.Access.{access_effect, answer_to}
+use Rattle.hp_model.specs.Firmware.{seat, go_on, with_session, same_outcome}
+use Rattle.hp_model.specs.Step.{insert, request_removal, enter_smm, leave_smm, is_after_broadcast}
 use Rattle.hp_model.specs.Runs.{run_on}
 use Rattle.hp_model.specs.Transitions.{Transition, entries_of}
 use Rattle.hp_model.specs.Account.{is_at}

@@ -4,7 +4,8 @@ use Rattle.hp_model.specs.declared.platforms.Platform.{Platform}
 use Rattle.hp_model.specs.declared.entries.Entry.{Entry}
 use Rattle.hp_model.specs.Platform.{IsFit}
 use Rattle.hp_model.specs.Boot.{is_handed}
-use Rattle.hp_model.specs.Step.{State, is_after_broadcast, start}
+use Rattle.hp_model.specs.State.{State, start}
+use Rattle.hp_model.specs.Step.{is_after_broadcast}
 use Rattle.hp_model.specs.Runs.{run_on}
 use Rattle.hp_model.specs.Transitions.{Transition, transitions}
 use Rattle.hp_model.proofs.AtEach.{made, each_passes}

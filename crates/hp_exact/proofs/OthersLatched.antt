@@ -23,7 +23,10 @@ use Rattle.hp_model.specs.SharedBytes.{layout_of, arrived_byte, release_byte, ma
 use Rattle.hp_model.specs.SaveArea.{saved_smbase, saved_rip}
 use Rattle.hp_model.specs.Monarch.{restarted}
 use Rattle.hp_model.specs.Handlers.{Next, want_at, next_at, runs_at, slot_at, is_tile, address_of_label}
-use Rattle.hp_model.specs.Step.{State, at, set_cpu, seat, answer_to, access_effect, stands_in_smm, go_on, enter_smm, leave_smm, with_session, is_after_broadcast}
+use Rattle.hp_model.specs.State.{State, at, set_cpu}
+use Rattle.hp_model.specs.Access.{answer_to, access_effect, stands_in_smm}
+use Rattle.hp_model.specs.Firmware.{seat, go_on, with_session}
+use Rattle.hp_model.specs.Step.{enter_smm, leave_smm, is_after_broadcast}
 use Rattle.hp_sealed.specs.Left.{Sound}
 use Rattle.hp_sealed.specs.Sealed.{is_other_tile}
 use Rattle.hp_sealed.proofs.Left.{pick, pick_by}

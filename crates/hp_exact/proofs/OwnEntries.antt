@@ -9,7 +9,8 @@ use Rattle.hp_model.specs.declared.entries.Entry.{Entry}
 use Rattle.hp_model.specs.Labels.{Monarch as Monarchs, part_of, index_of}
 use Rattle.hp_model.specs.SharedBytes.{layout_of}
 use Rattle.hp_model.specs.Handlers.{want_at}
-use Rattle.hp_model.specs.Step.{State, seat}
+use Rattle.hp_model.specs.State.{State}
+use Rattle.hp_model.specs.Firmware.{seat}
 use Rattle.hp_model.specs.Transitions.{Transition, since}
 use Rattle.hp_model.specs.Account.{is_at}
 use Rattle.hp_model.specs.Sessions.{bounds_session, tells, ends_outcome}

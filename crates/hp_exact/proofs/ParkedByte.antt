@@ -16,7 +16,10 @@ use Rattle.hp_model.specs.Labels.{Relocated, Monarch as Monarchs, part_of}
 use Rattle.hp_model.specs.SharedBytes.{layout_of, arrived_byte, map_byte, parked_byte, gate, closed, flag, default_smbase_field}
 use Rattle.hp_model.specs.Monarch.{Monarch}
 use Rattle.hp_model.specs.Handlers.{Seat, want_at, runs_at}
-use Rattle.hp_model.specs.Step.{State, at, seat, access_effect, answer_to, enter_smm}
+use Rattle.hp_model.specs.State.{State, at}
+use Rattle.hp_model.specs.Access.{access_effect, answer_to}
+use Rattle.hp_model.specs.Firmware.{seat}
+use Rattle.hp_model.specs.Step.{enter_smm}
 use Rattle.hp_sealed.specs.Left.{Sound}
 use Rattle.hp_sealed.proofs.Left.{pick, left_store}
 use Rattle.hp_sealed.proofs.Outside.{left_acted}

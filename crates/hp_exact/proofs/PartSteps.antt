@@ -18,7 +18,10 @@ use Rattle.hp_model.specs.Boot.{Stage, value_in}
 use Rattle.hp_model.specs.Labels.{Monarch as Monarchs, part_of, index_of, same_label}
 use Rattle.hp_model.specs.SharedBytes.{layout_of, parked_byte}
 use Rattle.hp_model.specs.Handlers.{Next, want_at, next_at, address_of_label}
-use Rattle.hp_model.specs.Step.{State, at, seat, access_effect, answer_to, go_on, is_after_broadcast, same_outcome}
+use Rattle.hp_model.specs.State.{State, at}
+use Rattle.hp_model.specs.Access.{access_effect, answer_to}
+use Rattle.hp_model.specs.Firmware.{seat, go_on, same_outcome}
+use Rattle.hp_model.specs.Step.{is_after_broadcast}
 use Rattle.hp_model.specs.Runs.{run_on}
 use Rattle.hp_model.specs.Transitions.{Transition, has_left, left_in}
 use Rattle.hp_model.specs.Account.{is_at}

@@ -6,7 +6,8 @@ use Rattle.hp_model.specs.declared.entries.Entry.{Entry}
 use Rattle.hp_model.specs.Platform.{IsFit, tile, is_late}
 use Rattle.hp_model.specs.Boot.{is_handed}
 use Rattle.hp_model.specs.Handlers.{address_of_label}
-use Rattle.hp_model.specs.Step.{State, at, is_after_broadcast}
+use Rattle.hp_model.specs.State.{State, at}
+use Rattle.hp_model.specs.Step.{is_after_broadcast}
 use Rattle.hp_model.specs.Events.{acts}
 use Rattle.hp_model.specs.Runs.{run_on}
 use Rattle.hp_model.specs.Transitions.{Transition, transitions, entries_of, at_each}

@@ -15,7 +15,10 @@ use Rattle.hp_model.specs.Labels.{Relocated, Monarch as Monarchs, part_of}
 use Rattle.hp_model.specs.SharedBytes.{Layout, layout_of, tile_in, arrived_byte, release_byte, map_byte, parked_byte, session_byte, gate, closed, new_smbase, flag, default_smbase_field}
 use Rattle.hp_model.specs.Monarch.{Monarch, at_label, first_slot, next_slot, restarted}
 use Rattle.hp_model.specs.Handlers.{Seat, want_at, next_at, runs_at, slot_at, is_tile}
-use Rattle.hp_model.specs.Step.{State, at, seat, access_effect, enter_smm, with_session, is_after_broadcast}
+use Rattle.hp_model.specs.State.{State, at}
+use Rattle.hp_model.specs.Access.{access_effect}
+use Rattle.hp_model.specs.Firmware.{seat, with_session}
+use Rattle.hp_model.specs.Step.{enter_smm, is_after_broadcast}
 use Rattle.hp_sealed.specs.Left.{Sound}
 use Rattle.hp_sealed.proofs.Left.{pick, pick_by}
 use Rattle.hp_sealed.proofs.Outside.{left_acted}

@@ -22,7 +22,11 @@ use Rattle.hp_model.specs.SharedBytes.{layout_of}
 use Rattle.hp_model.specs.Collection.{Report}
 use Rattle.hp_model.specs.Monarch.{Monarch}
 use Rattle.hp_model.specs.Handlers.{Seat, want_at}
-use Rattle.hp_model.specs.Step.{State, at, seat, answer_to, access_effect, without_ejected, is_after_broadcast, writes_block}
+use Rattle.hp_model.specs.State.{State, at}
+use Rattle.hp_model.specs.Ports.{without_ejected, writes_block}
+use Rattle.hp_model.specs.Access.{answer_to, access_effect}
+use Rattle.hp_model.specs.Firmware.{seat}
+use Rattle.hp_model.specs.Step.{is_after_broadcast}
 use Rattle.hp_model.specs.Transitions.{Transition, newest}
 use Rattle.hp_model.specs.Account.{is_at}
 use Rattle.hp_sealed.specs.Left.{Sound}

@@ -20,7 +20,11 @@ use Rattle.hp_model.specs.SharedBytes.{Layout, layout_of}
 use Rattle.hp_model.specs.Labels.{Part, First, Relocated, Monarch as Monarchs, part_of, mark_of, same_label}
 use Rattle.hp_model.specs.Monarch.{Monarch}
 use Rattle.hp_model.specs.Handlers.{Seat, want_at, next_at, wanted_at, runs_at, is_due, address_of_label}
-use Rattle.hp_model.specs.Step.{State, After, at, set_cpu, seat, row_at, is_normal, is_halt, may_access, is_enabled, is_that_access, is_that_outcome, is_rsm, is_handlers, wanted_in, access_effect, answer_to, insert, request_removal, enter_smm, leave_smm, answer_of, effect_of, with_next, row_led, with_session, handlers_led, firmware_led, is_after_broadcast, writes_block, is_disturbed_by, same_outcome, after}
+use Rattle.hp_model.specs.State.{State, at, set_cpu}
+use Rattle.hp_model.specs.Ports.{writes_block}
+use Rattle.hp_model.specs.Access.{is_normal, is_halt, may_access, access_effect, answer_to}
+use Rattle.hp_model.specs.Firmware.{seat, row_at, is_that_access, is_that_outcome, is_rsm, is_handlers, wanted_in, with_next, row_led, with_session, handlers_led, firmware_led, same_outcome}
+use Rattle.hp_model.specs.Step.{After, is_enabled, insert, request_removal, enter_smm, leave_smm, answer_of, effect_of, is_after_broadcast, is_disturbed_by, after}
 use Rattle.hp_model.specs.Runs.{address_of, run_on}
 use Rattle.hp_sealed.specs.Sealed.{is_other_tile}
 use Rattle.hp_sealed.proofs.Labels.{same_label as one_label}

@@ -9,7 +9,8 @@ use Rattle.hp_model.specs.Boot.{is_handed}
 use Rattle.hp_model.specs.Labels.{part_of}
 use Rattle.hp_model.specs.SharedBytes.{layout_of}
 use Rattle.hp_model.specs.Handlers.{runs_at, is_due, address_of_label}
-use Rattle.hp_model.specs.Step.{State, at, row_at}
+use Rattle.hp_model.specs.State.{State, at}
+use Rattle.hp_model.specs.Firmware.{row_at}
 use Rattle.hp_sealed.specs.Left.{Sound, Locked}
 use Rattle.hp_sealed.specs.Sealed.{is_based}
 use Rattle.hp_safety.proofs.Invariant.{Stands}

@@ -17,7 +17,10 @@ use Rattle.hp_model.specs.SharedBytes.{layout_of}
 use Rattle.hp_model.specs.Collection.{Report, Collection}
 use Rattle.hp_model.specs.Monarch.{is_own}
 use Rattle.hp_model.specs.Handlers.{want_at}
-use Rattle.hp_model.specs.Step.{State, at, seat, answer_to, is_after_broadcast}
+use Rattle.hp_model.specs.State.{State, at}
+use Rattle.hp_model.specs.Access.{answer_to}
+use Rattle.hp_model.specs.Firmware.{seat}
+use Rattle.hp_model.specs.Step.{is_after_broadcast}
 use Rattle.hp_model.specs.Runs.{run_on}
 use Rattle.hp_model.specs.Transitions.{Transition, transitions, entries_of, at_each}
 use Rattle.hp_model.specs.Account.{is_at}

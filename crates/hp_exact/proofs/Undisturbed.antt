@@ -12,7 +12,8 @@ use Rattle.hp_model.specs.declared.entries.Event.{Event}
 use Rattle.hp_model.specs.declared.entries.Event.TheVariants.{Insert, Remove, Do, TakeSmi, TakeInit, Resume, Tell}
 use Rattle.hp_model.specs.declared.entries.Entry.{Entry}
 use Rattle.hp_model.specs.Platform.{IsFit, is_late}
-use Rattle.hp_model.specs.Step.{State, writes_block}
+use Rattle.hp_model.specs.State.{State}
+use Rattle.hp_model.specs.Ports.{writes_block}
 use Rattle.hp_model.specs.Events.{access_in, outcome_in, acts}
 use Rattle.hp_model.specs.Transitions.{Transition, transitions, entries_of, since, at_each, at_each_state}
 use Rattle.hp_model.specs.Sessions.{bounds_session, is_called_in, is_outside, interferes, disturbed_in, is_disturbed}

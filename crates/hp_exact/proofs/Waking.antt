@@ -22,7 +22,9 @@ use Rattle.hp_model.specs.Collection.{Collection, CollectsAt, CollectedAll, coll
 use Rattle.hp_model.specs.Monarch.{Monarch, at_label, look_at, noted, next_report, collected, told, eject_led, led}
 use Rattle.hp_model.specs.Add.{is_last_look}
 use Rattle.hp_model.specs.Handlers.{Seat, want_at, next_at}
-use Rattle.hp_model.specs.Step.{State, at, access_effect, is_after_broadcast}
+use Rattle.hp_model.specs.State.{State, at}
+use Rattle.hp_model.specs.Access.{access_effect}
+use Rattle.hp_model.specs.Step.{is_after_broadcast}
 use Rattle.hp_sealed.proofs.Left.{pick}
 use Rattle.hp_exact.proofs.Monarchs.{is_among, next_by, adding}
 use Rattle.hp_exact.proofs.Naming.{Ids, aimed, Own}

@@ -7,7 +7,8 @@ use Rattle.hp_model.specs.declared.entries.Entry.{Entry}
 use Rattle.hp_model.specs.Platform.{IsFit}
 use Rattle.hp_model.specs.Boot.{Stage, Boots, Refused, Handed, is_handed, boot_access, stage_after}
 use Rattle.hp_model.specs.Monarch.{Monarch}
-use Rattle.hp_model.specs.Step.{State, After, answer_of, start, after, is_after_broadcast}
+use Rattle.hp_model.specs.State.{State, start}
+use Rattle.hp_model.specs.Step.{After, answer_of, after, is_after_broadcast}
 use Rattle.hp_model.specs.Runs.{run_on}
 use Rattle.hp_model.specs.Transitions.{Transition}
 use Rattle.hp_model.proofs.AtEach.{made}

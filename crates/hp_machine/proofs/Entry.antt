@@ -6,7 +6,8 @@ use Rattle.hp_model.specs.declared.processors.Cpu.{Cpu}
 use Rattle.hp_model.specs.Cpu.{cpu_at, take_smi}
 use Rattle.hp_model.specs.View.{Locks}
 use Rattle.hp_model.specs.SaveArea.{saved}
-use Rattle.hp_model.specs.Step.{State, enter_smm}
+use Rattle.hp_model.specs.State.{State}
+use Rattle.hp_model.specs.Step.{enter_smm}
 use Rattle.hp_mem.specs.Kept.{Kept, Stands}
 use Rattle.hp_machine.specs.Machine.{Machine, IsState}
 

@@ -7,7 +7,8 @@ use Rattle.hp_model.specs.Block.{Block, block_write, ejected_by}
 use Rattle.hp_model.specs.Ich9.{Ich9, ich9_write, raises_smi}
 use Rattle.hp_model.specs.FwCfg.{FwCfg, advanced, has_broadcast}
 use Rattle.hp_model.specs.Interrupts.{smi_raised}
-use Rattle.hp_model.specs.Step.{State, without_ejected, is_fw_cfg_data, read_port, after_read, write_block, write_ich9}
+use Rattle.hp_model.specs.State.{State}
+use Rattle.hp_model.specs.Ports.{without_ejected, is_fw_cfg_data, read_port, after_read, write_block, write_ich9}
 use Rattle.hp_machine.specs.Machine.{Machine, IsState, port_value, port_read}
 
 module _ (p : Platform) (m : Machine) (s : State) (is : IsState p m s) where

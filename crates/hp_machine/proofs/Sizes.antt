@@ -10,7 +10,8 @@ use Rattle.hp_model.specs.Cpu.{absent, cpu_at, hit}
 use Rattle.std.specs.Prelude.{slice_set, if◌then◌else◌}
 use Rattle.hp_model.specs.Block.{Block, block_write, with_insert, with_removal}
 use Rattle.hp_model.specs.Interrupts.{is_target, hit_each, sent, smi_raised}
-use Rattle.hp_model.specs.Step.{stands_in_smm, without_ejected}
+use Rattle.hp_model.specs.Ports.{without_ejected}
+use Rattle.hp_model.specs.Access.{stands_in_smm}
 use Rattle.hp_regs.proofs.Ejects.{stays_count, inserted_count, requested_count}
 use Rattle.hp_machine.specs.Machine.{IsSized}
 

@@ -14,7 +14,9 @@ use Rattle.hp_model.specs.Block.{Block, block_read}
 use Rattle.hp_model.specs.Ich9.{Ich9, ich9_read}
 use Rattle.hp_model.specs.FwCfg.{FwCfg, next_byte, advanced}
 use Rattle.hp_model.specs.Fitting.{IsQuiet, FitsAccess}
-use Rattle.hp_model.specs.Step.{State, start, is_on_block, is_fw_cfg_data, answer_of, effect_of}
+use Rattle.hp_model.specs.State.{State, start}
+use Rattle.hp_model.specs.Ports.{is_on_block, is_fw_cfg_data}
+use Rattle.hp_model.specs.Step.{answer_of, effect_of}
 use Rattle.hp_image.specs.declared.stores.Cell.{Cell}
 use Rattle.hp_image.specs.Cells.{stored_cells}
 use Rattle.hp_mem.specs.Kept.{Kept, Stands}

@@ -2,7 +2,7 @@
 
 ghost use Rattle.std.specs.Prelude.{◌≡◌, ◌^◌, true, nat_lt};
 ghost use Rattle.hp_model.specs.Cpu.{is_unlatched as unlatched, is_free as free, is_running, is_in_smm, is_outside, may_take_smi, may_take_init};
-ghost use Rattle.hp_model.specs.Step.{is_memory_width as memory_width, is_port_width as port_width, is_normal as normal, is_halt as halt, stands_in_smm, may_access};
+ghost use Rattle.hp_model.specs.Access.{is_memory_width as memory_width, is_port_width as port_width, is_normal as normal, is_halt as halt, stands_in_smm, may_access};
 
 use hp_model::{Access, Cpu, Mode};
 

@@ -5,13 +5,16 @@ ghost use Rattle.hp_model.specs.declared.platforms.Platform.{Platform};
 ghost use Rattle.hp_model.specs.declared.entries.Event.TheVariants.{Do, Insert, Remove, TakeSmi, TakeInit, Resume};
 ghost use Rattle.hp_model.specs.Platform.{IsFit, is_late as comes_late};
 ghost use Rattle.hp_model.specs.Cpu.{cpu_at, is_in_smm, smm_address, moved};
-ghost use Rattle.hp_model.specs.Step.{State, can_do, mark_at, stands_in_smm};
+ghost use Rattle.hp_model.specs.State.{State};
+ghost use Rattle.hp_model.specs.Access.{stands_in_smm};
+ghost use Rattle.hp_model.specs.Firmware.{mark_at};
+ghost use Rattle.hp_model.specs.Step.{can_do};
 ghost use Rattle.hp_model.specs.Memory.{Write};
 ghost use Rattle.hp_mem.specs.Kept.{Stands};
 ghost use Rattle.hp_model.specs.Block.{ejected_by};
 ghost use Rattle.hp_image.specs.Cells.{AreCells, cells_fit, stored_cells};
 ghost use Rattle.hp_regs.specs.Ports.{IsWidth};
-ghost use Rattle.hp_model.specs.Step.{start_transfer as with_transfer, write_block as on_block, write_ich9 as with_ich9, write_port as with_port};
+ghost use Rattle.hp_model.specs.Ports.{start_transfer as with_transfer, write_block as on_block, write_ich9 as with_ich9, write_port as with_port};
 ghost use Rattle.hp_machine.specs.Machine.{IsState, IsStep, FitsEvent, started};
 
 use crate::enabling::{
@@ -441,7 +444,7 @@ impl Machine {
 
     /// The mark where a processor in SMM stands: the 4 bytes at its instruction address, as it loads them. None outside SMM,
     /// and in a place that isn't possible.
-    #[tactic(auto, unfolding(hp_model::specs::Step::mark_at))]
+    #[tactic(auto, unfolding(hp_model::specs::Firmware::mark_at))]
     pub fn mark_at(&self, s: u32) -> Option<u32>
         ensures mark { (p : Platform) (state : State) → IsState p self.now state → result ≡ mark_at state s }
         ensures within { IfSome result (λ m. stands_in_smm (cpu_at self.now.cpus s) ≡ true) }

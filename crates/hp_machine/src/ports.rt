@@ -1,7 +1,7 @@
 //! Which device an I/O port belongs to, and accesses to the register block and to ICH9.
 
 ghost use Rattle.std.specs.Prelude.{◌≡◌, ◌≤◌, ◌<◌, ◌+◌, ◌-◌, ◌^◌, length, true, if◌then◌else◌};
-ghost use Rattle.hp_model.specs.Step.{is_on_block as on_block, is_fw_cfg_selector, is_fw_cfg_data, is_dma_high as dma_high, is_dma_low as dma_low, without_ejected};
+ghost use Rattle.hp_model.specs.Ports.{is_on_block as on_block, is_fw_cfg_selector, is_fw_cfg_data, is_dma_high as dma_high, is_dma_low as dma_low, without_ejected};
 ghost use Rattle.hp_model.specs.Block.{block_write, ejected_by};
 ghost use Rattle.hp_model.specs.FwCfg.{has_broadcast};
 ghost use Rattle.hp_model.specs.Ich9.{ich9_write, raises_smi};

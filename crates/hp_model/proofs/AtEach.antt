@@ -3,7 +3,7 @@ use Rattle.std.proofs.Common.{◌≡◌, Bool, true, List, [], ◌∷◌, Option
 use Rattle.std.proofs.lemmas.Bool.{and_from}
 use Rattle.hp_model.specs.declared.platforms.Platform.{Platform}
 use Rattle.hp_model.specs.declared.entries.Entry.{Entry}
-use Rattle.hp_model.specs.Step.{State, start}
+use Rattle.hp_model.specs.State.{State, start}
 use Rattle.hp_model.specs.Runs.{run_on}
 use Rattle.hp_model.specs.Transitions.{Transition, went_on, transitions_by, transitions, at_each}
 

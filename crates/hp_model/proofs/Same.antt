@@ -7,7 +7,8 @@ use Rattle.hp_model.specs.declared.outcomes.Outcome.{Outcome}
 use Rattle.hp_model.specs.declared.outcomes.Outcome.TheVariants as outcome
 use Rattle.hp_model.specs.declared.outcomes.Refusal.{Refusal}
 use Rattle.hp_model.specs.declared.outcomes.Refusal.TheVariants as refusal
-use Rattle.hp_model.specs.Step.{same_access, same_refusal, same_outcome}
+use Rattle.hp_model.specs.Access.{same_access}
+use Rattle.hp_model.specs.Firmware.{same_refusal, same_outcome}
 
 pub same_access-refl : (a : Access) → same_access a a ≡ true
 unfolding same_access

@@ -14,7 +14,10 @@ use Rattle.hp_model.specs.declared.entries.Entry.{Entry}
 use Rattle.hp_model.specs.declared.files.File.{File}
 use Rattle.hp_model.specs.declared.turns.Due.{Due}
 use Rattle.hp_model.specs.declared.turns.Due.TheVariants.{Idle, Makes, Asks}
-use Rattle.hp_model.specs.Step.{State, After, after, is_enabled, is_wanted, normal, step}
+use Rattle.hp_model.specs.State.{State}
+use Rattle.hp_model.specs.Access.{normal}
+use Rattle.hp_model.specs.Firmware.{is_wanted}
+use Rattle.hp_model.specs.Step.{After, after, is_enabled, step}
 use Rattle.hp_model.specs.Turn.{due_of, makes_if}
 use Rattle.hp_model.specs.Voices.{Voice}
 use Rattle.hp_model.specs.Runs.{same_answer, same_address, address_of, accept, run_on, run_from, run}

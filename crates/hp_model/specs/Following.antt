@@ -13,7 +13,9 @@ use Rattle.hp_model.specs.Block.{ejected_by}
 use Rattle.hp_model.specs.Platform.{is_late}
 use Rattle.hp_model.specs.Runs.{actor_of}
 use Rattle.hp_model.specs.Schedule.{question_in}
-use Rattle.hp_model.specs.Step.{State, after, normal, same_access}
+use Rattle.hp_model.specs.State.{State}
+use Rattle.hp_model.specs.Access.{normal, same_access}
+use Rattle.hp_model.specs.Step.{after}
 use Rattle.hp_model.specs.Turn.{due_of}
 use Rattle.hp_model.specs.Voices.{Voice, Question, silent, says}
 

@@ -7,7 +7,8 @@ use Rattle.hp_model.specs.declared.entries.Event.{Event}
 use Rattle.hp_model.specs.declared.entries.Entry.{Entry}
 use Rattle.hp_model.specs.Platform.{is_late}
 use Rattle.hp_model.specs.Runs.{actor_of, run}
-use Rattle.hp_model.specs.Step.{State, after, step}
+use Rattle.hp_model.specs.State.{State}
+use Rattle.hp_model.specs.Step.{after, step}
 
 -- an actor of the host
 abbrev pub is_host : Actor → Bool

@@ -21,6 +21,10 @@ pub mod Eject
 pub mod Monarch
 pub mod Handlers
 pub mod Voices
+pub mod State
+pub mod Ports
+pub mod Access
+pub mod Firmware
 pub mod Step
 pub mod Runs
 pub mod Turn

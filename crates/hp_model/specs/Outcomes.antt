@@ -17,7 +17,9 @@ use Rattle.hp_model.specs.Boot.{value_in}
 use Rattle.hp_model.specs.Slots.{place_of}
 use Rattle.hp_model.specs.Collection.{Report}
 use Rattle.hp_model.specs.Monarch.{Class, Tells, Adds, Ejects, is_that}
-use Rattle.hp_model.specs.Step.{State, at, same_outcome, stands_in_smm}
+use Rattle.hp_model.specs.State.{State, at}
+use Rattle.hp_model.specs.Access.{stands_in_smm}
+use Rattle.hp_model.specs.Firmware.{same_outcome}
 use Rattle.hp_model.specs.Events.{outcome_in, is_access_of}
 use Rattle.hp_model.specs.Transitions.{Transition, entries_of, at_each, since, older_than, newest, left_in}
 use Rattle.hp_model.specs.Account.{is_at, opened_for, bound}

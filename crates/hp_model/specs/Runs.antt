@@ -9,7 +9,8 @@ use Rattle.hp_model.specs.declared.entries.Event.{Event}
 use Rattle.hp_model.specs.declared.entries.Event.TheVariants.{Insert, Remove, Do, TakeSmi, TakeInit, Resume, Tell}
 use Rattle.hp_model.specs.declared.entries.Entry.{Entry}
 use Rattle.hp_model.specs.Cpu.{smm_address}
-use Rattle.hp_model.specs.Step.{State, After, at, step, start}
+use Rattle.hp_model.specs.State.{State, at, start}
+use Rattle.hp_model.specs.Step.{After, step}
 
 abbrev pub same_answer : Answer → Answer → Bool
 same_answer Quiet Quiet = true

@@ -5,7 +5,9 @@ use Rattle.hp_model.specs.declared.accesses.Want.{Want}
 use Rattle.hp_model.specs.declared.entries.Entry.{Entry}
 use Rattle.hp_model.specs.Memory.{touched}
 use Rattle.hp_model.specs.View.{is_locked}
-use Rattle.hp_model.specs.Step.{State, at, stands_in_smm, wanted}
+use Rattle.hp_model.specs.State.{State, at}
+use Rattle.hp_model.specs.Access.{stands_in_smm}
+use Rattle.hp_model.specs.Firmware.{wanted}
 use Rattle.hp_model.specs.Runs.{run}
 use Rattle.hp_model.specs.Smbases.{IsDistinct, IsNamed}
 use Rattle.hp_model.specs.Exact.{IsExact}

@@ -21,7 +21,9 @@ use Rattle.hp_model.specs.Voices.{Voice, Question, Said, silent, says, voice_of}
 use Rattle.hp_model.specs.declared.outcomes.BootFact.{BootFact}
 use Rattle.hp_model.specs.Block.{ejected_by}
 use Rattle.hp_model.specs.Boot.{fact_of, boot_count}
-use Rattle.hp_model.specs.Step.{State, After, at, normal, step, start}
+use Rattle.hp_model.specs.State.{State, at, start}
+use Rattle.hp_model.specs.Access.{normal}
+use Rattle.hp_model.specs.Step.{After, step}
 use Rattle.hp_model.specs.Runs.{address_of}
 use Rattle.hp_model.specs.Turn.{due_of}
 

@@ -15,7 +15,9 @@ use Rattle.hp_model.specs.SharedBytes.{layout_of, arrived_byte}
 use Rattle.hp_model.specs.Slots.{place_of}
 use Rattle.hp_model.specs.Collection.{Report}
 use Rattle.hp_model.specs.Monarch.{Class, Facts, class, is_own}
-use Rattle.hp_model.specs.Step.{State, same_access, writes_block}
+use Rattle.hp_model.specs.State.{State}
+use Rattle.hp_model.specs.Ports.{writes_block}
+use Rattle.hp_model.specs.Access.{same_access}
 use Rattle.hp_model.specs.Events.{access_in, outcome_in, is_access_of, is_entry_of, is_resume_of}
 use Rattle.hp_model.specs.Transitions.{since, newest}
 use Rattle.hp_model.specs.Account.{is_at, bound, is_known, left_held}

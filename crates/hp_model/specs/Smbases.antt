@@ -12,7 +12,7 @@ use Rattle.hp_model.specs.SharedBytes.{gate}
 use Rattle.hp_model.specs.Slots.{place_of}
 use Rattle.hp_model.specs.Collection.{Report}
 use Rattle.hp_model.specs.Monarch.{is_that}
-use Rattle.hp_model.specs.Step.{State, at}
+use Rattle.hp_model.specs.State.{State, at}
 use Rattle.hp_model.specs.Boot.{value_in}
 use Rattle.hp_model.specs.Events.{is_access_of, is_entry_of, is_resume_of}
 use Rattle.hp_model.specs.Transitions.{Transition, transitions, entries_of, at_each, at_each_state, newest, older_than, places, moved_in}

@@ -3,7 +3,7 @@ use Rattle.std.specs.Prelude.{ℕ, zero, suc, Bool, true, false, ◌&&◌, not, 
 use Rattle.hp_model.specs.declared.platforms.Platform.{Platform}
 use Rattle.hp_model.specs.declared.entries.Entry.{Entry}
 use Rattle.hp_model.specs.Platform.{count_of}
-use Rattle.hp_model.specs.Step.{State, at, start}
+use Rattle.hp_model.specs.State.{State, at, start}
 use Rattle.hp_model.specs.Runs.{run_on}
 
 pub record Transition : Type 0 where

@@ -10,7 +10,10 @@ use Rattle.hp_model.specs.declared.entries.Event.TheVariants as event
 use Rattle.hp_model.specs.Boot.{Stage, Boots, Refused, Handed, boot_access}
 use Rattle.hp_model.specs.Cpu.{is_free, may_take_smi, may_take_init}
 use Rattle.hp_model.specs.Platform.{is_late}
-use Rattle.hp_model.specs.Step.{State, at, is_enabled, stands_in_smm, wanted}
+use Rattle.hp_model.specs.State.{State, at}
+use Rattle.hp_model.specs.Access.{stands_in_smm}
+use Rattle.hp_model.specs.Firmware.{wanted}
+use Rattle.hp_model.specs.Step.{is_enabled}
 use Rattle.hp_model.specs.declared.turns.Due.{Due}
 use Rattle.hp_model.specs.declared.turns.Due.TheVariants.{Idle, Makes, Asks}
 

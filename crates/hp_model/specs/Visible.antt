@@ -11,7 +11,7 @@ use Rattle.hp_model.specs.declared.entries.Entry.{Entry}
 use Rattle.hp_model.specs.Memory.{byte_at}
 use Rattle.hp_model.specs.View.{is_locked}
 use Rattle.hp_model.specs.Cpu.{is_in_smm}
-use Rattle.hp_model.specs.Step.{State, at}
+use Rattle.hp_model.specs.State.{State, at}
 
 -- a mode without its page or its instruction address
 abbrev pub visible_mode : Mode → Mode

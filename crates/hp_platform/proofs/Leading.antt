@@ -22,7 +22,11 @@ use Rattle.hp_model.specs.declared.processors.Cpu.{Cpu}
 use Rattle.hp_model.specs.Handlers.{Seat, wanted_at}
 use Rattle.hp_model.specs.SharedBytes.{Layout}
 use Rattle.hp_model.specs.Monarch.{Monarch}
-use Rattle.hp_model.specs.Step.{State, at, can_do, same_access, is_handlers, is_enabled, is_wanted, wanted_in, is_that_access, is_that_outcome, is_rsm, wanted, write_port, access_effect, effect_of, answer_of, is_on_block, is_fw_cfg_data, is_fw_cfg_selector, is_dma_high, is_dma_low, row_at, with_session, row_led, handlers_led}
+use Rattle.hp_model.specs.State.{State, at}
+use Rattle.hp_model.specs.Ports.{write_port, is_on_block, is_fw_cfg_data, is_fw_cfg_selector, is_dma_high, is_dma_low}
+use Rattle.hp_model.specs.Access.{same_access, access_effect}
+use Rattle.hp_model.specs.Firmware.{is_handlers, is_wanted, wanted_in, is_that_access, is_that_outcome, is_rsm, wanted, row_at, with_session, row_led, handlers_led}
+use Rattle.hp_model.specs.Step.{can_do, is_enabled, effect_of, answer_of}
 use Rattle.hp_model.proofs.Same.{same_access-equal}
 use Rattle.hp_machine.specs.Machine.{FitsEvent}
 use Rattle.hp_platform.specs.Board.{Board, IsReady, Shows, row_event}

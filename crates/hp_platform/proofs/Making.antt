@@ -15,7 +15,9 @@ use Rattle.hp_model.specs.Handlers.{Next, address_of_label, next_at, seat_of}
 use Rattle.hp_model.specs.Monarch.{Monarch, restarted, with_features}
 use Rattle.hp_model.specs.SharedBytes.{Layout, layout_of}
 use Rattle.hp_model.specs.Platform.{apic_of}
-use Rattle.hp_model.specs.Step.{State, at, after, answer_of, effect_of, firmware_led, go_on, handlers_led, is_disturbed_by, row_at, row_led, seat, with_next}
+use Rattle.hp_model.specs.State.{State, at}
+use Rattle.hp_model.specs.Firmware.{firmware_led, go_on, handlers_led, row_at, row_led, seat, with_next}
+use Rattle.hp_model.specs.Step.{after, answer_of, effect_of, is_disturbed_by}
 use Rattle.hp_machine.specs.Machine.{Machine, IsState, IsStep}
 use Rattle.hp_boot.specs.Booting.{Booting}
 use Rattle.hp_monarch.specs.Session.{Session}

@@ -3,7 +3,7 @@ use Rattle.std.proofs.Common.{◌≡◌, ℕ, zero, suc, Bool, true, false, List
 use Rattle.std.specs.Prelude.{slice_set, if◌then◌else◌}
 use Rattle.hp_model.specs.declared.processors.Cpu.{Cpu}
 use Rattle.hp_model.specs.Cpu.{cpu_at, moved}
-use Rattle.hp_model.specs.Step.{stands_in_smm}
+use Rattle.hp_model.specs.Access.{stands_in_smm}
 use Rattle.hp_platform.specs.Board.{goes_on}
 
 set-own : (cs : List Cpu) (k : ℕ) → slice_set cs k (cpu_at cs k) ≡ cs

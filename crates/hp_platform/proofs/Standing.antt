@@ -12,7 +12,9 @@ use Rattle.hp_model.specs.Handlers.{row_of, seat_of, wanted_at}
 use Rattle.hp_model.specs.Monarch.{Monarch}
 use Rattle.hp_model.specs.SharedBytes.{Layout, layout_of}
 use Rattle.hp_model.specs.Platform.{apic_of}
-use Rattle.hp_model.specs.Step.{State, at, mark_at, row_at, seat, stands_in_smm, wanted}
+use Rattle.hp_model.specs.State.{State, at}
+use Rattle.hp_model.specs.Access.{stands_in_smm}
+use Rattle.hp_model.specs.Firmware.{mark_at, row_at, seat, wanted}
 use Rattle.hp_smm.specs.Rows.{row_for, want_for}
 use Rattle.hp_smm.specs.declared.handlers.Stand.{Stand}
 use Rattle.hp_platform.specs.Board.{Board, IsStand, Shows}

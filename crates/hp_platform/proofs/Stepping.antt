@@ -19,7 +19,10 @@ use Rattle.hp_model.specs.Boot.{Stage, Boots, Refused, Handed, boot_access}
 use Rattle.hp_model.specs.Cpu.{is_free, is_in_smm, is_running, is_unlatched, may_take_smi, may_take_init}
 use Rattle.hp_model.specs.Platform.{is_late}
 use Rattle.hp_model.specs.Runs.{IsStepBy, actor_of}
-use Rattle.hp_model.specs.Step.{State, after, at, is_boots, is_enabled, is_halt, is_handlers, is_memory_width, is_normal, is_port_width, is_that_access, is_wanted, may_access, normal, same_access, stands_in_smm, step, wanted, wanted_in, is_that_outcome, is_rsm}
+use Rattle.hp_model.specs.State.{State, at}
+use Rattle.hp_model.specs.Access.{is_halt, is_memory_width, is_normal, is_port_width, may_access, normal, same_access, stands_in_smm}
+use Rattle.hp_model.specs.Firmware.{is_boots, is_handlers, is_that_access, is_wanted, wanted, wanted_in, is_that_outcome, is_rsm}
+use Rattle.hp_model.specs.Step.{after, is_enabled, step}
 use Rattle.hp_model.proofs.Same.{same_access-equal, same_access-refl, same_outcome-refl}
 use Rattle.hp_model.specs.declared.turns.Due.{Due}
 use Rattle.hp_model.specs.declared.turns.Due.TheVariants.{Idle, Makes, Asks}

@@ -15,7 +15,9 @@ use Rattle.hp_model.specs.Block.{ejected_by}
 use Rattle.hp_model.specs.Following.{told_at, without_agent}
 use Rattle.hp_model.specs.Runs.{address_of, run}
 use Rattle.hp_model.specs.Schedule.{Scene, act, does, entry_of, made_by, makes_none, question, question_in, said_by, voice_at, without_voice}
-use Rattle.hp_model.specs.Step.{State, After, after, answer_of, normal, step}
+use Rattle.hp_model.specs.State.{State}
+use Rattle.hp_model.specs.Access.{normal}
+use Rattle.hp_model.specs.Step.{After, after, answer_of, step}
 use Rattle.hp_model.specs.Turn.{due_of}
 use Rattle.hp_model.specs.Voices.{Voice, silent}
 use Rattle.hp_agent.specs.Speaking.{Speaks}

@@ -20,7 +20,9 @@ use Rattle.hp_model.specs.Cpu.{page_of}
 use Rattle.hp_model.specs.Following.{told_at, without_agent}
 use Rattle.hp_model.specs.Platform.{IsFit, count_of, is_late}
 use Rattle.hp_model.specs.Runs.{IsStepBy, actor_of, accept, address_of, run, run_from, run_on}
-use Rattle.hp_model.specs.Step.{State, after, answer_of, at, normal, start, step}
+use Rattle.hp_model.specs.State.{State, at, start}
+use Rattle.hp_model.specs.Access.{normal}
+use Rattle.hp_model.specs.Step.{after, answer_of, step}
 use Rattle.hp_model.specs.Turn.{due_of}
 use Rattle.hp_model.specs.Voices.{Voice}
 use Rattle.hp_model.proofs.Scheduled.{run_from-append, same_address-refl, same_answer-refl}

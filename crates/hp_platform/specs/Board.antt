@@ -8,7 +8,10 @@ use Rattle.hp_model.specs.Cpu.{is_in_smm, moved}
 use Rattle.hp_model.specs.Monarch.{restarted}
 use Rattle.hp_model.specs.Platform.{IsFit, apic_of}
 use Rattle.hp_model.specs.SharedBytes.{Layout, layout_of}
-use Rattle.hp_model.specs.Step.{State, at, mark_at, stands_in_smm, is_enabled, is_wanted}
+use Rattle.hp_model.specs.State.{State, at}
+use Rattle.hp_model.specs.Access.{stands_in_smm}
+use Rattle.hp_model.specs.Firmware.{mark_at, is_wanted}
+use Rattle.hp_model.specs.Step.{is_enabled}
 use Rattle.hp_boot.specs.Booting.{Booting}
 use Rattle.hp_machine.specs.Machine.{Machine, IsState}
 use Rattle.hp_monarch.specs.Session.{Session}

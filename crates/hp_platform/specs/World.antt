@@ -16,7 +16,9 @@ use Rattle.hp_model.specs.Following.{told_at, without_agent}
 use Rattle.hp_model.specs.Platform.{IsFit, count_of, is_late}
 use Rattle.hp_model.specs.Runs.{IsStepBy, address_of, run}
 use Rattle.hp_model.specs.Schedule.{Scene, question_in, Made as Scheduled}
-use Rattle.hp_model.specs.Step.{State, after, answer_of, normal, step}
+use Rattle.hp_model.specs.State.{State}
+use Rattle.hp_model.specs.Access.{normal}
+use Rattle.hp_model.specs.Step.{after, answer_of, step}
 use Rattle.hp_model.specs.Turn.{due_of}
 use Rattle.hp_model.specs.Voices.{Voice}
 use Rattle.hp_agent.specs.Kinds.{hears_at}

@@ -7,7 +7,9 @@ ghost use Rattle.hp_model.specs.declared.platforms.Platform.{Platform as APlatfo
 ghost use Rattle.hp_model.specs.Cpu.{cpu_at, is_in_smm as is_smm, page_of};
 ghost use Rattle.hp_model.specs.Platform.{IsFit, apic_of, is_late as comes_late};
 ghost use Rattle.hp_model.specs.Runs.{address_of as address_in};
-ghost use Rattle.hp_model.specs.Step.{State, after as step_after, answer_of, at, can_do, mark_at, start, wanted};
+ghost use Rattle.hp_model.specs.State.{State, at, start};
+ghost use Rattle.hp_model.specs.Firmware.{mark_at, wanted};
+ghost use Rattle.hp_model.specs.Step.{after as step_after, answer_of, can_do};
 ghost use Rattle.hp_machine.specs.Machine.{FitsEvent, IsState, IsStep};
 ghost use Rattle.hp_reloc.specs.Relocating.{greatest};
 ghost use Rattle.hp_platform.specs.Board.{IsReady, IsStand, Shows, goes_on, row_event, told};

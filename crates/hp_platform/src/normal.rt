@@ -1,7 +1,7 @@
 //! Accesses as the machine takes them.
 
 ghost use Rattle.std.specs.Prelude.{◌≡◌, ◌%◌, ◌^◌, true};
-ghost use Rattle.hp_model.specs.Step.{is_memory_width as is_memory, is_port_width as is_port, normal as normal_of};
+ghost use Rattle.hp_model.specs.Access.{is_memory_width as is_memory, is_port_width as is_port, normal as normal_of};
 
 use hp_model::Access;
 

@@ -8,7 +8,9 @@ ghost use Rattle.hp_model.specs.Following.{without_agent};
 ghost use Rattle.hp_model.specs.Platform.{IsFit, count_of, is_late as comes_late};
 ghost use Rattle.hp_model.specs.Runs.{address_of, run};
 ghost use Rattle.hp_model.specs.Safety.{IsSafe};
-ghost use Rattle.hp_model.specs.Step.{State, after as step_after, answer_of, normal as normal_of};
+ghost use Rattle.hp_model.specs.State.{State};
+ghost use Rattle.hp_model.specs.Access.{normal as normal_of};
+ghost use Rattle.hp_model.specs.Step.{after as step_after, answer_of};
 ghost use Rattle.hp_platform.specs.Board.{IsReady, Shows};
 ghost use Rattle.hp_platform.specs.World.{IsSound, IsTurned, asked_place, counted, counted_at, idle_place_of, idle_places, noted, turns_at, turns_of, without_heard};
 

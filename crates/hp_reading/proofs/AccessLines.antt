@@ -6,7 +6,7 @@ use Rattle.hp_model.specs.declared.accesses.Access.{Access}
 use Rattle.hp_model.specs.declared.accesses.Access.TheVariants.{Load, Store, Swap, In, Out, CfgRead, CfgWrite, Icr, Halt, Nop}
 use Rattle.hp_model.specs.declared.accesses.Answer.{Answer}
 use Rattle.hp_model.specs.declared.accesses.Answer.TheVariants.{Quiet, Value}
-use Rattle.hp_model.specs.Step.{is_memory_width, is_port_width}
+use Rattle.hp_model.specs.Access.{is_memory_width, is_port_width}
 use Rattle.hp_model.specs.Text.{spell, access_pieces, value_of}
 use Rattle.hp_reading.specs.declared.accesses.Made.{Made}
 use Rattle.hp_reading.specs.Forms.{past, fits, filled}

@@ -4,7 +4,7 @@ use Rattle.std.proofs.lemmas.Option.{none-some, option_and_then_some}
 use Rattle.std.specs.Option.{IsSome}
 use Rattle.hp_model.specs.declared.platforms.Platform.{Platform}
 use Rattle.hp_model.specs.declared.entries.Entry.{Entry}
-use Rattle.hp_model.specs.Step.{State, start}
+use Rattle.hp_model.specs.State.{State, start}
 use Rattle.hp_model.specs.Runs.{run, run_on, run_from}
 use Rattle.hp_reading.specs.Lines.{entry_of, end_of}
 use Rattle.hp_reading.specs.Header.{head_of}

@@ -14,7 +14,7 @@ use Rattle.hp_model.specs.declared.outcomes.Outcome.TheVariants.{Added, Ejected,
 use Rattle.hp_model.specs.declared.entries.Event.{Event}
 use Rattle.hp_model.specs.declared.entries.Event.TheVariants.{Insert, Remove, Do, TakeSmi, TakeInit, Resume, Tell}
 use Rattle.hp_model.specs.declared.entries.Entry.{Entry}
-use Rattle.hp_model.specs.Step.{is_normal, is_memory_width, is_port_width}
+use Rattle.hp_model.specs.Access.{is_normal, is_memory_width, is_port_width}
 use Rattle.hp_model.specs.Text.{Piece, word, number, hexadecimal, spell, hex, access_pieces, value_of, at_pieces, refusal_pieces, outcome_pieces, actor_pieces, event_pieces}
 use Rattle.hp_reading.specs.Lines.{entry_of}
 use Rattle.hp_reading.specs.Written.{has_32, has_status, has_two, has_three, refusal_fits, outcome_fits, access_fits, is_either, is_written}

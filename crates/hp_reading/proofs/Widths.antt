@@ -4,7 +4,7 @@ use Rattle.std.proofs.lemmas.Bool.{eqb-true, or_cases}
 use Rattle.std.proofs.lemmas.Fmt.{decimal_digit}
 use Rattle.std.proofs.lemmas.Option.{none-some, same_Some}
 use Rattle.std.specs.Fmt.{decimal}
-use Rattle.hp_model.specs.Step.{is_memory_width, is_port_width}
+use Rattle.hp_model.specs.Access.{is_memory_width, is_port_width}
 use Rattle.hp_reading.specs.Lines.{memory_width, port_width}
 
 -- the glyph of a width

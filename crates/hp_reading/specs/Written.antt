@@ -11,7 +11,7 @@ use Rattle.hp_model.specs.declared.outcomes.Outcome.TheVariants.{Added, Ejected,
 use Rattle.hp_model.specs.declared.entries.Event.{Event}
 use Rattle.hp_model.specs.declared.entries.Event.TheVariants.{Insert, Remove, Do, TakeSmi, TakeInit, Resume, Tell}
 use Rattle.hp_model.specs.declared.entries.Entry.{Entry}
-use Rattle.hp_model.specs.Step.{is_normal}
+use Rattle.hp_model.specs.Access.{is_normal}
 use Rattle.hp_model.specs.Text.{line_of, line_text, end_text}
 
 abbrev pub has_32 : ℕ → Bool

@@ -24,7 +24,9 @@ use Rattle.hp_model.specs.SharedBytes.{Layout, layout_of, tile_in, arrived_byte}
 use Rattle.hp_model.specs.Slots.{place_of}
 use Rattle.hp_model.specs.Monarch.{Monarch, is_that}
 use Rattle.hp_model.specs.Handlers.{Next, want_at, next_at, wanted_at, slot_at, is_tile, runs_at, is_due, address_of_label}
-use Rattle.hp_model.specs.Step.{State, at, access_effect, answer_to, stands_in_smm, row_at, seat, is_that_access, is_that_outcome, go_on, with_next, row_led}
+use Rattle.hp_model.specs.State.{State, at}
+use Rattle.hp_model.specs.Access.{access_effect, answer_to, stands_in_smm}
+use Rattle.hp_model.specs.Firmware.{row_at, seat, is_that_access, is_that_outcome, go_on, with_next, row_led}
 use Rattle.hp_sealed.specs.Left.{Sound, Locked, is_guarded}
 use Rattle.hp_sealed.specs.Sealed.{is_other_tile, Recorded}
 use Rattle.hp_sealed.proofs.Left.{left_then}

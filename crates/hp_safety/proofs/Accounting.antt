@@ -26,7 +26,10 @@ use Rattle.hp_model.specs.SharedBytes.{layout_of, gate}
 use Rattle.hp_model.specs.Slots.{place_of}
 use Rattle.hp_model.specs.Monarch.{Monarch, restarted, is_that}
 use Rattle.hp_model.specs.Handlers.{Next, want_at, wanted_at, next_at, runs_at, address_of_label}
-use Rattle.hp_model.specs.Step.{State, After, at, access_effect, answer_to, answer_of, is_enabled, row_at, seat, is_that_access, is_that_outcome, is_rsm, is_handlers, wanted_in, row_led, handlers_led, firmware_led, effect_of, enter_smm, with_session, step}
+use Rattle.hp_model.specs.State.{State, at}
+use Rattle.hp_model.specs.Access.{access_effect, answer_to}
+use Rattle.hp_model.specs.Firmware.{row_at, seat, is_that_access, is_that_outcome, is_rsm, is_handlers, wanted_in, row_led, handlers_led, firmware_led, with_session}
+use Rattle.hp_model.specs.Step.{After, answer_of, is_enabled, effect_of, enter_smm, step}
 use Rattle.hp_model.specs.Runs.{address_of}
 use Rattle.hp_model.specs.Events.{access_in, is_entry_of, is_resume_of}
 use Rattle.hp_model.specs.Account.{is_at, stored_by, with_bound}

@@ -8,7 +8,7 @@ use Rattle.hp_model.specs.declared.labels.Label.TheVariants.{E5, E7}
 use Rattle.hp_model.specs.Platform.{IsFit, tile}
 use Rattle.hp_model.specs.Labels.{index_of}
 use Rattle.hp_model.specs.Monarch.{Monarch}
-use Rattle.hp_model.specs.Step.{State}
+use Rattle.hp_model.specs.State.{State}
 use Rattle.hp_model.specs.Runs.{run_on}
 use Rattle.hp_model.specs.Transitions.{Transition, transitions, entries_of, at_each}
 use Rattle.hp_model.specs.Account.{is_at}

@@ -13,7 +13,8 @@ use Rattle.hp_model.specs.Block.{is_in}
 use Rattle.hp_model.specs.Labels.{index_of}
 use Rattle.hp_model.specs.Slots.{slots_start, boot_ids, place_of, is_known as known_in}
 use Rattle.hp_model.specs.Monarch.{Monarch}
-use Rattle.hp_model.specs.Step.{State, at, start, seat}
+use Rattle.hp_model.specs.State.{State, at, start}
+use Rattle.hp_model.specs.Firmware.{seat}
 use Rattle.hp_model.specs.Runs.{run_on}
 use Rattle.hp_model.specs.Events.{outcome_in}
 use Rattle.hp_model.specs.Transitions.{Transition, transitions, entries_of}

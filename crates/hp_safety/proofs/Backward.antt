@@ -7,7 +7,7 @@ use Rattle.hp_model.specs.declared.platforms.Platform.{Platform}
 use Rattle.hp_model.specs.declared.entries.Entry.{Entry}
 use Rattle.hp_model.specs.declared.labels.Label.TheVariants.{C3, C4, C6}
 use Rattle.hp_model.specs.Boot.{value_in}
-use Rattle.hp_model.specs.Step.{State, start}
+use Rattle.hp_model.specs.State.{State, start}
 use Rattle.hp_model.specs.Transitions.{Transition, entries_of, since, newest, older_than, at_each, at_each_state, places}
 use Rattle.hp_model.specs.Account.{is_at, bound}
 use Rattle.hp_model.specs.Sessions.{bounds_session, session, value_by, triple_by, triples}

@@ -25,7 +25,11 @@ use Rattle.hp_model.specs.SharedBytes.{layout_of}
 use Rattle.hp_model.specs.SaveArea.{saved_smbase, saved_rip}
 use Rattle.hp_model.specs.Monarch.{Monarch, restarted}
 use Rattle.hp_model.specs.Handlers.{Seat, Next, runs_at, want_at, wanted_at, next_at, address_of_label}
-use Rattle.hp_model.specs.Step.{State, After, at, stands_in_smm, access_effect, answer_to, is_enabled, row_at, seat, is_that_access, is_handlers, wanted_in, go_on, with_next, row_led, handlers_led, firmware_led, effect_of, insert, set_cpu, enter_smm, leave_smm, after, writes_block, is_on_block, is_fw_cfg_data, is_fw_cfg_selector, is_dma_high, is_dma_low, write_block, start_transfer, write_ich9}
+use Rattle.hp_model.specs.State.{State, at, set_cpu}
+use Rattle.hp_model.specs.Ports.{writes_block, is_on_block, is_fw_cfg_data, is_fw_cfg_selector, is_dma_high, is_dma_low, write_block, start_transfer, write_ich9}
+use Rattle.hp_model.specs.Access.{stands_in_smm, access_effect, answer_to}
+use Rattle.hp_model.specs.Firmware.{row_at, seat, is_that_access, is_handlers, wanted_in, go_on, with_next, row_led, handlers_led, firmware_led}
+use Rattle.hp_model.specs.Step.{After, is_enabled, effect_of, insert, enter_smm, leave_smm, after}
 use Rattle.hp_model.specs.Runs.{run_on, address_of}
 use Rattle.hp_model.specs.Transitions.{Transition, transitions, at_each, places, has_left, left_in}
 use Rattle.hp_model.specs.Account.{is_at}

@@ -23,7 +23,11 @@ use Rattle.hp_model.specs.Labels.{Monarch as Monarchs, part_of, index_of, same_l
 use Rattle.hp_model.specs.SharedBytes.{layout_of}
 use Rattle.hp_model.specs.Monarch.{Monarch}
 use Rattle.hp_model.specs.Handlers.{want_at, next_at, address_of_label}
-use Rattle.hp_model.specs.Step.{State, After, at, seat, is_normal, is_halt, may_access, is_enabled, is_after_broadcast, writes_block, disturbs, is_disturbed_by, step}
+use Rattle.hp_model.specs.State.{State, at}
+use Rattle.hp_model.specs.Ports.{writes_block}
+use Rattle.hp_model.specs.Access.{is_normal, is_halt, may_access}
+use Rattle.hp_model.specs.Firmware.{seat}
+use Rattle.hp_model.specs.Step.{After, is_enabled, is_after_broadcast, disturbs, is_disturbed_by, step}
 use Rattle.hp_model.specs.Runs.{run_on, address_of}
 use Rattle.hp_model.specs.Events.{access_in, is_access_of}
 use Rattle.hp_model.specs.Transitions.{Transition, entries_of, since}

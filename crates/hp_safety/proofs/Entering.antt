@@ -16,7 +16,9 @@ use Rattle.hp_model.specs.SharedBytes.{layout_of, gate, new_smbase, default_smba
 use Rattle.hp_model.specs.Slots.{Slots}
 use Rattle.hp_model.specs.Monarch.{Monarch, restarted, is_that}
 use Rattle.hp_model.specs.Handlers.{address_of_label}
-use Rattle.hp_model.specs.Step.{State, at, enter_smm, with_session}
+use Rattle.hp_model.specs.State.{State, at}
+use Rattle.hp_model.specs.Firmware.{with_session}
+use Rattle.hp_model.specs.Step.{enter_smm}
 use Rattle.hp_sealed.specs.Left.{IsLeft, Sound, is_guarded, is_kept}
 use Rattle.hp_sealed.specs.Sealed.{is_based, is_other_tile, Recorded, IsAtSlot}
 use Rattle.hp_sealed.proofs.Left.{pick_by, left_then}

@@ -23,7 +23,10 @@ use Rattle.hp_model.specs.SharedBytes.{layout_of, default_smbase_field}
 use Rattle.hp_model.specs.Slots.{place_of}
 use Rattle.hp_model.specs.Monarch.{Monarch}
 use Rattle.hp_model.specs.Handlers.{Seat, want_at, wanted_at, runs_at}
-use Rattle.hp_model.specs.Step.{State, After, at, set_cpu, access_effect, answer_to, is_enabled, row_at, seat, is_that_access, is_rsm, is_handlers, wanted_in, insert, request_removal, leave_smm, row_led, handlers_led, firmware_led, effect_of, answer_of, is_disturbed_by, step}
+use Rattle.hp_model.specs.State.{State, at, set_cpu}
+use Rattle.hp_model.specs.Access.{access_effect, answer_to}
+use Rattle.hp_model.specs.Firmware.{row_at, seat, is_that_access, is_rsm, is_handlers, wanted_in, row_led, handlers_led, firmware_led}
+use Rattle.hp_model.specs.Step.{After, is_enabled, insert, request_removal, leave_smm, effect_of, answer_of, is_disturbed_by, step}
 use Rattle.hp_sealed.specs.Left.{Sound}
 use Rattle.hp_sealed.specs.Sealed.{is_other_tile, is_based, IsAtSlot}
 use Rattle.hp_sealed.proofs.Stay.{Stays}

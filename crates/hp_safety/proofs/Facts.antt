@@ -23,7 +23,10 @@ use Rattle.hp_model.specs.SaveArea.{saved_smbase, saved_rip}
 use Rattle.hp_model.specs.Slots.{Slots, is_known as known_in, place_of, completed, forgotten}
 use Rattle.hp_model.specs.Monarch.{Monarch, is_that, noted, told}
 use Rattle.hp_model.specs.Handlers.{next_at}
-use Rattle.hp_model.specs.Step.{State, After, at, seat, same_access, wanted_in, firmware_led, effect_of, step}
+use Rattle.hp_model.specs.State.{State, at}
+use Rattle.hp_model.specs.Access.{same_access}
+use Rattle.hp_model.specs.Firmware.{seat, wanted_in, firmware_led}
+use Rattle.hp_model.specs.Step.{After, effect_of, step}
 use Rattle.hp_model.specs.Runs.{run_on}
 use Rattle.hp_model.specs.Events.{access_in, outcome_in, is_access_of}
 use Rattle.hp_model.specs.Transitions.{Transition, entries_of}

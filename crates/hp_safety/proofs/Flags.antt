@@ -6,7 +6,7 @@ use Rattle.hp_model.specs.declared.entries.Entry.{Entry}
 use Rattle.hp_model.specs.declared.labels.Label.TheVariants.{S2, E5}
 use Rattle.hp_model.specs.Platform.{IsFit}
 use Rattle.hp_model.specs.Monarch.{Monarch}
-use Rattle.hp_model.specs.Step.{State, start}
+use Rattle.hp_model.specs.State.{State, start}
 use Rattle.hp_model.specs.Runs.{run_on}
 use Rattle.hp_model.specs.Transitions.{Transition, transitions, entries_of, since, at_each_state}
 use Rattle.hp_model.specs.Sessions.{bounds_session, session, was_at, interferes, disturbed_in, is_disturbed, flag_tells}

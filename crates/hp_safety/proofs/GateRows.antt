@@ -19,7 +19,9 @@ use Rattle.hp_model.specs.SharedBytes.{layout_of, gate, closed, new_smbase, defa
 use Rattle.hp_model.specs.Slots.{place_of}
 use Rattle.hp_model.specs.Monarch.{Monarch, is_that}
 use Rattle.hp_model.specs.Handlers.{Seat, want_at}
-use Rattle.hp_model.specs.Step.{State, at, access_effect, answer_of}
+use Rattle.hp_model.specs.State.{State, at}
+use Rattle.hp_model.specs.Access.{access_effect}
+use Rattle.hp_model.specs.Step.{answer_of}
 use Rattle.hp_sealed.specs.Left.{IsLeft, Sound, Locked}
 use Rattle.hp_sealed.specs.Sealed.{Recorded}
 use Rattle.hp_sealed.proofs.Left.{pick_by, left_same}

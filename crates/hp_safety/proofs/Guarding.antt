@@ -5,7 +5,7 @@ use Rattle.hp_model.specs.declared.entries.Entry.{Entry}
 use Rattle.hp_model.specs.Platform.{IsFit}
 use Rattle.hp_model.specs.Runs.{run}
 use Rattle.hp_model.specs.Safety.{IsGuarded}
-use Rattle.hp_model.specs.Step.{State}
+use Rattle.hp_model.specs.State.{State}
 use Rattle.hp_safety.proofs.Law.{law}
 use Rattle.hp_safety.proofs.Smbases.{distinct_law, named_law}
 

@@ -21,7 +21,9 @@ use Rattle.hp_model.specs.Slots.{boot_ids}
 use Rattle.hp_model.specs.Collection.{Report}
 use Rattle.hp_model.specs.Monarch.{Monarch, monarch_start, with_features, restarted, told}
 use Rattle.hp_model.specs.Handlers.{Seat, want_at, next_at, address_of_label}
-use Rattle.hp_model.specs.Step.{State, After, at, start, seat, wanted_in, step}
+use Rattle.hp_model.specs.State.{State, at, start}
+use Rattle.hp_model.specs.Firmware.{seat, wanted_in}
+use Rattle.hp_model.specs.Step.{After, step}
 use Rattle.hp_model.specs.Runs.{run_on, address_of}
 use Rattle.hp_model.specs.Events.{outcome_in, is_entry_of, is_resume_of}
 use Rattle.hp_model.specs.Transitions.{Transition, transitions, entries_of, since, at_each, places, has_moved}

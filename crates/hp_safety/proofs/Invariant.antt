@@ -17,7 +17,7 @@ use Rattle.hp_model.specs.SaveArea.{smbase_field}
 use Rattle.hp_model.specs.Slots.{Slots, place_of}
 use Rattle.hp_model.specs.Monarch.{Monarch, is_that}
 use Rattle.hp_model.specs.Handlers.{runs_at, is_due, address_of_label}
-use Rattle.hp_model.specs.Step.{State, at}
+use Rattle.hp_model.specs.State.{State, at}
 use Rattle.hp_sealed.specs.Left.{IsLeft, Locked, is_kept}
 use Rattle.hp_sealed.specs.Sealed.{is_based, Recorded, IsAtSlot}
 use Rattle.hp_safety.proofs.Needs.{Nothing, need_of, is_open, settles, IsSlot, Facts, Needs}

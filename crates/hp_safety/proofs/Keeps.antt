@@ -20,7 +20,8 @@ use Rattle.hp_model.specs.SaveArea.{smbase_field}
 use Rattle.hp_model.specs.Slots.{Slots, place_of}
 use Rattle.hp_model.specs.Monarch.{Monarch, is_that}
 use Rattle.hp_model.specs.Handlers.{runs_at, is_due, row_of, address_of_label}
-use Rattle.hp_model.specs.Step.{State, at, mark_at, row_at}
+use Rattle.hp_model.specs.State.{State, at}
+use Rattle.hp_model.specs.Firmware.{mark_at, row_at}
 use Rattle.hp_sealed.specs.Left.{IsLeft, Sound, Locked, is_guarded}
 use Rattle.hp_sealed.specs.Sealed.{is_based, Recorded, IsAtSlot}
 use Rattle.hp_sealed.proofs.Stay.{Stays}

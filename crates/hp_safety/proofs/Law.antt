@@ -14,7 +14,8 @@ use Rattle.hp_model.specs.Labels.{part_of}
 use Rattle.hp_model.specs.SharedBytes.{layout_of}
 use Rattle.hp_model.specs.Monarch.{Monarch}
 use Rattle.hp_model.specs.Handlers.{Seat, want_at}
-use Rattle.hp_model.specs.Step.{State, at, seat, wanted, start}
+use Rattle.hp_model.specs.State.{State, at, start}
+use Rattle.hp_model.specs.Firmware.{seat, wanted}
 use Rattle.hp_model.specs.Runs.{run, run_from, address_of}
 use Rattle.hp_model.specs.Safety.{IsLockedBefore, is_astray, wants_none}
 use Rattle.hp_sealed.specs.Left.{Sound, is_kept}

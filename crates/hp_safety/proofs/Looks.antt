@@ -14,7 +14,7 @@ use Rattle.hp_model.specs.Labels.{Monarch as Monarchs, part_of, index_of}
 use Rattle.hp_model.specs.SharedBytes.{layout_of, arrived_byte}
 use Rattle.hp_model.specs.Monarch.{Monarch}
 use Rattle.hp_model.specs.Handlers.{Seat, want_at}
-use Rattle.hp_model.specs.Step.{same_access}
+use Rattle.hp_model.specs.Access.{same_access}
 use Rattle.hp_model.specs.Transitions.{newest}
 use Rattle.hp_model.specs.Sessions.{bounds_session, session, monarch_makes, last_look}
 use Rattle.hp_sealed.specs.Left.{Sound}

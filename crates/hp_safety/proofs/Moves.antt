@@ -25,7 +25,10 @@ use Rattle.hp_model.specs.SharedBytes.{layout_of, gate, closed}
 use Rattle.hp_model.specs.SaveArea.{smbase_field, saved, saved_smbase, saved_rip}
 use Rattle.hp_model.specs.Monarch.{restarted}
 use Rattle.hp_model.specs.Handlers.{Next, want_at, wanted_at, next_at, runs_at, address_of_label}
-use Rattle.hp_model.specs.Step.{State, After, at, set_cpu, access_effect, answer_to, is_enabled, row_at, seat, is_that_access, is_that_outcome, is_rsm, is_handlers, wanted_in, go_on, with_next, row_led, handlers_led, firmware_led, effect_of, insert, request_removal, enter_smm, leave_smm, with_session, step}
+use Rattle.hp_model.specs.State.{State, at, set_cpu}
+use Rattle.hp_model.specs.Access.{access_effect, answer_to}
+use Rattle.hp_model.specs.Firmware.{row_at, seat, is_that_access, is_that_outcome, is_rsm, is_handlers, wanted_in, go_on, with_next, row_led, handlers_led, firmware_led, with_session}
+use Rattle.hp_model.specs.Step.{After, is_enabled, effect_of, insert, request_removal, enter_smm, leave_smm, step}
 use Rattle.hp_sealed.specs.Left.{IsLeft, Sound}
 use Rattle.hp_sealed.proofs.Left.{pick, left_same}
 use Rattle.hp_sealed.proofs.Stay.{Stays, stays_same}

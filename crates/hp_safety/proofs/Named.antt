@@ -18,7 +18,8 @@ use Rattle.hp_model.specs.Labels.{cell_of}
 use Rattle.hp_model.specs.SharedBytes.{gate}
 use Rattle.hp_model.specs.Slots.{boot_ids}
 use Rattle.hp_model.specs.Monarch.{is_that}
-use Rattle.hp_model.specs.Step.{State, After, at, start, answer_of, is_enabled}
+use Rattle.hp_model.specs.State.{State, at, start}
+use Rattle.hp_model.specs.Step.{After, answer_of, is_enabled}
 use Rattle.hp_model.specs.Runs.{same_address, run_on, address_of}
 use Rattle.hp_model.specs.Events.{is_access_of, is_entry_of}
 use Rattle.hp_model.specs.Transitions.{Transition, entries_of, newest, older_than}

@@ -21,7 +21,8 @@ use Rattle.hp_model.specs.Slots.{is_known as known_in, place_of}
 use Rattle.hp_model.specs.Collection.{Report}
 use Rattle.hp_model.specs.Monarch.{Monarch, Class, class, facts_of as facts_by, next_report, told}
 use Rattle.hp_model.specs.Handlers.{want_at, next_at}
-use Rattle.hp_model.specs.Step.{State, at, seat}
+use Rattle.hp_model.specs.State.{State, at}
+use Rattle.hp_model.specs.Firmware.{seat}
 use Rattle.hp_model.specs.Runs.{run_on, address_of}
 use Rattle.hp_model.specs.Events.{outcome_in}
 use Rattle.hp_model.specs.Transitions.{Transition, entries_of}

@@ -20,7 +20,9 @@ use Rattle.hp_model.specs.Add.{AddsAt, saw_flag, saw_pair, shut, saw_arrival}
 use Rattle.hp_model.specs.Eject.{awaits, saw_parked, unparked, handed_to_block, saw_status, given_up, gone}
 use Rattle.hp_model.specs.Monarch.{Monarch, is_that, at_label, first_slot, next_slot, look_at, looked, noted, commanded, collected, led, eject_led, told, next_report}
 use Rattle.hp_model.specs.Handlers.{Seat, Next, want_at, next_at, stays, goes}
-use Rattle.hp_model.specs.Step.{State, read_port, access_effect, answer_to}
+use Rattle.hp_model.specs.State.{State}
+use Rattle.hp_model.specs.Ports.{read_port}
+use Rattle.hp_model.specs.Access.{access_effect, answer_to}
 use Rattle.hp_sealed.specs.Left.{Sound, Locked}
 use Rattle.hp_sealed.specs.Sealed.{Recorded}
 use Rattle.hp_sealed.proofs.Left.{pick}

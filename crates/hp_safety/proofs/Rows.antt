@@ -16,7 +16,8 @@ use Rattle.hp_model.specs.SharedBytes.{layout_of, gate, closed, release_byte, ma
 use Rattle.hp_model.specs.Slots.{Slots, place_of}
 use Rattle.hp_model.specs.Monarch.{Monarch, is_that}
 use Rattle.hp_model.specs.Handlers.{Seat, slot_at, want_at}
-use Rattle.hp_model.specs.Step.{State, at, access_effect}
+use Rattle.hp_model.specs.State.{State, at}
+use Rattle.hp_model.specs.Access.{access_effect}
 use Rattle.hp_sealed.specs.Left.{Sound, Locked}
 use Rattle.hp_sealed.specs.Sealed.{is_other_tile, Recorded}
 use Rattle.hp_sealed.proofs.Left.{pick}

@@ -8,7 +8,8 @@ use Rattle.hp_model.specs.Platform.{apic_of}
 use Rattle.hp_model.specs.Memory.{Write}
 use Rattle.hp_model.specs.Labels.{part_of}
 use Rattle.hp_model.specs.Monarch.{Monarch}
-use Rattle.hp_model.specs.Step.{State, After, at, step}
+use Rattle.hp_model.specs.State.{State, at}
+use Rattle.hp_model.specs.Step.{After, step}
 use Rattle.hp_model.specs.Runs.{run_from}
 use Rattle.hp_sealed.specs.Left.{Sound, LeavesKept}
 use Rattle.hp_sealed.specs.Sealed.{IsSealed, IsAtSlot}

@@ -13,7 +13,7 @@ use Rattle.hp_model.specs.Block.{is_in}
 use Rattle.hp_model.specs.Labels.{cell_of}
 use Rattle.hp_model.specs.Slots.{place_of}
 use Rattle.hp_model.specs.Monarch.{Monarch}
-use Rattle.hp_model.specs.Step.{State, at, start}
+use Rattle.hp_model.specs.State.{State, at, start}
 use Rattle.hp_model.specs.Runs.{run_on, address_of}
 use Rattle.hp_model.specs.Events.{is_resume_of}
 use Rattle.hp_model.specs.Transitions.{Transition, transitions, entries_of, places, has_moved, moved_in}

@@ -4,7 +4,7 @@ ghost use Rattle.std.specs.Prelude.{◌≡◌, true, List, Some};
 ghost use Rattle.hp_model.specs.declared.platforms.Platform.{Platform};
 ghost use Rattle.hp_model.specs.declared.entries.Entry.{Entry};
 ghost use Rattle.hp_model.specs.Platform.{IsFit};
-ghost use Rattle.hp_model.specs.Step.{State};
+ghost use Rattle.hp_model.specs.State.{State};
 ghost use Rattle.hp_model.specs.Runs.{run};
 ghost use Rattle.hp_model.specs.Transitions.{transitions, at_each, at_each_state};
 ghost use Rattle.hp_model.specs.Smbases.{IsDistinct, IsNamed};

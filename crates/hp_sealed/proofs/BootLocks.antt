@@ -7,7 +7,8 @@ use Rattle.hp_model.specs.declared.accesses.Access.TheVariants.{CfgRead, CfgWrit
 use Rattle.hp_model.specs.declared.outcomes.BootFact.TheVariants.{NoDefaultSmram, NoExtTseg}
 use Rattle.hp_model.specs.Memory.{byte_at}
 use Rattle.hp_model.specs.Boot.{tseg_enabled, ext_count, boot_refusal}
-use Rattle.hp_model.specs.Step.{State, access_effect}
+use Rattle.hp_model.specs.State.{State}
+use Rattle.hp_model.specs.Access.{access_effect}
 use Rattle.hp_sealed.specs.Left.{Sound, Locked}
 use Rattle.hp_sealed.specs.Booting.{f_smbase_after, smram_after, esmramc_after, memory_after, Booting}
 use Rattle.hp_sealed.proofs.Outside.{acts, left_acted}

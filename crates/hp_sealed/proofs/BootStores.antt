@@ -12,7 +12,8 @@ use Rattle.hp_model.specs.Cpu.{absent, smm_address}
 use Rattle.hp_model.specs.Slots.{boot_ids}
 use Rattle.hp_model.specs.Monarch.{Monarch, monarch_start, with_features}
 use Rattle.hp_model.specs.Boot.{ext_count, boot_refusal, value_in}
-use Rattle.hp_model.specs.Step.{State, at, answer_to, access_effect}
+use Rattle.hp_model.specs.State.{State, at}
+use Rattle.hp_model.specs.Access.{answer_to, access_effect}
 use Rattle.hp_sealed.specs.Left.{Sound}
 use Rattle.hp_sealed.specs.Sealed.{is_based, Recorded, IsOutside, IsAtSlot}
 use Rattle.hp_sealed.specs.Booting.{f_smbase_after, smram_after, esmramc_after, memory_after, Booting}

@@ -10,7 +10,8 @@ use Rattle.hp_model.specs.View.{Locks, is_hidden, is_hole}
 use Rattle.hp_model.specs.declared.outcomes.BootFact.TheVariants.{NotNegotiated}
 use Rattle.hp_model.specs.Boot.{Stage, tseg_enabled, ext_count, boot_refusal, value_in, block_accesses, area_accesses, pen_accesses, mark_accesses, gate_accesses, ext_accesses, lock_accesses, feature_accesses, last_accesses, boot_accesses, boot_access}
 use Rattle.hp_model.specs.Monarch.{Monarch}
-use Rattle.hp_model.specs.Step.{State, answer_to, access_effect}
+use Rattle.hp_model.specs.State.{State}
+use Rattle.hp_model.specs.Access.{answer_to, access_effect}
 use Rattle.hp_model.specs.FwCfg.{FwCfg, fw_cfg_start, big_value, little_value, agrees, ok_byte, next_byte, selected, without_high, dma_address}
 use Rattle.hp_model.specs.Transfers.{Descriptor, descriptor_of, Transferred, bytes_loaded, bytes_stored, ask, carried_out, transfer}
 use Rattle.hp_model.specs.Platform.{tseg}

@@ -15,7 +15,10 @@ use Rattle.hp_model.specs.declared.entries.Event.TheVariants.{Insert, Remove, Do
 use Rattle.hp_model.specs.Cpu.{is_in_smm, address_in, smm_address}
 use Rattle.hp_model.specs.Boot.{Stage, Boots, Refused, Handed, ext_count, boot_access, boot_refusal, value_in, stage_by, stage_after}
 use Rattle.hp_model.specs.Monarch.{with_features}
-use Rattle.hp_model.specs.Step.{State, After, at, same_access, is_boots, is_enabled, is_wanted, wanted_in, answer_to, access_effect, with_agreed, is_disturbed_by, after, step}
+use Rattle.hp_model.specs.State.{State, at}
+use Rattle.hp_model.specs.Access.{same_access, answer_to, access_effect}
+use Rattle.hp_model.specs.Firmware.{is_boots, is_wanted, wanted_in, with_agreed}
+use Rattle.hp_model.specs.Step.{After, is_enabled, is_disturbed_by, after, step}
 use Rattle.hp_sealed.specs.Left.{Sound, LeavesLocked}
 use Rattle.hp_sealed.specs.Sealed.{IsOutside, IsSealed}
 use Rattle.hp_sealed.specs.Booting.{Booting, IsBooting, IsRefused, IsBooted, Goes}

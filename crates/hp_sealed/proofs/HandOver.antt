@@ -9,7 +9,8 @@ use Rattle.hp_model.specs.declared.entries.Entry.{Entry}
 use Rattle.hp_model.specs.Memory.{touched}
 use Rattle.hp_model.specs.Platform.{IsFit}
 use Rattle.hp_model.specs.Boot.{Stage, Boots, Refused, Handed, is_handed, stage_after}
-use Rattle.hp_model.specs.Step.{State, After, answer_of, step, start}
+use Rattle.hp_model.specs.State.{State, start}
+use Rattle.hp_model.specs.Step.{After, answer_of, step}
 use Rattle.hp_model.specs.Runs.{run_on, run_from, run}
 use Rattle.hp_model.specs.Safety.{IsUntouched}
 use Rattle.hp_sealed.specs.Left.{Sound, LeavesLocked}

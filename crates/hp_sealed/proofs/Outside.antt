@@ -12,7 +12,9 @@ use Rattle.hp_model.specs.Block.{block_write, ejected_by}
 use Rattle.hp_model.specs.Interrupts.{decoded, smi_raised}
 use Rattle.hp_model.specs.Ich9.{raises_smi}
 use Rattle.hp_model.specs.FwCfg.{selected, advanced, with_high, dma_address, without_high, has_broadcast}
-use Rattle.hp_model.specs.Step.{State, at, without_ejected, write_block, is_on_block, is_fw_cfg_data, is_fw_cfg_selector, is_dma_high, is_dma_low, start_transfer, write_ich9, write_port, access_effect}
+use Rattle.hp_model.specs.State.{State, at}
+use Rattle.hp_model.specs.Ports.{without_ejected, write_block, is_on_block, is_fw_cfg_data, is_fw_cfg_selector, is_dma_high, is_dma_low, start_transfer, write_ich9, write_port}
+use Rattle.hp_model.specs.Access.{access_effect}
 use Rattle.hp_sealed.specs.Left.{IsLeft, Locked}
 use Rattle.hp_sealed.proofs.Left.{pick, pick_by, left_same, left_outside, left_swap, left_transfer}
 use Rattle.hp_sealed.proofs.Stay.{Stays, stays_same, stays_sent, stays_halt, stays_raised, stays_set, at_set}

@@ -13,7 +13,7 @@ use Rattle.hp_model.specs.SharedBytes.{layout_of}
 use Rattle.hp_model.specs.Handlers.{slot_at}
 use Rattle.hp_model.specs.Slots.{slots_start, boot_ids, place_of}
 use Rattle.hp_model.specs.Boot.{ext_count}
-use Rattle.hp_model.specs.Step.{start}
+use Rattle.hp_model.specs.State.{start}
 use Rattle.hp_sealed.specs.Left.{Sound}
 use Rattle.hp_sealed.specs.Sealed.{is_based, Placed, IsAtSlot}
 use Rattle.hp_sealed.specs.Booting.{smram_after, esmramc_after, IsBooting}

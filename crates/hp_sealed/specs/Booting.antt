@@ -5,7 +5,7 @@ use Rattle.hp_model.specs.declared.outcomes.BootFact.{BootFact}
 use Rattle.hp_model.specs.Memory.{Write, byte_at, write_of}
 use Rattle.hp_model.specs.Image.{image}
 use Rattle.hp_model.specs.Boot.{Boots, Refused, tseg_enabled, ext_count}
-use Rattle.hp_model.specs.Step.{State}
+use Rattle.hp_model.specs.State.{State}
 use Rattle.hp_sealed.specs.Left.{is_gate, is_kept, LeavesKept}
 use Rattle.hp_sealed.specs.Sealed.{IsOutside, IsSealed}
 use Rattle.hp_sealed.specs.Features.{Agreeing}

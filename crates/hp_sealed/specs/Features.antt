@@ -4,7 +4,7 @@ use Rattle.hp_model.specs.declared.platforms.Platform.{Platform}
 use Rattle.hp_model.specs.Memory.{Write, bytes_of, write_of}
 use Rattle.hp_model.specs.FwCfg.{FwCfg, fw_cfg_start, selected, advanced}
 use Rattle.hp_model.specs.Boot.{ext_count}
-use Rattle.hp_model.specs.Step.{State}
+use Rattle.hp_model.specs.State.{State}
 
 -- memory with the first descriptor, and then with the features that it has asked for
 unfoldable pub first_descriptor : List Write → List Write

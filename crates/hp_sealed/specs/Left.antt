@@ -5,7 +5,7 @@ use Rattle.hp_model.specs.Platform.{tseg, count_of, all_distinct, apic_of}
 use Rattle.hp_model.specs.Memory.{Write, byte_at, touched}
 use Rattle.hp_model.specs.View.{Locks, is_locked}
 use Rattle.hp_model.specs.Boot.{tseg_enabled}
-use Rattle.hp_model.specs.Step.{State}
+use Rattle.hp_model.specs.State.{State}
 
 -- from old to new memory no write has covered byte x
 pub record IsLeft (x : ℕ) (old new : List Write) : Type 0 where

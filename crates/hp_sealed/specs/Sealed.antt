@@ -13,7 +13,7 @@ use Rattle.hp_model.specs.Slots.{Slots, boot_ids, place_of}
 use Rattle.hp_model.specs.Monarch.{Monarch, monarch_start, with_features, is_that}
 use Rattle.hp_model.specs.Handlers.{slot_at, is_tile, runs_at, address_of_label}
 use Rattle.hp_model.specs.Boot.{is_handed}
-use Rattle.hp_model.specs.Step.{State, at}
+use Rattle.hp_model.specs.State.{State, at}
 use Rattle.hp_sealed.specs.Left.{Locked}
 
 -- the tile of a possible slot other than slot 0

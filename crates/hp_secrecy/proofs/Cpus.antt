@@ -10,7 +10,8 @@ use Rattle.hp_model.specs.declared.processors.Ipi.{Ipi}
 use Rattle.hp_model.specs.Cpu.{absent, cpu_at, is_waiting, is_in_smm, halted, halt, started, hit_present, hit}
 use Rattle.hp_model.specs.Interrupts.{is_target, hit_each, sent, smi_raised}
 use Rattle.hp_model.specs.Handlers.{Next}
-use Rattle.hp_model.specs.Step.{without_ejected, go_on}
+use Rattle.hp_model.specs.Ports.{without_ejected}
+use Rattle.hp_model.specs.Firmware.{go_on}
 use Rattle.hp_model.specs.Visible.{visible_mode, visible_cpu}
 
 abbrev pub AlikeCpu : Cpu → Cpu → Type 0

@@ -15,7 +15,10 @@ use Rattle.hp_model.specs.Interrupts.{decoded, sent, smi_raised}
 use Rattle.hp_model.specs.Ich9.{Ich9, ich9_write, raises_smi, with_event, processor_event}
 use Rattle.hp_model.specs.FwCfg.{FwCfg, selected, advanced, with_high, dma_address, without_high, has_broadcast}
 use Rattle.hp_model.specs.Transfers.{transfer}
-use Rattle.hp_model.specs.Step.{State, at, is_on_block, is_fw_cfg_selector, is_fw_cfg_data, is_dma_high, is_dma_low, after_read, without_ejected, write_block, start_transfer, write_ich9, write_port, answer_to, access_effect, insert, request_removal}
+use Rattle.hp_model.specs.State.{State, at}
+use Rattle.hp_model.specs.Ports.{is_on_block, is_fw_cfg_selector, is_fw_cfg_data, is_dma_high, is_dma_low, after_read, without_ejected, write_block, start_transfer, write_ich9, write_port}
+use Rattle.hp_model.specs.Access.{answer_to, access_effect}
+use Rattle.hp_model.specs.Step.{insert, request_removal}
 use Rattle.hp_model.specs.Visible.{IsAlike}
 use Rattle.hp_secrecy.specs.Shielded.{IsShielded}
 use Rattle.hp_secrecy.proofs.Bytes.{AlikeBytes, bytes_then, bytes_back, store_both, load_both, swap_both, swap_unseen}

@@ -16,7 +16,9 @@ use Rattle.hp_model.specs.declared.entries.Entry.{Entry}
 use Rattle.hp_model.specs.Platform.{IsFit, is_late}
 use Rattle.hp_model.specs.Cpu.{is_running, is_in_smm, is_unlatched, smm_address}
 use Rattle.hp_model.specs.Boot.{Stage, Boots, Refused, Handed, is_handed, stage_after}
-use Rattle.hp_model.specs.Step.{State, After, at, start, is_normal, is_halt, stands_in_smm, may_access, is_enabled, answer_of, step}
+use Rattle.hp_model.specs.State.{State, at, start}
+use Rattle.hp_model.specs.Access.{is_normal, is_halt, stands_in_smm, may_access}
+use Rattle.hp_model.specs.Step.{After, is_enabled, answer_of, step}
 use Rattle.hp_model.specs.Runs.{same_answer, same_address, address_of, accept, run_on, run_from, run}
 use Rattle.hp_model.specs.Visible.{IsAlike, visible_by, visible_entry}
 use Rattle.hp_secrecy.specs.Shielded.{IsShielded, StaysShielded, IsAlwaysShielded, events_of, GoAlike, GoOnAlike}

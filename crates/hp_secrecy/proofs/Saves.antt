@@ -10,7 +10,7 @@ use Rattle.hp_model.specs.View.{Locks, is_locked, stored}
 use Rattle.hp_model.specs.SaveArea.{smbase_field, revision_field, rip_field, revision, rip_of, saved}
 use Rattle.hp_model.specs.SharedBytes.{layout_of}
 use Rattle.hp_model.specs.Handlers.{slot_at, is_tile}
-use Rattle.hp_model.specs.Step.{State}
+use Rattle.hp_model.specs.State.{State}
 use Rattle.hp_secrecy.specs.Shielded.{is_base, IsShielded, AreLocked}
 use Rattle.hp_secrecy.proofs.Bytes.{AlikeBytes, bytes_then, store_unseen}
 

@@ -9,7 +9,7 @@ use Rattle.hp_model.specs.View.{Locks, tseg_size}
 use Rattle.hp_model.specs.Boot.{tseg_enabled, is_handed}
 use Rattle.hp_model.specs.SharedBytes.{layout_of}
 use Rattle.hp_model.specs.Handlers.{slot_at, is_tile}
-use Rattle.hp_model.specs.Step.{State, at, start}
+use Rattle.hp_model.specs.State.{State, at, start}
 use Rattle.hp_model.specs.Runs.{run, run_from}
 use Rattle.hp_sealed.specs.Left.{Sound, Locked}
 use Rattle.hp_sealed.specs.Sealed.{is_other_tile, is_based}

@@ -21,7 +21,10 @@ use Rattle.hp_model.specs.SaveArea.{saved, saved_smbase, saved_rip}
 use Rattle.hp_model.specs.Boot.{Stage, Boots, Refused, Handed, is_handed, stage_after, value_in}
 use Rattle.hp_model.specs.SharedBytes.{layout_of}
 use Rattle.hp_model.specs.Handlers.{Next, next_at}
-use Rattle.hp_model.specs.Step.{State, After, at, is_normal, stands_in_smm, may_access, can_do, is_enabled, seat, row_at, wanted, is_that_access, is_handlers, is_wanted, wanted_in, access_effect, enter_smm, answer_of, answer_to, effect_of, go_on, with_next, row_led, handlers_led, firmware_led, is_disturbed_by, after, step}
+use Rattle.hp_model.specs.State.{State, at}
+use Rattle.hp_model.specs.Access.{is_normal, stands_in_smm, may_access, access_effect, answer_to}
+use Rattle.hp_model.specs.Firmware.{seat, row_at, wanted, is_that_access, is_handlers, is_wanted, wanted_in, go_on, with_next, row_led, handlers_led, firmware_led}
+use Rattle.hp_model.specs.Step.{After, can_do, is_enabled, enter_smm, answer_of, effect_of, is_disturbed_by, after, step}
 use Rattle.hp_model.specs.Visible.{visible_mode, visible_cpu, IsAlike, is_made_in_smm}
 use Rattle.hp_secrecy.specs.Shielded.{IsShielded, StaysInside}
 use Rattle.hp_secrecy.proofs.Bytes.{AlikeBytes, bytes_then, bytes_back, store_unseen, swap_unseen}

@@ -10,7 +10,8 @@ use Rattle.hp_model.specs.declared.labels.Label.TheVariants.{F1, F2, F3, F4, F5,
 use Rattle.hp_model.specs.SharedBytes.{Layout, layout_of, gate}
 use Rattle.hp_model.specs.Monarch.{Monarch}
 use Rattle.hp_model.specs.Handlers.{Seat, want_at, wanted_at}
-use Rattle.hp_model.specs.Step.{State, seat, row_at, wanted, is_that_access}
+use Rattle.hp_model.specs.State.{State}
+use Rattle.hp_model.specs.Firmware.{seat, row_at, wanted, is_that_access}
 use Rattle.hp_model.proofs.Same.{same_access-equal}
 
 -- an access that is no compare and exchange, or the gate's

@@ -18,7 +18,10 @@ use Rattle.hp_model.specs.Labels.{label_with}
 use Rattle.hp_model.specs.Image.{image, with_cells, with_tiles, with_releases}
 use Rattle.hp_model.specs.SharedBytes.{layout_of}
 use Rattle.hp_model.specs.Handlers.{row_of}
-use Rattle.hp_model.specs.Step.{State, After, step, same_access, mark_at, row_at, at}
+use Rattle.hp_model.specs.State.{State, at}
+use Rattle.hp_model.specs.Access.{same_access}
+use Rattle.hp_model.specs.Firmware.{mark_at, row_at}
+use Rattle.hp_model.specs.Step.{After, step}
 use Rattle.hp_model.specs.Visible.{IsAlike}
 use Rattle.hp_secrecy.specs.Shielded.{is_base, IsShielded, AreTwins, AreLocked}
 use Rattle.hp_secrecy.specs.Worked.{two, entering, arrives, entered, arrived, handed_over, stored_outside, state_in, answer_in, led_by}

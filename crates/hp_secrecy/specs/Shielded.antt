@@ -9,7 +9,7 @@ use Rattle.hp_model.specs.View.{Locks, tseg_size, is_locked}
 use Rattle.hp_model.specs.Boot.{is_handed}
 use Rattle.hp_model.specs.SharedBytes.{Layout, layout_of}
 use Rattle.hp_model.specs.Handlers.{is_tile}
-use Rattle.hp_model.specs.Step.{State, at}
+use Rattle.hp_model.specs.State.{State, at}
 use Rattle.hp_model.specs.Runs.{run_from, run}
 use Rattle.hp_model.specs.Visible.{IsAlike, visible_entry}
 

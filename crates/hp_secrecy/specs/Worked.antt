@@ -8,7 +8,8 @@ use Rattle.hp_model.specs.declared.accesses.Answer.{Answer}
 use Rattle.hp_model.specs.declared.entries.Event.{Event}
 use Rattle.hp_model.specs.declared.entries.Event.TheVariants.{Do, TakeSmi}
 use Rattle.hp_model.specs.Boot.{boot_accesses}
-use Rattle.hp_model.specs.Step.{State, start, step}
+use Rattle.hp_model.specs.State.{State, start}
+use Rattle.hp_model.specs.Step.{step}
 
 -- the state that these events lead to; none where one is no step
 abbrev pub led_by : Platform → Option State → List Event → Option State

@@ -9,7 +9,7 @@ use Rattle.hp_model.specs.declared.entries.Entry.{Entry}
 use Rattle.hp_model.specs.Runs.{run, run_from, run_on}
 use Rattle.hp_model.specs.Safety.{IsSafe}
 use Rattle.hp_model.specs.Schedule.{booted, boot_fact, scheduled}
-use Rattle.hp_model.specs.Step.{State, start}
+use Rattle.hp_model.specs.State.{State, start}
 use Rattle.hp_config.specs.Reading.{Reading, good, broken, file_of, text_reading, IsReadAs}
 use Rattle.hp_config.specs.Sound.{IsSound}
 use Rattle.hp_boot.specs.Ending.{StopsAt, hands_over}

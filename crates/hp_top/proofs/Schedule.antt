@@ -10,7 +10,7 @@ use Rattle.hp_model.specs.declared.outcomes.BootFact.{BootFact}
 use Rattle.hp_model.specs.Schedule.{Scene, Made, both_make, act, act_all, hosts_of, cpus_of, actors_of, turns_from, scene_start, boot_turns, booted, boot_fact, scheduled}
 use Rattle.hp_model.specs.Boot.{fact_of}
 use Rattle.hp_model.specs.Runs.{run}
-use Rattle.hp_model.specs.Step.{State}
+use Rattle.hp_model.specs.State.{State}
 use Rattle.hp_model.specs.Text.{lines_text, end_text, head_text}
 use Rattle.hp_top.proofs.Sending.{sent_none, sent_more, sent_all, front_part}
 use Rattle.hp_top.proofs.Turning.{lines_text-append, both-assoc, act_all-append, act_all-one, sends_both, sends_empty, front_both, front_more}

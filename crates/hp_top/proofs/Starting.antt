@@ -8,7 +8,7 @@ use Rattle.hp_model.specs.declared.files.VoiceKind.{VoiceKind}
 use Rattle.hp_model.specs.Platform.{count_of}
 use Rattle.hp_model.specs.Runs.{run, run_from}
 use Rattle.hp_model.specs.Schedule.{scene_start}
-use Rattle.hp_model.specs.Step.{start}
+use Rattle.hp_model.specs.State.{start}
 use Rattle.hp_model.specs.Voices as model
 use Rattle.hp_agent.specs.declared.kinds.Voice.{Voice}
 use Rattle.hp_agent.specs.Kinds.{place_tells, all_tell}

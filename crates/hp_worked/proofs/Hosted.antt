@@ -13,7 +13,9 @@ use Rattle.hp_model.specs.declared.entries.Event.TheVariants.{Insert, Remove, Do
 use Rattle.hp_model.specs.declared.entries.Entry.{Entry}
 use Rattle.hp_model.specs.Hosting.{IsHosted, IsMadeAt, IsMarked, is_host, owner_of}
 use Rattle.hp_model.specs.Runs.{run}
-use Rattle.hp_model.specs.Step.{State, after, is_enabled, is_wanted, step}
+use Rattle.hp_model.specs.State.{State}
+use Rattle.hp_model.specs.Firmware.{is_wanted}
+use Rattle.hp_model.specs.Step.{after, is_enabled, step}
 use Rattle.hp_worked.specs.Adds.{an_add}
 use Rattle.hp_worked.specs.Entries.{does, takes_smi, inserts}
 use Rattle.hp_worked.specs.Files.{an_add_file}

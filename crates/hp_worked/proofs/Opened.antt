@@ -12,7 +12,9 @@ use Rattle.hp_model.specs.Boot.{boot_accesses, boot_access}
 use Rattle.hp_model.specs.Labels.{label_with}
 use Rattle.hp_model.specs.Image.{image, with_cells, with_tiles, with_releases}
 use Rattle.hp_model.specs.Handlers.{row_of}
-use Rattle.hp_model.specs.Step.{step, same_access, same_refusal, same_outcome, mark_at, row_at}
+use Rattle.hp_model.specs.Access.{same_access}
+use Rattle.hp_model.specs.Firmware.{same_refusal, same_outcome, mark_at, row_at}
+use Rattle.hp_model.specs.Step.{step}
 use Rattle.hp_model.specs.Runs.{run, run_from, run_on}
 use Rattle.hp_model.specs.Voices.{says}
 use Rattle.hp_model.specs.Schedule.{act, act_all, actors_of, turns_from, booted, boot_fact, scheduled}

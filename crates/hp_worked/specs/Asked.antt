@@ -7,7 +7,8 @@ use Rattle.hp_model.specs.declared.entries.Entry.{Entry}
 use Rattle.hp_model.specs.declared.files.File.{File}
 use Rattle.hp_model.specs.View.{is_locked}
 use Rattle.hp_model.specs.Boot.{Handed}
-use Rattle.hp_model.specs.Step.{State, at, start, stands_in_smm}
+use Rattle.hp_model.specs.State.{State, at, start}
+use Rattle.hp_model.specs.Access.{stands_in_smm}
 use Rattle.hp_model.specs.Platform.{count_of}
 use Rattle.hp_model.specs.Runs.{run, run_from, run_on}
 use Rattle.hp_model.specs.Schedule.{Scene, scene_start, boot_turns, turns_from}

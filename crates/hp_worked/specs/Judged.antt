@@ -4,7 +4,8 @@ use Rattle.hp_model.specs.declared.platforms.Platform.{Platform}
 use Rattle.hp_model.specs.declared.entries.Entry.{Entry}
 use Rattle.hp_model.specs.declared.files.File.{File}
 use Rattle.hp_model.specs.View.{is_locked}
-use Rattle.hp_model.specs.Step.{State, start, is_enabled, answer_of, effect_of}
+use Rattle.hp_model.specs.State.{State, start}
+use Rattle.hp_model.specs.Step.{is_enabled, answer_of, effect_of}
 use Rattle.hp_model.specs.Runs.{same_answer}
 use Rattle.hp_model.specs.Sessions.{flag_tells}
 use Rattle.hp_model.specs.Transitions.{Transition, transitions, transitions_by, at_each, at_each_state}

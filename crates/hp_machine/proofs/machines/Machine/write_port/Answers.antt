@@ -1,6 +1,6 @@
 -- A write of the register block.
 use Rattle.std.proofs.Common.{◌≡◌, true, None, sym, ◌∙◌, subst}
-use Rattle.hp_model.specs.Step.{is_on_block}
+use Rattle.hp_model.specs.Ports.{is_on_block}
 use Rattle.hp_machine.specs.Machine.{Machine, IsState}
 use Rattle.hp_machine.proofs.PortWrites.{ejected_state}
 use Rattle.hp_machine.proofs.machines.Machine.write_port.Goals as goal

@@ -4,7 +4,8 @@ use Rattle.hp_model.specs.declared.accesses.Want.{Want}
 use Rattle.hp_model.specs.declared.accesses.Want.TheVariants as want
 use Rattle.hp_model.specs.declared.entries.Event.TheVariants as event
 use Rattle.hp_model.specs.Boot.{is_handed}
-use Rattle.hp_model.specs.Step.{after, wanted}
+use Rattle.hp_model.specs.Firmware.{wanted}
+use Rattle.hp_model.specs.Step.{after}
 use Rattle.hp_monarch.specs.Session.{Session}
 use Rattle.hp_smm.specs.Rows.{want_for}
 use Rattle.hp_platform.specs.Board.{Board, Shows}

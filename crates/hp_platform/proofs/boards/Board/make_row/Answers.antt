@@ -4,7 +4,9 @@ use Rattle.hp_model.specs.declared.accesses.Want.{Want}
 use Rattle.hp_model.specs.declared.accesses.Want.TheVariants as want
 use Rattle.hp_model.specs.Boot.{is_handed}
 use Rattle.hp_model.specs.SharedBytes.{layout_of}
-use Rattle.hp_model.specs.Step.{State, after, row_at, seat}
+use Rattle.hp_model.specs.State.{State}
+use Rattle.hp_model.specs.Firmware.{row_at, seat}
+use Rattle.hp_model.specs.Step.{after}
 use Rattle.hp_machine.specs.Machine.{Machine}
 use Rattle.hp_model.specs.Fitting.{FitsWant}
 use Rattle.hp_monarch.specs.Session.{Session}

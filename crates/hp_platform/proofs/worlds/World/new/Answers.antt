@@ -3,7 +3,7 @@ use Rattle.std.proofs.Common.{ℕ, ◌+◌, List, replicate, None, sym, ap, subs
 use Rattle.hp_model.specs.declared.platforms.Platform.{Platform}
 use Rattle.hp_model.specs.declared.entries.Entry.{Entry}
 use Rattle.hp_model.specs.Platform.{IsFit, count_of, is_late}
-use Rattle.hp_model.specs.Step.{start}
+use Rattle.hp_model.specs.State.{start}
 use Rattle.hp_platform.specs.Board.{Shows}
 use Rattle.hp_platform.specs.World.{IsKept, idle_places}
 use Rattle.hp_platform.proofs.Turning.{kept_start}

@@ -1,6 +1,6 @@
 -- What a world keeps, as callers see it.
 use Rattle.std.proofs.Common.{IsSome, Option, refl, sym, subst}
-use Rattle.hp_model.specs.Step.{State}
+use Rattle.hp_model.specs.State.{State}
 use Rattle.hp_platform.specs.World.{IsSound, World}
 use Rattle.hp_platform.proofs.worlds.World.sound.Goals as goal
 

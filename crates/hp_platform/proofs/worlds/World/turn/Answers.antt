@@ -10,7 +10,8 @@ use Rattle.std.proofs.Common.{List}
 use Rattle.hp_model.specs.declared.entries.Entry.{Entry}
 use Rattle.hp_model.specs.declared.entries.Event.{Event}
 use Rattle.hp_model.specs.declared.entries.Event.TheVariants as event
-use Rattle.hp_model.specs.Step.{State, normal}
+use Rattle.hp_model.specs.State.{State}
+use Rattle.hp_model.specs.Access.{normal}
 use Rattle.hp_model.specs.Following.{told_at, without_agent}
 use Rattle.hp_agent.specs.Kinds.{hears_at}
 use Rattle.hp_agent.specs.Speaking.{Speaks, asked}
