@@ -11,6 +11,7 @@ pub mod Opened
 pub mod FedRecords
 pub mod Follows
 pub mod Hosted
+pub mod Hosting
 pub mod Runs
 pub mod SafeTraces
 pub mod Scheduled

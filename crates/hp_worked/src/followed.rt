@@ -3,6 +3,7 @@
 ghost use Rattle.std.specs.Prelude.{◌≡◌, ℕ, List, true, false, [], ◌∷◌, take};
 ghost use Rattle.hp_model.specs.declared.accesses.Access.TheVariants.{Out};
 ghost use Rattle.hp_model.specs.declared.accesses.Answer.TheVariants.{Quiet, Value};
+ghost use Rattle.hp_model.specs.declared.entries.Actor.TheVariants.{Insert};
 ghost use Rattle.hp_model.specs.Hosting.{IsHosted};
 ghost use Rattle.hp_model.specs.Schedule.{boot_turns};
 ghost use Rattle.hp_model.specs.Voices.{script, pen, silent};
@@ -64,15 +65,24 @@ pub fn unsaid_accesses_follow_no_voice()
     ensures pen_untold { follows_the_first an_add_file (script (Out 0xb2 1 0x4 ∷ Out 0xcd8 4 0x1 ∷ Out 0xcdc 1 0x2 ∷ [])) pen_stores_another ≡ true }
 {}
 
-/// The plainest add is hosted by its file's insert, from the boot's entries on: its mark is the number of entries at its turn.
+/// Host events host the entries of their run from the boot's on, each with its mark, the number of entries at its turn: the one insert of the plainest add; an
+/// insert and a removal of one turn; two inserts of one processor, which was ejected in between; and one that comes when its processor is there already, and
+/// makes no entry.
 #[tactic(auto, using(crate::proofs::Hosted::hosted))]
-pub fn a_worked_add_is_hosted()
-    ensures { IsHosted an_add_file.platform an_add (boot_turns an_add_file.platform) (hosts_of_file an_add_file) (27 ∷ []) }
+pub fn worked_runs_are_hosted()
+    ensures an_add { IsHosted an_add_file.platform an_add (boot_turns an_add_file.platform) (hosts_of_file an_add_file) (27 ∷ []) }
+    ensures host_events { IsHosted host_events_file.platform host_events (boot_turns host_events_file.platform) (hosts_of_file host_events_file) (27 ∷ 28 ∷ []) }
+    ensures ejected_and_added_again { IsHosted ejected_and_added_again_file.platform ejected_and_added_again (boot_turns ejected_and_added_again_file.platform) (hosts_of_file ejected_and_added_again_file) (27 ∷ 125 ∷ []) }
+    ensures inserted_twice { IsHosted an_add_file.platform an_add (boot_turns an_add_file.platform) (Insert 1 ∷ Insert 1 ∷ []) (27 ∷ 28 ∷ []) }
 {}
 
-/// Whatever the marks, it isn't hosted where there is no host event, and a run without the insert isn't hosted by the insert.
-#[tactic(auto, using(crate::proofs::Hosted::hosted))]
+/// Marks come in the order of the host events, and two equal inserts don't share one entry. Whatever the marks, the plainest add isn't hosted where there is no
+/// host event, and a run without the insert isn't hosted by the insert.
+#[tactic(auto, using(crate::proofs::Hosted::not_hosted))]
 pub fn hosts_and_entries_go_together()
+    ensures host_events_swapped { IsHosted host_events_file.platform host_events (boot_turns host_events_file.platform) (hosts_of_file host_events_file) (28 ∷ 27 ∷ []) → ⊥ }
+    ensures ejected_and_added_again_swapped { IsHosted ejected_and_added_again_file.platform ejected_and_added_again (boot_turns ejected_and_added_again_file.platform) (hosts_of_file ejected_and_added_again_file) (125 ∷ 27 ∷ []) → ⊥ }
+    ensures inserted_twice_at_once { IsHosted an_add_file.platform an_add (boot_turns an_add_file.platform) (Insert 1 ∷ Insert 1 ∷ []) (27 ∷ 27 ∷ []) → ⊥ }
     ensures without_a_host { (marks : List ℕ) → IsHosted an_add_file.platform an_add (boot_turns an_add_file.platform) [] marks → ⊥ }
     ensures is_run { is_run an_add_file insert_left_out ≡ true }
     ensures without_its_entry { (marks : List ℕ) → IsHosted an_add_file.platform insert_left_out (boot_turns an_add_file.platform) (hosts_of_file an_add_file) marks → ⊥ }

@@ -23,8 +23,8 @@ pub use ejects::{
     worked_ejects_are_runs, worked_tseg_is_refused,
 };
 pub use followed::{
-    a_worked_add_is_hosted, hosts_and_entries_go_together, unsaid_accesses_are_steps,
-    unsaid_accesses_follow_no_voice, voices_are_carried_on, worked_runs_follow_their_voices,
+    hosts_and_entries_go_together, unsaid_accesses_are_steps, unsaid_accesses_follow_no_voice,
+    voices_are_carried_on, worked_runs_are_hosted, worked_runs_follow_their_voices,
     worked_runs_leave_what_the_schedule_leaves,
 };
 pub use laws::{
