@@ -2,7 +2,6 @@
 use Rattle.std.proofs.Common.{◌≡◌, ◌≢◌, ℕ, Bool, true, false, ◌&&◌, ◌||◌, not, ◌==◌, List, length, Option, Some, None, refl, sym, ap, subst, ◌∙◌}
 use Rattle.std.specs.Prelude.{if◌then◌else◌}
 use Rattle.std.proofs.lemmas.Bool.{and_parts}
-use Rattle.std.proofs.lemmas.Option.{same_Some}
 use Rattle.hp_model.specs.declared.platforms.Platform.{Platform}
 use Rattle.hp_model.specs.declared.accesses.Access.{Access}
 use Rattle.hp_model.specs.declared.accesses.Access.TheVariants.{Load, Store, Swap, In, Out, CfgRead, CfgWrite, Icr, Halt, Nop}
@@ -13,14 +12,11 @@ use Rattle.hp_model.specs.declared.accesses.Want.TheVariants as want
 use Rattle.hp_model.specs.declared.outcomes.Outcome.{Outcome}
 use Rattle.hp_model.specs.declared.entries.Event.{Event}
 use Rattle.hp_model.specs.declared.entries.Event.TheVariants as event
-use Rattle.hp_model.specs.declared.labels.Label.{Label}
 use Rattle.hp_model.specs.Platform.{is_late}
 use Rattle.hp_model.specs.Boot.{Stage, Boots, Refused, Handed, is_booting, is_handed, boot_access, boot_next}
 use Rattle.hp_model.specs.Cpu.{is_in_smm}
 use Rattle.hp_model.specs.Fitting.{FitsAccess, FitsWant}
 use Rattle.hp_model.specs.declared.processors.Cpu.{Cpu}
-use Rattle.hp_model.specs.Handlers.{Seat, wanted_at}
-use Rattle.hp_model.specs.SharedBytes.{Layout}
 use Rattle.hp_model.specs.Monarch.{Monarch}
 use Rattle.hp_model.specs.State.{State, at}
 use Rattle.hp_model.specs.Ports.{write_port, is_on_block, is_fw_cfg_data, is_fw_cfg_selector, is_dma_high, is_dma_low}
@@ -29,7 +25,7 @@ use Rattle.hp_model.specs.Firmware.{is_handlers, is_wanted, wanted_in, is_that_a
 use Rattle.hp_model.specs.Step.{can_do, is_enabled, effect_of, answer_of}
 use Rattle.hp_model.proofs.Same.{same_access-equal}
 use Rattle.hp_machine.specs.Machine.{FitsEvent}
-use Rattle.hp_platform.specs.Board.{Board, IsReady, Shows, row_event}
+use Rattle.hp_platform.specs.Board.{Board, IsPlain, IsReady, IsRowEvent, Shows}
 
 -- the monarch's record is the firmware's alone
 either : (b : Bool) (m : Monarch) (x y : State) → x.monarch ≡ m → y.monarch ≡ m → (if b then x else y).monarch ≡ m
@@ -65,25 +61,13 @@ effect_keeps p s (event.Resume k) = refl
 effect_keeps p s (event.Tell o) = refl
 
 -- a row of a handler leads on
-rows : (b : Bool) (k j : ℕ) → (if b then Some k else None) ≡ Some j → (b ≡ true) × (k ≡ j)
-rows true k j e = (refl, same_Some k j e)
-rows false k j e = cc
-
-no_rows : (b : Bool) (k : ℕ) → (if b then Some k else None) ≡ None → b ≡ false
-no_rows true k e = cc
-no_rows false k e = refl
-
-pub handlers_led-row : (p : Platform) (s : State) (e : Event) (k : ℕ) (t : State) → row_event s e ≡ Some k → handlers_led p s e t ≡ row_led p s k (answer_of s e) (row_at p s k) t
-handlers_led-row p s (event.Insert j) k t e = cc
-handlers_led-row p s (event.Remove j) k t e = cc
-handlers_led-row p s (event.Do j a) k t e =
-    let is = rows (is_in_smm (at s j).mode) j k e in
-    ap (λ (b : Bool). if b then row_led p s j (answer_of s (event.Do j a)) (row_at p s j) t else t) is.0
-    ∙ ap (λ (i : ℕ). row_led p s i (answer_of s (event.Do j a)) (row_at p s i) t) is.1
-handlers_led-row p s (event.TakeSmi j) k t e = cc
-handlers_led-row p s (event.TakeInit j) k t e = cc
-handlers_led-row p s (event.Resume j) k t e = cc
-handlers_led-row p s (event.Tell o) k t e = ap (λ (i : ℕ). row_led p s i Quiet (row_at p s i) t) (same_Some 0 k e)
+pub handlers_led-row : (p : Platform) (s : State) (e : Event) (k : ℕ) (t : State) → IsRowEvent k e → is_in_smm (at s k).mode ≡ true →
+    handlers_led p s e t ≡ row_led p s k (answer_of s e) (row_at p s k) t
+handlers_led-row p s (event.Do j a) k t here in_smm =
+    subst (λ (i : ℕ). handlers_led p s (event.Do j a) t ≡ row_led p s i (answer_of s (event.Do j a)) (row_at p s i) t) here
+    (ap (λ (b : Bool). if b then row_led p s j (answer_of s (event.Do j a)) (row_at p s j) t else t) (subst (λ (i : ℕ). is_in_smm (at s i).mode ≡ true) (sym here) in_smm))
+handlers_led-row p s (event.Tell o) k t here in_smm = ap (λ (i : ℕ). row_led p s i Quiet (row_at p s i) t) (sym here)
+handlers_led-row p s _ k t here in_smm = absurd here
 
 -- of the other events SMI entry alone is told to the handlers
 abbrev pub plainly : Event → State → State
@@ -95,15 +79,10 @@ plainly (event.TakeInit k) t = t
 plainly (event.Resume k) t = t
 plainly (event.Tell o) t = t
 
-pub handlers_led-plain : (p : Platform) (s : State) (e : Event) (t : State) → row_event s e ≡ None → handlers_led p s e t ≡ plainly e t
-handlers_led-plain p s (event.Insert k) t e = refl
-handlers_led-plain p s (event.Remove k) t e = refl
-handlers_led-plain p s (event.Do k a) t e =
-    ap (λ (b : Bool). if b then row_led p s k (answer_of s (event.Do k a)) (row_at p s k) t else t) (no_rows (is_in_smm (at s k).mode) k e)
-handlers_led-plain p s (event.TakeSmi k) t e = refl
-handlers_led-plain p s (event.TakeInit k) t e = refl
-handlers_led-plain p s (event.Resume k) t e = refl
-handlers_led-plain p s (event.Tell o) t e = cc
+pub handlers_led-plain : (p : Platform) (s : State) (e : Event) (t : State) → IsPlain s e → handlers_led p s e t ≡ plainly e t
+handlers_led-plain p s (event.Do k a) t plain = ap (λ (b : Bool). if b then row_led p s k (answer_of s (event.Do k a)) (row_at p s k) t else t) plain
+handlers_led-plain p s (event.Tell o) t plain = absurd plain
+handlers_led-plain p s _ t plain = refl
 
 -- a wanted event says what is wanted
 abbrev IsThat : Option Want → Access → Type 0
@@ -159,36 +138,25 @@ boot_wants p mib (Boots done supported) s (event.Tell o) v same boots is fits = 
 boot_wants p mib (Refused fact) s e v same boots is fits = cc
 boot_wants p mib (Handed requested) s e v same boots is fits = cc
 
-refused_wants : (p : Platform) (st : Stage) (s : State) (e : Event) → is_booting st ≡ false → is_handed st ≡ false → wanted_in p s st e ≡ true → ⊥
-refused_wants p (Boots done supported) s e a b is = cc
-refused_wants p (Refused fact) s e a b is = cc
-refused_wants p (Handed requested) s e a b is = cc
-
--- what a handler's row wants: something, but not RSM, and what the event's answers fit
-pub record IsWanting (o : Option Want) (e : Event) : Type 0 where
-  pub some : o ≢ None
-  pub access : o ≢ Some want.Resume
-  pub fits : (v : Answer) → FitsEvent e v → FitsWant o v
+-- what is wanted has the event's answers
+abbrev IsWanting : Option Want → Event → Type 0
+IsWanting o e = (v : Answer) → FitsEvent e v → FitsWant o v
 
 wanting_access : (o : Option Want) (k : ℕ) (a : Access) → o ≡ Some (want.Do a) → IsWanting o (event.Do k a)
-wanting_access o k a is = subst (λ (w : Option Want). IsWanting w (event.Do k a)) (sym is) (record { some = λ e. cc; access = λ e. cc; fits = λ v fits. fits })
+wanting_access o k a is = subst (λ (w : Option Want). IsWanting w (event.Do k a)) (sym is) (λ v fits. fits)
 
 wanting_outcome : (o : Option Want) (u t : Outcome) → o ≡ Some (want.Tell t) → IsWanting o (event.Tell u)
-wanting_outcome o u t is = subst (λ (w : Option Want). IsWanting w (event.Tell u)) (sym is) (record { some = λ e. cc; access = λ e. cc; fits = λ v fits. fits })
+wanting_outcome o u t is = subst (λ (w : Option Want). IsWanting w (event.Tell u)) (sym is) (λ v fits. fits)
 
-row_wants : (p : Platform) (s : State) (e : Event) (k : ℕ) → row_event s e ≡ Some k → is_handlers p s e ≡ true → IsWanting (wanted p s k) e
-row_wants p s (event.Insert j) k row is = cc
-row_wants p s (event.Remove j) k row is = cc
-row_wants p s (event.Do j a) k row is =
-    let here = rows (is_in_smm (at s j).mode) j k row in
-    let that : is_that_access (wanted p s j) a ≡ true = subst (λ (b : Bool). (not b || is_that_access (wanted p s j) a) ≡ true) here.0 is in
-    subst (λ (i : ℕ). IsWanting (wanted p s i) (event.Do j a)) here.1 (wanting_access (wanted p s j) j a (that_access (wanted p s j) a that))
-row_wants p s (event.TakeSmi j) k row is = cc
-row_wants p s (event.TakeInit j) k row is = cc
-row_wants p s (event.Resume j) k row is = cc
-row_wants p s (event.Tell o) k row is =
+row_wants : (p : Platform) (s : State) (e : Event) (k : ℕ) → IsRowEvent k e → is_in_smm (at s k).mode ≡ true → is_handlers p s e ≡ true → IsWanting (wanted p s k) e
+row_wants p s (event.Do j a) k here in_smm is =
+    let that : is_that_access (wanted p s j) a ≡ true =
+    subst (λ (b : Bool). (not b || is_that_access (wanted p s j) a) ≡ true) (subst (λ (i : ℕ). is_in_smm (at s i).mode ≡ true) (sym here) in_smm) is in
+    subst (λ (i : ℕ). IsWanting (wanted p s i) (event.Do j a)) here (wanting_access (wanted p s j) j a (that_access (wanted p s j) a that))
+row_wants p s (event.Tell o) k here in_smm is =
     let told = that_outcome (wanted p s 0) o is in
-    subst (λ (i : ℕ). IsWanting (wanted p s i) (event.Tell o)) (same_Some 0 k row) (wanting_outcome (wanted p s 0) o told.outcome told.is)
+    subst (λ (i : ℕ). IsWanting (wanted p s i) (event.Tell o)) (sym here) (wanting_outcome (wanted p s 0) o told.outcome told.is)
+row_wants p s _ k here in_smm is = absurd here
 
 module _ (b : Board) (e : Event) (ready : IsReady b e) where
   abbrev s : State
@@ -215,26 +183,10 @@ module _ (b : Board) (e : Event) (ready : IsReady b e) where
       subst (λ (st : Stage). FitsAccess (boot_next b.boot.mib st) v) (sym ready.shows.stage)
       (boot_wants p b.boot.mib s.stage s e v ready.shows.mib (staged is_booting true boots) is_wanted-is fits)
 
-  pub ready_not_refused : is_booting b.boot.stage ≡ false → is_handed b.boot.stage ≡ false → ⊥
-  ready_not_refused boots handed = refused_wants p s.stage s e (staged is_booting false boots) (staged is_handed false handed) is_wanted-is
-
   module _ (handed : is_handed b.boot.stage ≡ true) where
     handlers_want : is_handlers p s e ≡ true
     handlers_want = handed_wants p s e (staged is_handed true handed) is_wanted-is
 
     -- whose row the event is, it wants that
-    pub ready_row : (k : ℕ) → ((t : State) → Shows b t → row_event t e ≡ Some k) → IsWanting (wanted p s k) e
-    ready_row k row = row_wants p s e k (row s ready.shows) handlers_want
-
--- RSM is wanted where it is made
-pub ready_rsm : (b : Board) (k : ℕ) (ready : IsReady b (event.Resume k)) → is_handed b.boot.stage ≡ true → wanted b.platform ready.state k ≡ Some want.Resume
-ready_rsm b k ready handed = that_rsm (wanted b.platform ready.state k) (handlers_want b (event.Resume k) ready handed)
-
--- who wants something has a row
-pub record IsAt (o : Option Label) : Type 0 where
-  pub label : Label
-  pub is : o ≡ Some label
-
-pub some_row : (y : Layout) (r : Monarch) (x : Seat) (o : Option Label) → wanted_at y r x o ≢ None → IsAt o
-some_row y r x None some = absurd (some refl)
-some_row y r x (Some l) some = record { label = l; is = refl }
+    pub ready_row : (k : ℕ) → IsRowEvent k e → is_in_smm (at s k).mode ≡ true → (v : Answer) → FitsEvent e v → FitsWant (wanted p s k) v
+    ready_row k here in_smm = row_wants p s e k here in_smm handlers_want

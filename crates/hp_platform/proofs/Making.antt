@@ -23,9 +23,9 @@ use Rattle.hp_boot.specs.Booting.{Booting}
 use Rattle.hp_monarch.specs.Session.{Session}
 use Rattle.hp_smm.specs.Rows.{next_for, row_for}
 use Rattle.hp_smm.specs.declared.handlers.Stand.{Stand}
-use Rattle.hp_platform.specs.Board.{Board, IsStand, Shows, goes_on, row_event, told}
+use Rattle.hp_platform.specs.Board.{Board, IsPlain, IsRowEvent, IsStand, Shows, goes_on, told}
 use Rattle.hp_platform.proofs.Leading.{effect_keeps, handlers_led-plain, handlers_led-row, plainly}
-use Rattle.hp_platform.proofs.Standing.{row-is}
+use Rattle.hp_platform.proofs.Standing.{marked_in_smm, row-is}
 
 -- the machine stands for a state whatever the firmware keeps
 with_firmware : (p : Platform) (m : Machine) (u : State) (r : Monarch) (g : Stage) (d : Bool) → IsState p m u → IsState p m (record u { monarch = r; stage = g; disturbed = d })
@@ -100,9 +100,9 @@ module _ (b c : Board) (m : Machine) (s : State) (e : Event) (v : Answer) (shows
     own_made = own_by s.stage refl (subst (λ (st : Stage). is_handed st ≡ true) shows.stage handed)
 
   -- a step that is no row
-  pub plain_made : c.machine ≡ m → row_event s e ≡ None → (same : c.handlers.layout ≡ b.handlers.layout) → c.handlers.monarch ≡ (plainly e w).monarch → Shows c (after b.platform s e).state
-  plain_made machine row layout monarch =
-      own_made (plainly e w) (handlers_led-plain b.platform s e w row)
+  pub plain_made : c.machine ≡ m → IsPlain s e → (same : c.handlers.layout ≡ b.handlers.layout) → c.handlers.monarch ≡ (plainly e w).monarch → Shows c (after b.platform s e).state
+  plain_made machine plain layout monarch =
+      own_made (plainly e w) (handlers_led-plain b.platform s e w plain)
       (subst (λ (n : Machine). IsState b.platform n (plainly e w)) (sym machine) (plain_state e)) layout monarch
     where
       plain_state : (x : Event) → IsState b.platform m (plainly x w)
@@ -119,7 +119,7 @@ module _ (b c : Board) (m : Machine) (s : State) (e : Event) (v : Answer) (shows
       plain_state (event.Tell o) = made.state
 
   -- a row: where its answer leads
-  module _ (k : ℕ) (x : Stand) (l : Label) (address base : ℕ) (stands : IsStand b.platform s k x) (row : row_event s e ≡ Some k) (label : row_for b.handlers x ≡ Some l)
+  module _ (k : ℕ) (x : Stand) (l : Label) (address base : ℕ) (stands : IsStand b.platform s k x) (row : IsRowEvent k e) (label : row_for b.handlers x ≡ Some l)
       (to : address ≡ address_of_label x.smbase (next_for b.handlers x l v).label) (with_base : base ≡ (next_for b.handlers x l v).base)
       (handlers : c.handlers ≡ record b.handlers { monarch = (next_for b.handlers x l v).monarch })
       (machine : c.machine ≡ record m { cpus = slice_set m.cpus k (goes_on address base (cpu_at m.cpus k)) }) where
@@ -145,7 +145,7 @@ module _ (b c : Board) (m : Machine) (s : State) (e : Event) (v : Answer) (shows
     label-is = sym (row-is b s k x shows stands) ∙ label
 
     led-is : handlers_led b.platform s e w ≡ t
-    led-is = handlers_led-row b.platform s e k w row ∙ ap (λ (o : Option Label). row_led b.platform s k (answer_of s e) o w) label-is
+    led-is = handlers_led-row b.platform s e k w row (marked_in_smm s k x.mark stands.mark) ∙ ap (λ (o : Option Label). row_led b.platform s k (answer_of s e) o w) label-is
 
     to-is : address ≡ address_of_label (at s k).smbase n.label
     to-is = to ∙ ap (λ (a : ℕ). address_of_label a (next_for b.handlers x l v).label) stands.smbase ∙ ap (λ (i : Next). address_of_label (at s k).smbase i.label) next-is

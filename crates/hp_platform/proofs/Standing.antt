@@ -1,23 +1,26 @@
 -- What the handlers are told of a processor in SMM is what the state has of it.
-use Rattle.std.proofs.Common.{◌≡◌, ℕ, Bool, true, false, ◌&&◌, Option, Some, None, option_map, option_and_then, refl, sym, ap, ◌∙◌}
+use Rattle.std.proofs.Common.{◌≡◌, ◌≤◌, ℕ, Bool, true, false, Option, Some, None, option_map, option_and_then, refl, sym, ap, subst, ◌∙◌}
 use Rattle.std.specs.Prelude.{if◌then◌else◌}
 use Rattle.hp_model.specs.declared.platforms.Platform.{Platform}
 use Rattle.hp_model.specs.declared.processors.Cpu.{Cpu}
 use Rattle.hp_model.specs.declared.processors.Mode.{Mode}
 use Rattle.hp_model.specs.declared.processors.Mode.TheVariants.{Wait, Running, Halted, Smm}
+use Rattle.hp_model.specs.declared.accesses.Access.{Access}
 use Rattle.hp_model.specs.declared.accesses.Want.{Want}
+use Rattle.hp_model.specs.declared.entries.Event.TheVariants as event
+use Rattle.hp_model.specs.declared.outcomes.Outcome.{Outcome}
 use Rattle.hp_model.specs.declared.labels.Label.{Label}
-use Rattle.hp_model.specs.Cpu.{address_in, is_in_smm, smm_address}
-use Rattle.hp_model.specs.Handlers.{row_of, seat_of, wanted_at}
+use Rattle.hp_model.specs.Boot.{is_handed}
+use Rattle.hp_model.specs.Cpu.{address_in, is_in_smm}
+use Rattle.hp_model.specs.Handlers.{row_of, seat_of, want_at, wanted_at}
 use Rattle.hp_model.specs.Monarch.{Monarch}
 use Rattle.hp_model.specs.SharedBytes.{Layout, layout_of}
 use Rattle.hp_model.specs.Platform.{apic_of}
 use Rattle.hp_model.specs.State.{State, at}
-use Rattle.hp_model.specs.Access.{stands_in_smm}
 use Rattle.hp_model.specs.Firmware.{mark_at, row_at, seat, wanted}
-use Rattle.hp_smm.specs.Rows.{row_for, want_for}
+use Rattle.hp_smm.specs.Rows.{row_for, seat_for, want_for}
 use Rattle.hp_smm.specs.declared.handlers.Stand.{Stand}
-use Rattle.hp_platform.specs.Board.{Board, IsStand, Shows}
+use Rattle.hp_platform.specs.Board.{Board, IsRow, IsStand, Shows}
 
 abbrev wants : Layout → Monarch → ℕ → ℕ → ℕ → Option Label → Option Want
 wants y r apic smbase base row = wanted_at y r (seat_of y apic smbase base) row
@@ -41,27 +44,43 @@ module _ (b : Board) (s : State) (k : ℕ) (x : Stand) (shows : Shows b s) (stan
       ∙ ap (λ (a : ℕ). wants (layout_of b.platform) s.monarch (apic_of b.platform k) (at s k).smbase a (row_for b.handlers x)) stands.base
       ∙ ap (wants (layout_of b.platform) s.monarch (apic_of b.platform k) (at s k).smbase (at s k).base) row-is
 
--- nothing stands at the instruction address of who isn't in SMM
-out_of : (c : Cpu) → smm_address c ≡ None → stands_in_smm c ≡ false
-out_of c e = by c.present c.mode e
-  where
-    by : (here : Bool) (m : Mode) → (if here then address_in m else None) ≡ None → (here && is_in_smm m) ≡ false
-    by false m e = refl
-    by true Wait e = refl
-    by true (Running page) e = refl
-    by true (Halted page) e = refl
-    by true (Smm address) e = cc
+  -- where no row is due, and what the row wants that is
+  pub row_none : row_for b.handlers x ≡ None → None ≡ wanted b.platform s k
+  row_none row = sym (ap (wanted_at b.handlers.layout b.handlers.monarch (seat_for b.handlers x)) row) ∙ want-is
 
-unmapped : (f : ℕ → ℕ) (o : Option ℕ) → option_map f o ≡ None → o ≡ None
-unmapped f None e = refl
-unmapped f (Some x) e = cc
+  pub row_some : (l : Label) (w : Want) → row_for b.handlers x ≡ Some l → want_at b.handlers.layout (seat_for b.handlers x) b.handlers.monarch l ≡ Some w → Some w ≡ wanted b.platform s k
+  row_some l w row is = sym (ap (wanted_at b.handlers.layout b.handlers.monarch (seat_for b.handlers x)) row ∙ is) ∙ want-is
 
-pub none_there : (s : State) (k : ℕ) → mark_at s k ≡ None → stands_in_smm (at s k) ≡ false
+-- who stands at a mark is in SMM
+in_smm_by : (f : ℕ → ℕ) (here : Bool) (m : Mode) (v : ℕ) → option_map f (if here then address_in m else None) ≡ Some v → is_in_smm m ≡ true
+in_smm_by f false m v e = absurd cc
+in_smm_by f true Wait v e = absurd cc
+in_smm_by f true (Running page) v e = absurd cc
+in_smm_by f true (Halted page) v e = absurd cc
+in_smm_by f true (Smm address) v e = refl
+
+pub marked_in_smm : (s : State) (k v : ℕ) → mark_at s k ≡ Some v → is_in_smm (at s k).mode ≡ true
 unfolding mark_at
-none_there s k e = out_of (at s k) (unmapped _ (smm_address (at s k)) e)
+marked_in_smm s k v e = in_smm_by _ (at s k).present (at s k).mode v e
 
 pub none_wanted : (p : Platform) (s : State) (k : ℕ) → mark_at s k ≡ None → wanted p s k ≡ None
 unfolding row_at
 none_wanted p s k e = ap (λ (o : Option ℕ). wanted_at (layout_of p) s.monarch (seat p s k) (option_and_then (row_of (layout_of p) s.monarch k (at s k).smbase) o)) e
 
-pub ruleset standing = (want-is, none_there, none_wanted)
+pub ruleset standing = (row_none, row_some, none_wanted)
+
+-- what a row wants, found
+stood_at : (p : Platform) (s : State) (k : ℕ) (x : Stand) → x.cpu ≡ k → IsStand p s k x → IsStand p s x.cpu x
+stood_at p s k x is stands = subst (λ (j : ℕ). IsStand p s j x) (sym is) stands
+
+pub access_found : (b : Board) (x : Stand) (l : Label) (k : ℕ) (a : Access) → is_handed b.boot.stage ≡ true → ((s : State) → Shows b s → IsStand b.platform s k x) → x.cpu ≡ k →
+    row_for b.handlers x ≡ Some l → x.smbase ≤ 0x90000000 → IsRow b x l (event.Do k a)
+access_found b x l k a handed stands cpu label smbase =
+    record { handed = handed; stands = λ s shows. stood_at b.platform s k x cpu (stands s shows); label = label; smbase = smbase; event = sym cpu }
+
+pub outcome_found : (b : Board) (x : Stand) (l : Label) (o : Outcome) → is_handed b.boot.stage ≡ true → ((s : State) → Shows b s → IsStand b.platform s 0 x) → x.cpu ≡ 0 →
+    row_for b.handlers x ≡ Some l → x.smbase ≤ 0x90000000 → IsRow b x l (event.Tell o)
+outcome_found b x l o handed stands cpu label smbase =
+    record { handed = handed; stands = λ s shows. stood_at b.platform s 0 x cpu (stands s shows); label = label; smbase = smbase; event = cpu }
+
+pub ruleset rows_found = (access_found, outcome_found)

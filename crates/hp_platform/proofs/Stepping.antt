@@ -15,7 +15,7 @@ use Rattle.hp_model.specs.declared.entries.Actor.{Actor}
 use Rattle.hp_model.specs.declared.entries.Actor.TheVariants as actor
 use Rattle.hp_model.specs.declared.entries.Event.{Event}
 use Rattle.hp_model.specs.declared.entries.Event.TheVariants as event
-use Rattle.hp_model.specs.Boot.{Stage, Boots, Refused, Handed, boot_access}
+use Rattle.hp_model.specs.Boot.{Stage, Boots, Refused, Handed, boot_access, is_handed}
 use Rattle.hp_model.specs.Cpu.{is_free, is_in_smm, is_running, is_unlatched, may_take_smi, may_take_init}
 use Rattle.hp_model.specs.Platform.{is_late}
 use Rattle.hp_model.specs.Runs.{IsStepBy, actor_of}
@@ -299,8 +299,10 @@ idle_none p s a idle = record { none = λ x its. unmade p s x (not_true (is_step
         by (Handed requested) at0 none =
             handed_some p s requested at0 a x its (left (is_enabled p s x) (is_wanted p s x) is) (sym (wants_handed p s requested at0 x) ∙ right (is_enabled p s x) (is_wanted p s x) is) none
 
--- a voice is asked, and any access that it says is a step, as the machine takes it
+-- a voice is asked, of a processor outside SMM, and any access that it says is a step, as the machine takes it
 pub record IsAsks (p : Platform) (s : State) (a : Actor) (k : ℕ) : Type 0 where
+  pub handed : is_handed s.stage ≡ true
+  pub outside : is_in_smm (at s k).mode ≡ false
   pub actor : a ≡ actor.Cpu k
   pub step : (x : Access) → is_step p s (event.Do k (normal x)) ≡ true
 
@@ -343,6 +345,8 @@ normal_is Nop = refl
 module _ (p : Platform) (s : State) where
   free_asks : (requested : ℕ) → s.stage ≡ Handed requested → (k : ℕ) → is_free (is_late p.delivery) (at s k) ≡ true → IsAsks p s (actor.Cpu k) k
   free_asks requested stage k free = record {
+    handed = ap is_handed stage;
+    outside = free_not_smm (is_late p.delivery) (at s k) free;
     actor = refl;
     step = λ x.
         is_made p s requested stage (event.Do k (normal x)) (both (is_normal (normal x)) (may_access (is_late p.delivery) (at s k) (normal x)) (normal_is x) (ap (λ (b : Bool). b || (stands_in_smm (at s k) && not (is_halt (normal x)))) free))

@@ -28,10 +28,10 @@ use Rattle.hp_model.specs.Voices.{Voice}
 use Rattle.hp_model.proofs.Scheduled.{run_from-append, same_address-refl, same_answer-refl}
 use Rattle.hp_agent.specs.Kinds.{hears_at}
 use Rattle.hp_agent.specs.Speaking.{Speaks, asked}
-use Rattle.hp_platform.specs.Board.{Board, IsReady, Shows, is_step}
+use Rattle.hp_platform.specs.Board.{Board, IsOther, IsReady, Shows, is_step}
 use Rattle.hp_platform.specs.World.{HasNone, IsIdle, IsKept, IsMade, IsNoted, IsSaid, IsStepOf, Says, WasIdle, World, asked_place, counted, counted_at, idle_place, idle_place_of, idle_places, noted, one_more, without_heard}
 use Rattle.hp_platform.proofs.Leading.{left}
-use Rattle.hp_platform.proofs.Stepping.{asks_is, makes_is}
+use Rattle.hp_platform.proofs.Stepping.{IsAsks, asks_is, makes_is}
 
 -- what making a step says
 pub record HasMade (b c : Board) (x : Event) (e : Entry) : Type 0 where
@@ -87,6 +87,15 @@ shown b es asked notes kept s is = subst (λ (t : State). Shows b t) (same_Some 
 
 pub ready_of : (b : Board) (es : List Entry) (asked : List ℕ) (notes : List (Option ℕ)) (x : Event) → IsKept b es asked notes → ((s : State) → Shows b s → is_step b.platform s x ≡ true) → IsReady b x
 ready_of b es asked notes x kept is = record { state = kept.replay.state; shows = kept.replay.shows; is = is kept.replay.state kept.replay.shows }
+
+-- what a voice says is made outside SMM, after the hand-over
+pub asks_found : (b : Board) (es : List Entry) (asked : List ℕ) (notes : List (Option ℕ)) (a : Actor) (k : ℕ) (x : Access) → IsKept b es asked notes →
+    ((s : State) → Shows b s → IsAsks b.platform s a k) → IsOther b (event.Do k x)
+asks_found b es asked notes a k x kept its =
+    record {
+      handed = ap is_handed kept.replay.shows.stage ∙ (its kept.replay.state kept.replay.shows).handed;
+      plain = λ s shows. (its s shows).outside;
+    }
 
 -- room alone was taken
 pub kept_same : (b c : Board) (es : List Entry) (asked : List ℕ) (notes : List (Option ℕ)) → IsKept b es asked notes → c.platform ≡ b.platform → ((s : State) → Shows b s → Shows c s) → IsKept c es asked notes

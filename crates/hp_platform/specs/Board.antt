@@ -1,9 +1,13 @@
 -- What contracts see of a machine with its firmware, and which states of the model it shows.
-use Rattle.std.specs.Prelude.{◌≡◌, ℕ, Bool, true, ◌&&◌, ◌==◌, List, Option, Some, None, if◌then◌else◌}
+use Rattle.std.specs.Prelude.{◌≡◌, ◌≤◌, ⊤, ⊥, ℕ, Bool, true, false, ◌&&◌, ◌==◌, List, Some, if◌then◌else◌}
 use Rattle.hp_model.specs.declared.platforms.Platform.{Platform}
 use Rattle.hp_model.specs.declared.entries.Event.{Event}
 use Rattle.hp_model.specs.declared.entries.Event.TheVariants.{Insert, Remove, Do, TakeSmi, TakeInit, Resume, Tell}
+use Rattle.hp_model.specs.declared.labels.Label.{Label}
 use Rattle.hp_model.specs.declared.processors.Cpu.{Cpu}
+use Rattle.hp_model.specs.declared.turns.Due.{Due}
+use Rattle.hp_model.specs.declared.turns.Due.TheVariants as due
+use Rattle.hp_model.specs.Boot.{is_booting, is_handed}
 use Rattle.hp_model.specs.Cpu.{is_in_smm, moved}
 use Rattle.hp_model.specs.Monarch.{restarted}
 use Rattle.hp_model.specs.Platform.{IsFit, apic_of}
@@ -15,7 +19,12 @@ use Rattle.hp_model.specs.Step.{is_enabled}
 use Rattle.hp_boot.specs.Booting.{Booting}
 use Rattle.hp_machine.specs.Machine.{Machine, IsState}
 use Rattle.hp_monarch.specs.Session.{Session}
+use Rattle.hp_smm.specs.Rows.{row_for}
 use Rattle.hp_smm.specs.declared.handlers.Stand.{Stand}
+use Rattle.hp_platform.specs.declared.boards.Found.{Found}
+use Rattle.hp_platform.specs.declared.boards.Found.TheVariants.{Boot, Row, Plain}
+use Rattle.hp_platform.specs.declared.boards.Finding.{Finding}
+use Rattle.hp_platform.specs.declared.boards.Finding.TheVariants as finding
 
 pub record Board : Type 0 where
   pub platform : Platform
@@ -54,15 +63,58 @@ pub record IsReady (b : Board) (e : Event) : Type 0 where
   pub shows : Shows b state
   pub is : is_step b.platform state e ≡ true
 
--- the processor whose row in SMM the event is: an access there, or an outcome that is told
-abbrev pub row_event : State → Event → Option ℕ
-row_event s (Insert k) = None
-row_event s (Remove k) = None
-row_event s (Do k a) = if is_in_smm (at s k).mode then Some k else None
-row_event s (TakeSmi k) = None
-row_event s (TakeInit k) = None
-row_event s (Resume k) = None
-row_event s (Tell o) = Some 0
+-- the event is what a row of this processor makes: an access, or of processor 0 an outcome that is told
+abbrev pub IsRowEvent : ℕ → Event → Type 0
+IsRowEvent k (Insert j) = ⊥
+IsRowEvent k (Remove j) = ⊥
+IsRowEvent k (Do j a) = j ≡ k
+IsRowEvent k (TakeSmi j) = ⊥
+IsRowEvent k (TakeInit j) = ⊥
+IsRowEvent k (Resume j) = ⊥
+IsRowEvent k (Tell o) = k ≡ 0
+
+-- the event is no row's answer: an access is made outside SMM
+abbrev pub IsPlain : State → Event → Type 0
+IsPlain s (Insert k) = ⊤
+IsPlain s (Remove k) = ⊤
+IsPlain s (Do k a) = is_in_smm (at s k).mode ≡ false
+IsPlain s (TakeSmi k) = ⊤
+IsPlain s (TakeInit k) = ⊤
+IsPlain s (Resume k) = ⊤
+IsPlain s (Tell o) = ⊥
+
+-- what was found of a row: where its processor stands, and its label
+pub record IsRow (b : Board) (x : Stand) (l : Label) (e : Event) : Type 0 where
+  pub handed : is_handed b.boot.stage ≡ true
+  pub stands : (s : State) → Shows b s → IsStand b.platform s x.cpu x
+  pub label : row_for b.handlers x ≡ Some l
+  pub smbase : x.smbase ≤ 0x90000000
+  pub event : IsRowEvent x.cpu e
+
+pub record IsOther (b : Board) (e : Event) : Type 0 where
+  pub handed : is_handed b.boot.stage ≡ true
+  pub plain : (s : State) → Shows b s → IsPlain s e
+
+abbrev pub IsFound : Board → Found → Type 0
+IsFound b (Boot e) = is_booting b.boot.stage ≡ true
+IsFound b (Row x l e) = IsRow b x l e
+IsFound b (Plain e) = IsOther b e
+
+-- the step that was found, and what a turn comes to
+abbrev pub event_of : Found → Event
+event_of (Boot e) = e
+event_of (Row x l e) = e
+event_of (Plain e) = e
+
+abbrev pub due_by : Finding → Due
+due_by finding.Idle = due.Idle
+due_by (finding.Makes f) = due.Makes (event_of f)
+due_by (finding.Asks k) = due.Asks k
+
+abbrev pub IsFinding : Board → Finding → Type 0
+IsFinding b finding.Idle = ⊤
+IsFinding b (finding.Makes f) = IsFound b f
+IsFinding b (finding.Asks k) = ⊤
 
 -- a processor that is in SMM goes on at this instruction address, with this base
 abbrev pub goes_on : ℕ → ℕ → Cpu → Cpu

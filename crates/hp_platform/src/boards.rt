@@ -1,29 +1,53 @@
 //! The machine with its boot and its handlers, between two steps.
 
-ghost use Rattle.std.specs.Prelude.{◌≡◌, ◌≤◌, ◌<◌, true, false, IfOk, IfSome, OnErr, OnOk, None, Some, length, slice_set};
+ghost use Rattle.std.specs.Prelude.{◌≡◌, ◌≤◌, ◌<◌, true, IfOk, IfSome, OnErr, OnOk, None, Some, length, option_map, slice_set};
 ghost use Rattle.hp_model.specs.Block.{ejected_by};
 ghost use Rattle.hp_model.specs.Boot.{fact_of, is_booting, is_handed};
 ghost use Rattle.hp_model.specs.declared.platforms.Platform.{Platform as APlatform};
-ghost use Rattle.hp_model.specs.Cpu.{cpu_at, is_in_smm as is_smm, page_of};
+ghost use Rattle.hp_model.specs.Cpu.{cpu_at, page_of};
 ghost use Rattle.hp_model.specs.Platform.{IsFit, apic_of, is_late as comes_late};
 ghost use Rattle.hp_model.specs.Runs.{address_of as address_in};
 ghost use Rattle.hp_model.specs.State.{State, at, start};
+ghost use Rattle.hp_model.specs.Access.{stands_in_smm};
 ghost use Rattle.hp_model.specs.Firmware.{mark_at, wanted};
 ghost use Rattle.hp_model.specs.Step.{after as step_after, answer_of, can_do};
 ghost use Rattle.hp_machine.specs.Machine.{FitsEvent, IsState, IsStep};
 ghost use Rattle.hp_reloc.specs.Relocating.{greatest};
-ghost use Rattle.hp_platform.specs.Board.{IsReady, IsStand, Shows, goes_on, row_event, told};
+ghost use Rattle.hp_smm.specs.Rows.{row_for};
+ghost use Rattle.hp_platform.specs.Board.{IsFinding, IsFound, IsOther, IsReady, IsRow, IsStand, Shows, due_by, event_of, goes_on, told};
 ghost use Rattle.hp_model.specs.Turn.{due_of, boot_due as due_in_boot, cpu_due as due_of_cpu, handed_due as due_after_boot, makes_if, smm_due};
 
 use hp_boot::{Boot, BootStage};
 use hp_image::image;
 use hp_machine::Machine;
 use hp_model::{
-    Access, Actor, Answer, BootFact, Cpu, Delivery, Due, Event, Mode, NoMemory, Platform, Want,
+    Access, Actor, Answer, BootFact, Cpu, Delivery, Event, Label, Mode, NoMemory, Platform, Want,
 };
 use hp_smm::{Handlers, Stand};
 use std::alloc::Global;
 use std::marker::Model;
+
+/// A step that is due, with what was found of it.
+#[derive(Clone, Copy)]
+pub(crate) enum Found {
+    /// The boot's next access.
+    Boot(Event),
+    /// A row of a handler: where its processor stands, its label, and the event that it wants.
+    Row(Stand, Label, Event),
+    /// A step whose answer no handler takes.
+    Plain(Event),
+}
+
+/// What an actor's turn comes to.
+#[derive(Clone, Copy)]
+pub(crate) enum Finding {
+    /// No step.
+    Idle,
+    /// This step, which no agent has a say in.
+    Makes(Found),
+    /// Any access that the agent of this processor says.
+    Asks(u32),
+}
 
 /// The machine, its boot and its handlers.
 #[derive(Drop)]
@@ -55,10 +79,11 @@ pub(crate) fn is_late(p: &Platform) -> bool
     }
 }
 
+/// Whether a present processor is in SMM.
 fn is_in_smm(cpu: &Cpu) -> bool
-    ensures { result ≡ is_smm cpu.now.mode }
+    ensures { result ≡ stands_in_smm cpu.now }
 {
-    matches!(cpu.mode, Mode::Smm(_))
+    cpu.present && matches!(cpu.mode, Mode::Smm(_))
 }
 
 /// The machine's part of a step. Room for it was taken.
@@ -80,7 +105,7 @@ fn step(machine: &mut Machine, event: &Event) -> Answer
 fn go_on(machine: &mut Machine, k: u32, address: u32, base: u32)
     ensures { machine.new ≡ record machine.old { cpus = slice_set machine.old.cpus k (goes_on address base (cpu_at machine.old.cpus k)) } }
 {
-    if machine.enabled(&Event::Resume(k)) {
+    if is_in_smm(&machine.cpu(k)) {
         machine.go(k, address, base);
     }
 }
@@ -124,6 +149,17 @@ fn tell(handlers: &mut Handlers, event: &Event)
 {
     if let Event::TakeSmi(k) = *event {
         handlers.entered(k);
+    }
+}
+
+impl Found {
+    /// The step.
+    pub(crate) fn event(&self) -> Event
+        ensures { result ≡ event_of self.now }
+    {
+        match *self {
+            Found::Boot(event) | Found::Row(_, _, event) | Found::Plain(event) => event,
+        }
     }
 }
 
@@ -188,85 +224,107 @@ impl Board {
         stand_of(&self.machine, &self.platform, k)
     }
 
-    /// What a processor in SMM wants; None where it isn't in SMM, or no handler's row is due.
+    /// The row of a processor in SMM: where it stands, its label, and what it wants. None where it isn't in SMM, or no handler's
+    /// row is due.
     #[tactic(auto, using(crate::proofs::Standing::standing))]
-    fn want(&self, k: u32) -> Option<Want>
-        ensures { (s : State) → Shows self.now s → result ≡ wanted self.now.platform s k }
+    fn row(&self, k: u32) -> Option<(Stand, Label, Want)>
+        ensures wanted { (s : State) → Shows self.now s → option_map (λ row. row.2) result ≡ wanted self.now.platform s k }
+        ensures stands { (s : State) → Shows self.now s → IfSome result (λ row. IsStand self.now.platform s k row.0) }
+        ensures cpu { IfSome result (λ row. row.0.cpu ≡ k) }
+        ensures label { IfSome result (λ row. row_for self.now.handlers row.0 ≡ Some row.1) }
+        ensures smbase { IfSome result (λ row. row.0.smbase ≤ 0x90000000) }
     {
-        match self.stand(k) {
-            Some(stand) => self.handlers.want(&stand),
+        let Some(stand) = self.stand(k) else {
+            return None;
+        };
+        match self.handlers.row(&stand) {
+            Some((label, want)) => Some((stand, label, want)),
             None => None,
         }
     }
 
-    fn makes_if(&self, event: Event) -> Due
-        ensures { (s : State) → Shows self.now s → result ≡ makes_if self.now.platform s event }
+    fn makes_if(&self, found: Found) -> Finding
+        ensures due { (s : State) → Shows self.now s → due_by result ≡ makes_if self.now.platform s (event_of found) }
+        ensures found { IsFound self.now found → IsFinding self.now result }
     {
-        if self.machine.enabled(&event) {
-            Due::Makes(event)
+        if self.machine.enabled(&found.event()) {
+            Finding::Makes(found)
         } else {
-            Due::Idle
+            Finding::Idle
         }
     }
 
-    fn boot_due(&self, actor: Actor) -> Due
+    fn boot_due(&self, actor: Actor) -> Finding
         requires { is_booting self.now.boot.stage ≡ true }
-        ensures { (s : State) → Shows self.now s → result ≡ due_of self.now.platform s actor }
+        ensures due { (s : State) → Shows self.now s → due_by result ≡ due_of self.now.platform s actor }
+        ensures found { IsFinding self.now result }
     {
         match actor {
-            Actor::Cpu(0) => self.makes_if(Event::Do(0, self.boot.want())),
-            _ => Due::Idle,
+            Actor::Cpu(0) => self.makes_if(Found::Boot(Event::Do(0, self.boot.want()))),
+            _ => Finding::Idle,
         }
     }
 
-    fn smm_due(&self, k: u32) -> Due
-        ensures { (s : State) → Shows self.now s → result ≡ smm_due self.now.platform s k (wanted self.now.platform s k) }
+    #[tactic(auto, using(crate::proofs::Standing::rows_found))]
+    fn smm_due(&self, k: u32) -> Finding
+        requires { is_handed self.now.boot.stage ≡ true }
+        ensures due { (s : State) → Shows self.now s → due_by result ≡ smm_due self.now.platform s k (wanted self.now.platform s k) }
+        ensures found { IsFinding self.now result }
     {
-        match self.want(k) {
-            Some(Want::Do(access)) => self.makes_if(Event::Do(k, access)),
-            Some(Want::Tell(outcome)) if k == 0 => self.makes_if(Event::Tell(outcome)),
-            Some(Want::Resume) => self.makes_if(Event::Resume(k)),
-            Some(Want::Tell(_)) | None => Due::Idle,
+        match self.row(k) {
+            Some((stand, label, Want::Do(access))) => {
+                self.makes_if(Found::Row(stand, label, Event::Do(k, access)))
+            }
+            Some((stand, label, Want::Tell(outcome))) if k == 0 => {
+                self.makes_if(Found::Row(stand, label, Event::Tell(outcome)))
+            }
+            Some((_, _, Want::Resume)) => self.makes_if(Found::Plain(Event::Resume(k))),
+            Some((_, _, Want::Tell(_))) | None => Finding::Idle,
         }
     }
 
-    fn cpu_due(&self, k: u32) -> Due
-        ensures { (s : State) → Shows self.now s → result ≡ due_of_cpu self.now.platform s k }
+    fn cpu_due(&self, k: u32) -> Finding
+        requires { is_handed self.now.boot.stage ≡ true }
+        ensures due { (s : State) → Shows self.now s → due_by result ≡ due_of_cpu self.now.platform s k }
+        ensures found { IsFinding self.now result }
     {
         if !is_late(&self.platform) && self.machine.enabled(&Event::TakeSmi(k)) {
-            return Due::Makes(Event::TakeSmi(k));
+            return Finding::Makes(Found::Plain(Event::TakeSmi(k)));
         }
         if self.machine.enabled(&Event::TakeInit(k)) {
-            return Due::Makes(Event::TakeInit(k));
+            return Finding::Makes(Found::Plain(Event::TakeInit(k)));
         }
-        if self.machine.enabled(&Event::Resume(k)) {
+        if is_in_smm(&self.machine.cpu(k)) {
             return self.smm_due(k);
         }
         if self.machine.enabled(&Event::Do(k, Access::Halt)) {
-            return Due::Asks(k);
+            return Finding::Asks(k);
         }
-        Due::Idle
+        Finding::Idle
     }
 
-    fn handed_due(&self, actor: Actor) -> Due
-        ensures { (s : State) → Shows self.now s → result ≡ due_after_boot self.now.platform s actor }
+    fn handed_due(&self, actor: Actor) -> Finding
+        requires { is_handed self.now.boot.stage ≡ true }
+        ensures due { (s : State) → Shows self.now s → due_by result ≡ due_after_boot self.now.platform s actor }
+        ensures found { IsFinding self.now result }
     {
         match actor {
-            Actor::Insert(k) => self.makes_if(Event::Insert(k)),
-            Actor::Remove(k) => self.makes_if(Event::Remove(k)),
+            Actor::Insert(k) => self.makes_if(Found::Plain(Event::Insert(k))),
+            Actor::Remove(k) => self.makes_if(Found::Plain(Event::Remove(k))),
             Actor::Cpu(k) => self.cpu_due(k),
-            Actor::Smi(k) => self.makes_if(Event::TakeSmi(k)),
+            Actor::Smi(k) => self.makes_if(Found::Plain(Event::TakeSmi(k))),
         }
     }
 
     /// What the actor's turn comes to.
-    pub(crate) fn due(&self, actor: Actor) -> Due
-        ensures { (s : State) → Shows self.now s → result ≡ due_of self.now.platform s actor }
+    pub(crate) fn due(&self, actor: Actor) -> Finding
+        ensures due { (s : State) → Shows self.now s → due_by result ≡ due_of self.now.platform s actor }
+        ensures found { IsFinding self.now result }
     {
         match self.boot.stage() {
             BootStage::More => self.boot_due(actor),
             BootStage::Handed(_) => self.handed_due(actor),
-            BootStage::Refused(_) => Due::Idle,
+            BootStage::Refused(_) => Finding::Idle,
         }
     }
 
@@ -280,17 +338,6 @@ impl Board {
                 self.machine.address(k)
             }
             Event::Tell(_) => self.machine.address(0),
-        }
-    }
-
-    /// The processor whose row in SMM the event is.
-    fn row_of(&self, e: &Event) -> Option<u32>
-        ensures { (s : State) → Shows self.now s → result ≡ row_event s e.now }
-    {
-        match *e {
-            Event::Do(k, _) if is_in_smm(&self.machine.cpu(k)) => Some(k),
-            Event::Tell(_) => Some(0),
-            _ => None,
         }
     }
 
@@ -312,49 +359,26 @@ impl Board {
     }
 
     /// A row of a handler: its answer leads the processor on.
-    fn make_row(&mut self, k: u32, event: &Event) -> Answer
+    fn make_row(&mut self, stand: &Stand, label: Label, event: &Event) -> Answer
         requires room { 272 ≤ self.old.machine.memory.spare }
         requires ready { IsReady self.old event.now }
-        requires handed { is_handed self.old.boot.stage ≡ true }
-        requires row { (s : State) → Shows self.old s → row_event s event.now ≡ Some k }
+        requires row { IsRow self.old stand.now label event.now }
         ensures platform { self.new.platform ≡ self.old.platform }
         ensures state { (s : State) → Shows self.old s → Shows self.new (step_after self.old.platform s event.now).state }
         ensures answer { (s : State) → Shows self.old s → result ≡ answer_of s event.now }
         ensures ejected { self.new.machine.ejected ≡ ejected_by self.old.machine.block self.new.machine.block }
     {
-        let Some(stand) = self.stand(k) else {
-            unreachable!()
-        };
         let answer = step(&mut self.machine, event);
-        let (address, base) = self.handlers.feed(&stand, answer);
-        go_on(&mut self.machine, k, address, base);
+        let (address, base) = self.handlers.feed(stand, label, answer);
+        go_on(&mut self.machine, stand.cpu, address, base);
         answer
     }
 
-    /// RSM, which the processor wanted.
-    fn make_resume(&mut self, k: u32) -> Answer
-        requires room { 272 ≤ self.old.machine.memory.spare }
-        requires ready { IsReady self.old (Event.Resume k) }
-        requires handed { is_handed self.old.boot.stage ≡ true }
-        ensures platform { self.new.platform ≡ self.old.platform }
-        ensures state { (s : State) → Shows self.old s → Shows self.new (step_after self.old.platform s (Event.Resume k)).state }
-        ensures answer { (s : State) → Shows self.old s → result ≡ answer_of s (Event.Resume k) }
-        ensures ejected { self.new.machine.ejected ≡ ejected_by self.old.machine.block self.new.machine.block }
-    {
-        let Some(stand) = self.stand(k) else {
-            unreachable!()
-        };
-        let answer = step(&mut self.machine, &Event::Resume(k));
-        self.handlers.left(&stand);
-        answer
-    }
-
-    /// A step that is no handler's row and no RSM. SMI entry is told to the handlers.
+    /// A step whose answer no handler takes. SMI entry is told to the handlers.
     fn make_plain(&mut self, event: &Event) -> Answer
         requires room { 272 ≤ self.old.machine.memory.spare }
         requires ready { IsReady self.old event.now }
-        requires handed { is_handed self.old.boot.stage ≡ true }
-        requires row { (s : State) → Shows self.old s → row_event s event.now ≡ None }
+        requires other { IsOther self.old event.now }
         ensures platform { self.new.platform ≡ self.old.platform }
         ensures state { (s : State) → Shows self.old s → Shows self.new (step_after self.old.platform s event.now).state }
         ensures answer { (s : State) → Shows self.old s → result ≡ answer_of s event.now }
@@ -365,38 +389,20 @@ impl Board {
         answer
     }
 
-    /// A step after the hand-over.
-    fn make_own(&mut self, event: &Event) -> Answer
-        requires room { 272 ≤ self.old.machine.memory.spare }
-        requires ready { IsReady self.old event.now }
-        requires handed { is_handed self.old.boot.stage ≡ true }
-        ensures platform { self.new.platform ≡ self.old.platform }
-        ensures state { (s : State) → Shows self.old s → Shows self.new (step_after self.old.platform s event.now).state }
-        ensures answer { (s : State) → Shows self.old s → result ≡ answer_of s event.now }
-        ensures ejected { self.new.machine.ejected ≡ ejected_by self.old.machine.block self.new.machine.block }
-    {
-        if let Event::Resume(k) = *event {
-            return self.make_resume(k);
-        }
-        match self.row_of(event) {
-            Some(k) => self.make_row(k, event),
-            None => self.make_plain(event),
-        }
-    }
-
     /// Makes a step that is due: the machine's, and what the firmware makes of its answer. Room for it was taken.
-    pub(crate) fn make(&mut self, event: &Event) -> Answer
+    pub(crate) fn make(&mut self, found: &Found) -> Answer
         requires room { 272 ≤ self.old.machine.memory.spare }
-        requires ready { IsReady self.old event.now }
+        requires ready { IsReady self.old (event_of found.now) }
+        requires found { IsFound self.old found.now }
         ensures platform { self.new.platform ≡ self.old.platform }
-        ensures state { (s : State) → Shows self.old s → Shows self.new (step_after self.old.platform s event.now).state }
-        ensures answer { (s : State) → Shows self.old s → result ≡ answer_of s event.now }
+        ensures state { (s : State) → Shows self.old s → Shows self.new (step_after self.old.platform s (event_of found.now)).state }
+        ensures answer { (s : State) → Shows self.old s → result ≡ answer_of s (event_of found.now) }
         ensures ejected { self.new.machine.ejected ≡ ejected_by self.old.machine.block self.new.machine.block }
     {
-        match self.boot.stage() {
-            BootStage::More => self.make_boot(event),
-            BootStage::Handed(_) => self.make_own(event),
-            BootStage::Refused(_) => unreachable!(),
+        match *found {
+            Found::Boot(event) => self.make_boot(&event),
+            Found::Row(stand, label, event) => self.make_row(&stand, label, &event),
+            Found::Plain(event) => self.make_plain(&event),
         }
     }
 

@@ -11,14 +11,14 @@ ghost use Rattle.hp_model.specs.Safety.{IsSafe};
 ghost use Rattle.hp_model.specs.State.{State};
 ghost use Rattle.hp_model.specs.Access.{normal as normal_of};
 ghost use Rattle.hp_model.specs.Step.{after as step_after, answer_of};
-ghost use Rattle.hp_platform.specs.Board.{IsReady, Shows};
+ghost use Rattle.hp_platform.specs.Board.{IsFound, IsReady, Shows, event_of};
 ghost use Rattle.hp_platform.specs.World.{IsSound, IsTurned, asked_place, counted, counted_at, idle_place_of, idle_places, noted, turns_at, turns_of, without_heard};
 
-use crate::boards::{Board, is_late};
+use crate::boards::{Board, Finding, Found, is_late};
 use crate::normal::normal;
 use hp_agent::{Agent, Agents};
 use hp_exact::runs_are_safe;
-use hp_model::{Actor, Answer, BootFact, Due, Entry, Event, NoMemory, Platform};
+use hp_model::{Actor, Answer, BootFact, Entry, Event, NoMemory, Platform};
 use std::alloc::Global;
 use std::marker::Model;
 
@@ -189,25 +189,23 @@ fn drop_ejected<A: Agent>(agents: &mut Agents<A>, ejected: Option<u32>)
 }
 
 /// Makes a step that is due, and its entry. Room for both was taken.
-fn make(board: &mut Board, entries: &mut Vec<Entry>, event: &Event) -> Entry
+fn make(board: &mut Board, entries: &mut Vec<Entry>, found: &Found) -> Entry
     requires room { 272 ≤ board.old.machine.memory.spare }
     requires capacity { vec_len entries.old < vec_capacity entries.old }
-    requires ready { IsReady board.old event.now }
+    requires ready { IsReady board.old (event_of found.now) }
+    requires found { IsFound board.old found.now }
     ensures platform { board.new.platform ≡ board.old.platform }
     ensures entries { entries.new.items ≡ entries.old.items ++ result ∷ [] }
-    ensures event { result.event ≡ event.now }
-    ensures address { (s : State) → Shows board.old s → result.at ≡ address_of s event.now }
-    ensures answer { (s : State) → Shows board.old s → result.answer ≡ answer_of s event.now }
-    ensures state { (s : State) → Shows board.old s → Shows board.new (step_after board.old.platform s event.now).state }
+    ensures event { result.event ≡ event_of found.now }
+    ensures address { (s : State) → Shows board.old s → result.at ≡ address_of s (event_of found.now) }
+    ensures answer { (s : State) → Shows board.old s → result.answer ≡ answer_of s (event_of found.now) }
+    ensures state { (s : State) → Shows board.old s → Shows board.new (step_after board.old.platform s (event_of found.now)).state }
     ensures ejected { board.new.machine.ejected ≡ ejected_by board.old.machine.block board.new.machine.block }
 {
-    let at = board.address_of(event);
-    let answer = board.make(event);
-    let entry = Entry {
-        event: *event,
-        at,
-        answer,
-    };
+    let event = found.event();
+    let at = board.address_of(&event);
+    let answer = board.make(found);
+    let entry = Entry { event, at, answer };
     entries.push_reserved(entry);
     entry
 }
@@ -264,23 +262,23 @@ impl<A: Agent> World<A> {
         let place = place_in(self.board.platform(), a);
         count_turn(&mut self.asked, count, a);
         match self.board.due(a) {
-            Due::Idle => {
+            Finding::Idle => {
                 let handed = self.board.handed();
                 note_idle(&mut self.idle, handed, place, many(&self.entries));
                 Ok(Turn::Idle)
             }
-            Due::Makes(event) => {
-                let entry = make(&mut self.board, &mut self.entries, &event);
+            Finding::Makes(found) => {
+                let entry = make(&mut self.board, &mut self.entries, &found);
                 drop_ejected(&mut self.agents, self.board.ejected());
                 Ok(Turn::Made(entry))
             }
-            Due::Asks(k) => {
+            Finding::Asks(k) => {
                 let page = self.board.page(k);
                 let access = self
                     .agents
                     .next(k, page, answer_at(self.last.as_slice(), k));
-                let event = Event::Do(k, normal(access));
-                let entry = make(&mut self.board, &mut self.entries, &event);
+                let found = Found::Plain(Event::Do(k, normal(access)));
+                let entry = make(&mut self.board, &mut self.entries, &found);
                 note_answer(&mut self.last, k, entry.answer);
                 drop_ejected(&mut self.agents, self.board.ejected());
                 Ok(Turn::Made(entry))

@@ -1,7 +1,6 @@
 //! Which answers fit what the firmware wants.
 
-ghost use Rattle.std.specs.Prelude.{◌<◌, ◌^◌, ◌≢◌, IsTrue, Some};
-ghost use Rattle.hp_model.specs.declared.accesses.Want.TheVariants as wants;
+ghost use Rattle.std.specs.Prelude.{◌<◌, ◌^◌, IsTrue, Some};
 ghost use Rattle.hp_model.specs.Fitting.{FitsAccess, FitsWant};
 
 use hp_model::{Access, Answer, Want};
@@ -42,13 +41,12 @@ pub fn answers(access: Access, answer: Answer) -> bool
 }
 
 /// Whether an access or an outcome is wanted that has such an answer.
-pub fn takes(want: Option<Want>, answer: Answer) -> bool
-    ensures fits { IsTrue result → FitsWant want answer }
-    ensures stays { IsTrue result → want ≢ Some wants.Resume }
+pub fn takes(want: Want, answer: Answer) -> bool
+    ensures { IsTrue result → FitsWant (Some want) answer }
 {
     match want {
-        Some(Want::Do(access)) => answers(access, answer),
-        Some(Want::Tell(_)) => matches!(answer, Answer::Quiet),
-        Some(Want::Resume) | None => false,
+        Want::Do(access) => answers(access, answer),
+        Want::Tell(_) => matches!(answer, Answer::Quiet),
+        Want::Resume => false,
     }
 }

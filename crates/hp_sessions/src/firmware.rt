@@ -55,11 +55,11 @@ fn greatest_apic_id(x2apic: bool) -> u32
 fn want_of(handlers: &Handlers, x2apic: bool, stand: &Stand) -> Option<Want>
     requires { handlers.now.layout.x2apic ≡ x2apic }
 {
-    if stand.apic <= greatest_apic_id(x2apic) {
-        handlers.want(stand)
-    } else {
-        None
+    if stand.apic > greatest_apic_id(x2apic) {
+        return None;
     }
+    let (_label, want) = handlers.row(stand)?;
+    Some(want)
 }
 
 /// Feeds an answer to a processor in SMM, and leads it on. Answers whether what it wants has such an answer.
@@ -70,11 +70,13 @@ fn feed_handlers(handlers: &mut Handlers, x2apic: bool, seat: &mut Seat, answer:
     if seat.stand.apic > greatest_apic_id(x2apic) {
         return false;
     }
-    let want = handlers.want(&seat.stand);
+    let Some((label, want)) = handlers.row(&seat.stand) else {
+        return false;
+    };
     if !takes(want, answer) {
         return false;
     }
-    let (at, base) = handlers.feed(&seat.stand, answer);
+    let (at, base) = handlers.feed(&seat.stand, label, answer);
     seat.go_to(at);
     seat.stand.base = base;
     true

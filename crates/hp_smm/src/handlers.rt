@@ -1,8 +1,6 @@
 //! All SMI handlers of a machine.
 
-ghost use Rattle.std.specs.Prelude.{◌≡◌, ◌≢◌, ◌≤◌, ◌==◌, Some, IfOk, IfSome, IsTrue, if◌then◌else◌};
-ghost use Rattle.hp_model.specs.declared.labels.Label.{Label as ALabel};
-ghost use Rattle.hp_model.specs.declared.accesses.Want.TheVariants as wants;
+ghost use Rattle.std.specs.Prelude.{◌≡◌, ◌≤◌, ◌==◌, Some, option_map, IfOk, IfSome, IsTrue, if◌then◌else◌};
 ghost use Rattle.hp_model.specs.Boot.{value_in};
 ghost use Rattle.hp_model.specs.Handlers.{address_of_label, is_due as is_due_at, is_tile as is_tile_at, next_at, runs_at, slot_at as slot_of, want_at};
 ghost use Rattle.hp_model.specs.Labels.{part_of};
@@ -12,7 +10,7 @@ ghost use Rattle.hp_model.specs.SharedBytes.{layout_of, tile_in};
 ghost use Rattle.hp_image.specs.Handlers.{part_named};
 ghost use Rattle.hp_model.specs.Fitting.{FitsWant};
 ghost use Rattle.hp_reloc.specs.Relocating.{greatest};
-ghost use Rattle.hp_smm.specs.Rows.{next_for, row_for, seat_for, want_for};
+ghost use Rattle.hp_smm.specs.Rows.{next_for, row_for, seat_for};
 
 use crate::relocated::{relocated_next, relocated_want};
 use hp_image::{Handler, label_of, mark, place_of};
@@ -137,7 +135,7 @@ impl Handlers {
 
     /// The label whose row is due where the processor stands.
     #[tactic(auto, unfolding(hp_model::specs::Handlers::row_of))]
-    fn row(&self, s: &Stand) -> Option<Label>
+    fn label_at(&self, s: &Stand) -> Option<Label>
         ensures value { result ≡ row_for self.now s.now }
         ensures below { IfSome result (λ label. s.now.smbase ≤ 0x90000000) }
     {
@@ -164,13 +162,15 @@ impl Handlers {
         }
     }
 
-    /// What the processor wants; `None` where no handler's row is due.
-    pub fn want(&self, s: &Stand) -> Option<Want>
+    /// The row that is due where the processor stands: its label, and what it wants. `None` where no handler's row is due.
+    pub fn row(&self, s: &Stand) -> Option<(Label, Want)>
         requires { s.now.apic ≤ greatest self.now.layout.x2apic }
-        ensures { result ≡ want_for self.now s.now }
+        ensures label { row_for self.now s.now ≡ option_map (λ row. row.0) result }
+        ensures want { IfSome result (λ row. want_at self.now.layout (seat_for self.now s.now) self.now.monarch row.0 ≡ Some row.1) }
+        ensures smbase { IfSome result (λ row. s.now.smbase ≤ 0x90000000) }
     {
-        match self.row(s) {
-            Some(label) => Some(self.want_at(s, label)),
+        match self.label_at(s) {
+            Some(label) => Some((label, self.want_at(s, label))),
             None => None,
         }
     }
@@ -192,29 +192,17 @@ impl Handlers {
         }
     }
 
-    /// The answer to the access that the processor wanted. Answers the instruction address where it goes on, and its base from
-    /// there on.
-    pub fn feed(&mut self, s: &Stand, answer: Answer) -> (u32, u32)
-        requires fits { FitsWant (want_for self.old s.now) answer }
-        requires access { want_for self.old s.now ≢ Some wants.Resume }
-        ensures address { (l : ALabel) → row_for self.old s.now ≡ Some l → result.0 ≡ address_of_label s.now.smbase (next_for self.old s.now l answer).label }
-        ensures base { (l : ALabel) → row_for self.old s.now ≡ Some l → result.1 ≡ (next_for self.old s.now l answer).base }
-        ensures monarch { (l : ALabel) → row_for self.old s.now ≡ Some l → self.new ≡ record self.old { monarch = (next_for self.old s.now l answer).monarch } }
+    /// The answer to the access that the processor wanted at this label, whose row is due. Answers the instruction address where
+    /// it goes on, and its base from there on.
+    pub fn feed(&mut self, s: &Stand, label: Label, answer: Answer) -> (u32, u32)
+        requires row { row_for self.old s.now ≡ Some label }
+        requires smbase { s.now.smbase ≤ 0x90000000 }
+        requires fits { FitsWant (want_at self.old.layout (seat_for self.old s.now) self.old.monarch label) answer }
+        ensures address { result.0 ≡ address_of_label s.now.smbase (next_for self.old s.now label answer).label }
+        ensures base { result.1 ≡ (next_for self.old s.now label answer).base }
+        ensures monarch { self.new ≡ record self.old { monarch = (next_for self.old s.now label answer).monarch } }
     {
-        match self.row(s) {
-            Some(label) => {
-                let (next, base) = self.next_at(s, label, answer);
-                (address(s.smbase, next), base)
-            }
-            None => unreachable!(),
-        }
-    }
-
-    /// The processor has left by RSM, which it wanted. The record stays: the next session begins with `entered`.
-    pub fn left(&mut self, s: &Stand)
-        requires { want_for self.old s.now ≡ Some wants.Resume }
-        ensures { self.new ≡ self.old }
-    {
-        let _ = s;
+        let (next, base) = self.next_at(s, label, answer);
+        (address(s.smbase, next), base)
     }
 }

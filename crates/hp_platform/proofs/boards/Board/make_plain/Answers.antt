@@ -3,7 +3,7 @@ use Rattle.std.proofs.Common.{◌≡◌, true, None, sym, subst, ◌∙◌, ap, 
 use Rattle.hp_model.specs.Boot.{is_handed}
 use Rattle.hp_model.specs.Step.{after, effect_of}
 use Rattle.hp_monarch.specs.Session.{Session}
-use Rattle.hp_platform.specs.Board.{Board, Shows, row_event}
+use Rattle.hp_platform.specs.Board.{Board, IsOther, Shows}
 use Rattle.hp_platform.proofs.Leading.{effect_keeps}
 use Rattle.hp_platform.proofs.Making.{plain_made, told_layout, told_monarch}
 use Rattle.hp_platform.proofs.boards.Board.make_plain.Goals as goal
@@ -12,14 +12,14 @@ pub returns-clause-state : goal.returns-clause-state
 returns-clause-state c = λ s shows.
     let e = c.args.event.now in
     subst
-    (λ (b : Board). (Shows b s → is_handed b.boot.stage ≡ true → row_event s e ≡ None
+    (λ (b : Board). (Shows b s → IsOther b e
     → Shows (record { platform = c.self.inside.platform; machine = c.step-answer.new.machine; boot = c.self.inside.boot; handlers = c.tell.new.handlers }) (after b.platform s e).state)) c.self.view_is
-    (λ seen handed row.
+    (λ seen other.
     let b : Board = record { platform = c.self.inside.platform; machine = c.self.inside.machine; boot = c.self.inside.boot; handlers = c.self.inside.handlers } in
-    plain_made b _ c.step-answer.new.machine s e c.step-answer.result seen (c.step-answer.ensures.step _ s seen.state) refl refl handed refl row
+    plain_made b _ c.step-answer.new.machine s e c.step-answer.result seen (c.step-answer.ensures.step _ s seen.state) refl refl other.handed refl (other.plain s seen)
     (ap (λ (h : Session). h.layout) c.tell.ensures ∙ told_layout e b.handlers)
     (ap (λ (h : Session). h.monarch) c.tell.ensures ∙ told_monarch e b.handlers (effect_of b.platform s e) (seen.monarch ∙ sym (effect_keeps b.platform s e))))
-    shows c.requires.handed (c.requires.row s shows)
+    shows c.requires.other
 
 pub returns-clause-answer : goal.returns-clause-answer
 returns-clause-answer c = λ s shows.

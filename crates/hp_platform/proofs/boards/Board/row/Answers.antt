@@ -3,9 +3,9 @@ use Rattle.std.proofs.Common.{◌≤◌, sym, subst}
 use Rattle.hp_model.specs.SharedBytes.{Layout}
 use Rattle.hp_reloc.specs.Relocating.{greatest}
 use Rattle.hp_platform.specs.Board.{Board}
-use Rattle.hp_platform.proofs.boards.Board.want.Goals as goal
+use Rattle.hp_platform.proofs.boards.Board.row.Goals as goal
 
-pub want-requires : goal.want-requires
-want-requires c =
+pub row-requires : goal.row-requires
+row-requires c =
     subst (λ (y : Layout). c.in-Some.stand.apic ≤ greatest y.x2apic) (sym c.self.invariant.layout)
     (subst (λ (b : Board). c.in-Some.stand.apic ≤ greatest b.platform.x2apic) (sym c.self.view_is) c.in-Some.ensures.apic)
