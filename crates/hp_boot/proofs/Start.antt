@@ -1,12 +1,13 @@
 -- A platform that fits, and its machine at the start: processor 0 runs, and no slot has an event.
-use Rattle.std.proofs.Common.{◌≡◌, ◌≢◌, ℕ, zero, suc, Bool, true, false, cond, not, ◌&&◌, ◌||◌, ◌==◌, ◌+◌, ◌*◌, ◌%◌, ◌<◌, ◌≤◌, List, [], ◌∷◌, length, take, replicate, slice_set, Option, Some, None, refl, ap, ◌∙◌, arith, nat_le, nat_lt}
+use Rattle.std.proofs.Common.{◌≡◌, ◌≢◌, ℕ, zero, suc, Bool, true, false, not, ◌&&◌, ◌||◌, ◌==◌, ◌+◌, ◌*◌, ◌%◌, ◌<◌, ◌≤◌, List, [], ◌∷◌, length, take, replicate, slice_set, None, refl, ap, ◌∙◌, arith, nat_le, nat_lt}
 use Rattle.std.proofs.lemmas.Bool.{and_parts, leb-true, ltb-true, eqb-true, false≢true}
 use Rattle.std.specs.List.{list_all}
 use Rattle.hp_model.specs.declared.platforms.Platform.{Platform}
 use Rattle.hp_model.specs.declared.processors.Cpu.{Cpu}
-use Rattle.hp_model.specs.Platform.{IsFit, tile, ascends_from, ascends_from_zero, boot_fits, count_of, counts_fit, features_fit, has_room, ids_fit, memory_fits, most_tiles, tiles_fit, tseg_fits}
+use Rattle.hp_model.specs.Platform.{IsFit, tile, ascends_from, ascends_from_zero, count_of, has_room, most_tiles, tiles_fit, tseg_fits}
 use Rattle.hp_model.specs.Cpu.{absent, booted, cpu_at, is_free, boot_cpus, cpus_start}
 use Rattle.hp_model.specs.Block.{bitmap, cut, first_event, first_places, is_in, slots_from}
+use Rattle.hp_model.proofs.FitPlatforms.{rules_of}
 use Rattle.hp_boot.specs.Ending.{legacy_value}
 
 -- what the boot needs of a platform
@@ -16,30 +17,6 @@ pub record Facts (p : Platform) : Type 0 where
   pub room : (p.tseg_mib == 48) ≡ true → 0x4000000 ≤ p.low_memory
   pub first : ascends_from_zero p.boot ≡ true
   pub some : 0 < length p.apic
-
--- a rule that no platform that fits breaks, and the rules after it
-passed : (b : Bool) (n : ℕ) (rest : Option ℕ) → cond (not b) (Some n) rest ≡ None → (b ≡ true) × (rest ≡ None)
-passed true n rest e = (refl, e)
-passed false n rest e = absurd cc
-
--- rules 2 and 4 to 8
-record Rules (p : Platform) : Type 0 where
-  counts : counts_fit p ≡ true
-  boot : boot_fits p ≡ true
-  memory : memory_fits p ≡ true
-  tiles : tiles_fit p ≡ true
-  features : features_fit p ≡ true
-
-rules_of : (p : Platform) → IsFit p → Rules p
-rules_of p fit =
-    let two = passed (counts_fit p) 2 _ fit in
-    let three = passed (ids_fit p) 3 _ two.1 in
-    let four = passed (boot_fits p) 4 _ three.1 in
-    let five = passed (memory_fits p) 5 _ four.1 in
-    let six = passed (tseg_fits p) 6 _ five.1 in
-    let seven = passed (tiles_fit p) 7 _ six.1 in
-    let eight = passed (features_fit p) 8 _ seven.1 in
-    record { counts = two.0; boot = four.0; memory = five.0; tiles = seven.0; features = eight.0 }
 
 room_of : (p : Platform) → tiles_fit p ≡ true → (p.tseg_mib == 48) ≡ true → 0x4000000 ≤ p.low_memory
 room_of p tiles size =

@@ -2,7 +2,7 @@
 
 ghost use Rattle.std.specs.Prelude.{◌≡◌, true, ◌<◌};
 ghost use Rattle.hp_model.specs.Platform.{IsFit};
-ghost use Rattle.hp_model.specs.Boot.{boot_count, boot_start, is_booting, boot_next, boot_refusal, value_in, stage_after, stage_by};
+ghost use Rattle.hp_model.specs.Boot.{boot_count, boot_start, is_booting, boot_next, boot_refusal, stage_after, stage_by};
 ghost use Rattle.hp_model.specs.Fitting.{FitsAccess};
 ghost use Rattle.hp_boot.specs.Booting.{stage_view, told_of, IsBefore, IsRead};
 
@@ -46,16 +46,6 @@ impl Model for Boot {
     ghost view = { λ b. record { mib = b.tseg_mib; stage = model.stage_view b.place } };
 
     ghost invariant = { λ b. model.IsBefore b.tseg_mib b.place };
-}
-
-/// The value in an answer, 0 where there is none.
-fn value_of(answer: Answer) -> u64
-    ensures { result ≡ value_in answer }
-{
-    match answer {
-        Answer::Quiet => 0,
-        Answer::Value(value) => value,
-    }
 }
 
 /// What the value is refused for that the access after `done` accesses read.
@@ -132,7 +122,7 @@ impl Boot {
         ensures told { result ≡ told_of self.new.stage }
     {
         if let Place::Boots { done, supported } = self.place {
-            self.place = after(self.tseg_mib, done, supported, value_of(answer));
+            self.place = after(self.tseg_mib, done, supported, answer.value());
         }
         self.stage()
     }

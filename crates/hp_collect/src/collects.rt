@@ -85,16 +85,6 @@ impl Model for Collect {
     ghost invariant = { λ c. IsSound c.count c.cpu (vec_capacity c.reports) c.row c.reports.items };
 }
 
-/// The value of an answer, 0 where it has none.
-fn value_of(answer: Answer) -> u64
-    ensures { result ≡ value_in answer }
-{
-    match answer {
-        Answer::Quiet => 0,
-        Answer::Value(value) => value,
-    }
-}
-
 fn command(value: u32) -> Access
     ensures { result ≡ Out 0xcdd 1 value }
 {
@@ -248,7 +238,7 @@ impl Collect {
         ensures stage { result ≡ stage_of self.new.collected }
         ensures collects { (l : Label) (c : Collection) → self.old.collected ≡ CollectsAt l c → IsOfCollection l }
     {
-        let value = value_of(answer);
+        let value = answer.value();
         match self.row {
             Some(Row::C1) => self.row = Some(Row::C2),
             Some(Row::C2) => self.row = Some(Row::C3),

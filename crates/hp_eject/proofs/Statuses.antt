@@ -1,8 +1,6 @@
 -- What is read at E4g is a byte, since it fits what any monarch with this eject wants; and addresses in TSEG have 32 bits.
-use Rattle.std.proofs.Common.{◌≡◌, ◌<◌, ◌≤◌, ◌^◌, ℕ, false, [], None, refl, subst, arith}
-use Rattle.std.proofs.lemmas.Bool.Decides.{nat_tests}
-use Rattle.hp_model.specs.declared.platforms.Platform.{Platform}
-use Rattle.hp_model.specs.Platform.{IsFit, tseg}
+use Rattle.std.proofs.Common.{◌≡◌, ◌<◌, ◌^◌, ℕ, false, [], None, refl, subst}
+use Rattle.hp_model.specs.Platform.{tseg}
 use Rattle.hp_model.specs.declared.accesses.Answer.{Answer}
 use Rattle.hp_model.specs.declared.accesses.Answer.TheVariants.{Quiet, Value}
 use Rattle.hp_model.specs.declared.labels.Label.TheVariants.{E0, E4g}
@@ -43,6 +41,3 @@ byte_at_E4g tseg j (Value v) h = h (layout_from tseg) nobody (with_eject j) refl
 
 pub status_read : (tseg : ℕ) (d : EjectLed) (j : Eject) (answer : Answer) → d ≡ EjectsAt E4g j → Fits tseg d answer → value_in answer < 256 ^ 1
 status_read tseg d j answer e h = byte_at_E4g tseg j answer (subst (λ (k : EjectLed). Fits tseg k answer) e h)
-
-pub tseg_below : (p : Platform) → IsFit p → tseg p ≤ 0x80000000
-tseg_below p fit = grind (arith, nat_tests)

@@ -18,7 +18,7 @@ ghost use Rattle.hp_eject.specs.Ejecting.{Fits, IsGoing, IsOfEject, eject_in, go
 
 use crate::rows::Row;
 use crate::standing::Standing;
-use hp_model::{Access, Answer, Delivery, Label, Outcome, Platform, Refusal, Step, tseg};
+use hp_model::{Access, Answer, Label, Outcome, Platform, Refusal, Step, tseg};
 use std::marker::Model;
 
 /// The map bytes from the first address of TSEG.
@@ -71,16 +71,6 @@ impl Model for Eject {
     ghost invariant = { λ e. IsSmall e.tseg e.slot e.standing };
 }
 
-/// The value of an answer, 0 where it has none.
-fn value_of(answer: Answer) -> u64
-    ensures { result ≡ value_in answer }
-{
-    match answer {
-        Answer::Quiet => 0,
-        Answer::Value(value) => value,
-    }
-}
-
 /// Stores one byte.
 fn store_byte(addr: u32, value: u64) -> Access
     ensures { result ≡ accesses.Store addr 1 value }
@@ -92,19 +82,9 @@ fn store_byte(addr: u32, value: u64) -> Access
     }
 }
 
-/// Whether others may move the selector between two accesses.
-fn is_late_in(delivery: Delivery) -> bool
-    ensures { result ≡ is_late delivery }
-{
-    match delivery {
-        Delivery::Prompt => false,
-        Delivery::Late { .. } => true,
-    }
-}
-
 impl Eject {
     /// The eject of the processor in place `cpu`, whose APIC ID is `apic` and has `slot`, below 512. It begins at E0. Takes no memory.
-    #[tactic(auto, using(crate::proofs::Statuses::tseg_below))]
+    #[tactic(auto, using(hp_model::proofs::FitPlatforms::tseg_below))]
     pub fn new(p: &Platform, cpu: u32, apic: u32, slot: u32) -> Eject
         requires fit { IsFit p.now }
         requires slot { slot < 512 }
@@ -117,7 +97,7 @@ impl Eject {
         Eject {
             tseg: tseg(p),
             polls: p.polls,
-            late: is_late_in(p.delivery),
+            late: p.delivery.is_late(),
             cpu,
             apic,
             slot,
@@ -329,7 +309,7 @@ impl Eject {
         ensures of_eject { result ≢ steps.Added }
         ensures stays { (self.new.tseg ≡ self.old.tseg) × ((self.new.polls ≡ self.old.polls) × (self.new.late ≡ self.old.late)) }
     {
-        let value = value_of(answer);
+        let value = answer.value();
         match self.row() {
             Row::E0 => self.go_to(Row::E1),
             Row::E1 => self.await_parked(),

@@ -8,9 +8,10 @@ use Rattle.hp_model.specs.Memory.{Write, covers, byte_at, write_of}
 use Rattle.hp_model.specs.Labels.{First, Relocated, Monarch as Monarchs, Part, part_of, index_of, first_cell, cell_of, mark_of}
 use Rattle.hp_model.specs.SharedBytes.{layout_of, release_byte}
 use Rattle.hp_model.specs.Image.{relocated_labels, monarch_labels, with_cells, with_tiles, with_releases, image}
+use Rattle.hp_model.proofs.Bytes.{length-bytes_of}
 use Rattle.hp_sealed.specs.Left.{Sound}
 use Rattle.hp_sealed.specs.Booting.{memory_after, more_if}
-use Rattle.hp_sealed.proofs.Left.{left_more, length-bytes_of}
+use Rattle.hp_sealed.proofs.Left.{left_more}
 use Rattle.hp_sealed.proofs.Labels.{index_small}
 use Rattle.hp_sealed.proofs.Starts.{sound}
 use Rattle.hp_exact.proofs.Releasing.{from_1000, to_2000}

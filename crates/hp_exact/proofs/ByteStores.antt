@@ -9,7 +9,8 @@ use Rattle.hp_model.specs.Memory.{Write, covers, byte_at, bytes_of, write_of}
 use Rattle.hp_model.specs.View.{Locks, is_hole, stored}
 use Rattle.hp_model.specs.State.{State}
 use Rattle.hp_model.specs.Access.{access_effect}
-use Rattle.hp_sealed.proofs.Left.{pick, length-bytes_of, left_store}
+use Rattle.hp_model.proofs.Bytes.{length-bytes_of}
+use Rattle.hp_sealed.proofs.Left.{pick, left_store}
 
 -- a byte is left as it was, or becomes 0
 abbrev pub Leaves : ℕ → List Write → List Write → Type 0

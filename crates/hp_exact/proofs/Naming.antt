@@ -5,13 +5,13 @@ use Rattle.std.specs.List.{list_all}
 use Rattle.std.proofs.lemmas.Bool.{and_parts, eqb-true}
 use Rattle.std.proofs.lemmas.Bool.Decides.{nat_tests}
 use Rattle.hp_model.specs.declared.platforms.Platform.{Platform}
-use Rattle.hp_model.specs.Platform.{IsFit, all_distinct, count_of, apic_of, greatest_id, high_half}
+use Rattle.hp_model.specs.Platform.{IsFit, count_of, apic_of, greatest_id, high_half}
 use Rattle.hp_model.specs.Interrupts.{destination}
 use Rattle.hp_model.specs.Collection.{Report}
 use Rattle.hp_model.specs.Monarch.{is_that, is_own}
 use Rattle.hp_sealed.specs.Left.{Sound}
 use Rattle.hp_sealed.proofs.BootSlots.{ids_differ}
-use Rattle.hp_sealed.proofs.Starts.{fits}
+use Rattle.hp_model.proofs.FitPlatforms.{ids_small, rules_of}
 
 -- each possible processor's APIC ID fits an interrupt command
 pub record Ids (p : Platform) : Type 0 where
@@ -19,7 +19,7 @@ pub record Ids (p : Platform) : Type 0 where
 
 pub ids_of : (p : Platform) → IsFit p → Ids p
 ids_of p e =
-    record { small = λ k less. each (greatest_id p) p.apic k less (and_parts (list_all (λ a. nat_le a (greatest_id p)) p.apic) (all_distinct p.apic) (fits p e).ids).0 }
+    record { small = λ k less. each (greatest_id p) p.apic k less (ids_small p e) }
   where
     one : (a most : ℕ) → nat_le a most ≡ true → a ≤ most
     one a most e = grind (arith, nat_tests)
@@ -31,7 +31,7 @@ ids_of p e =
 
 -- at least one look
 pub polled : (p : Platform) → IsFit p → 1 ≤ p.polls
-polled p e = plain p.polls (and_parts (nat_le 1 p.polls) (nat_le p.polls 4096) (fits p e).polls).0
+polled p e = plain p.polls (and_parts (nat_le 1 p.polls) (nat_le p.polls 4096) (rules_of p e).polls).0
   where
     plain : (n : ℕ) → nat_le 1 n ≡ true → 1 ≤ n
     plain n e = grind (arith, nat_tests)

@@ -1,6 +1,5 @@
 -- One more store of the image.
-use Rattle.std.proofs.Common.{◌≡◌, ℕ, zero, suc, true, ◌+◌, ◌-◌, ◌<◌, ◌≤◌, List, [], ◌∷◌, ◌++◌, length, drop, get_or, nat_lt, refl, sym, ap, ◌∙◌, drop-cons, add-one, arith}
-use Rattle.std.specs.List.{list_all}
+use Rattle.std.proofs.Common.{◌≡◌, ℕ, zero, suc, true, ◌+◌, ◌-◌, ◌<◌, ◌≤◌, List, [], ◌∷◌, ◌++◌, length, drop, get_or, refl, sym, ap, ◌∙◌, drop-cons, add-one, arith}
 use Rattle.std.proofs.lemmas.List.{drop_all}
 use Rattle.std.proofs.lemmas.Bool.Decides.{nat_tests}
 use Rattle.std.proofs.lemmas.Grind.{common_steps}
@@ -9,8 +8,9 @@ use Rattle.hp_model.specs.declared.platforms.Platform.{Platform}
 use Rattle.hp_model.specs.Labels.{Part, First, Relocated, Monarch, cell_of, mark_of, part_of}
 use Rattle.hp_model.specs.Image.{image, monarch_labels, relocated_labels, with_cells, with_releases, with_tiles}
 use Rattle.hp_model.specs.Memory.{Write, write_of}
-use Rattle.hp_model.specs.Platform.{IsFit, ascends_from, ascends_from_zero, count_of}
+use Rattle.hp_model.specs.Platform.{IsFit, count_of}
 use Rattle.hp_model.specs.SharedBytes.{layout_of, release_byte}
+use Rattle.hp_model.proofs.FitPlatforms.{apic_few, boot_few}
 use Rattle.hp_image.specs.declared.stores.Cell.{Cell}
 use Rattle.hp_image.specs.Cells.{is_width, cell_fits, cells_fit, stored_cells}
 use Rattle.hp_image.specs.Handlers.{smbase_in}
@@ -48,23 +48,6 @@ pub release_fits : (p : Platform) (slot addr value : ℕ) (cs : List Cell) → I
     cells_fit p.low_memory (cs ++ record { addr = addr; width = 1; value = value } ∷ []) ≡ cells_fit p.low_memory cs
 release_fits p slot addr value cs fit h is =
     push_inside p.low_memory cs (record { addr = addr; width = 1; value = value }) refl (rw is (release_inside p slot fit h))
-
--- places that ascend from above `low`, all below `count`, are so few
-ascending : (low count : ℕ) (ks : List ℕ) → ascends_from low ks ≡ true → list_all (λ k. nat_lt k count) ks ≡ true →
-    low < count → low + length ks < count
-ascending low count [] up below h = omega (arith, h)
-ascending low count (k ∷ ks) up below h = grind (arith, nat_tests, common_steps, ascending k count ks)
-
-few : (count : ℕ) (ks : List ℕ) → ascends_from_zero ks ≡ true → list_all (λ k. nat_lt k count) ks ≡ true → length ks ≤ count
-few count [] up below = omega arith
-few count (k ∷ ks) up below = grind (arith, nat_tests, common_steps, ascending 0 count ks)
-
--- the boot processors are no more than the possible ones, and those at most 512
-pub boot_few : (p : Platform) → IsFit p → length p.boot ≤ length p.apic
-boot_few p fit = few (count_of p) p.boot (grind (arith, nat_tests)) (grind (arith, nat_tests))
-
-pub apic_few : (p : Platform) → IsFit p → length p.apic ≤ 512
-apic_few p fit = grind (arith, nat_tests)
 
 -- one more label's mark
 pub cells_more : (p : Platform) (slot k : ℕ) (ls : List Label) (d : Label) (ws : List Write) → k < length ls →

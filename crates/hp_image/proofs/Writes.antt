@@ -1,17 +1,13 @@
 -- What initial stores leave alone, and lists of them one after the other.
-use Rattle.std.proofs.Common.{◌≡◌, ℕ, zero, suc, ◌&&◌, ◌+◌, ◌/◌, ◌≤◌, List, [], ◌∷◌, ◌++◌, length, refl, ap, ◌∙◌, arith}
+use Rattle.std.proofs.Common.{◌≡◌, ℕ, ◌&&◌, ◌+◌, ◌≤◌, List, [], ◌∷◌, ◌++◌, refl, ◌∙◌, arith}
 use Rattle.std.specs.Prelude.{nat_le}
 use Rattle.std.proofs.lemmas.Bool.{and_parts, leb-true}
 use Rattle.std.proofs.lemmas.List.Folds.{list_all-append}
 use Rattle.std.proofs.lemmas.Bool.Decides.{nat_tests}
-use Rattle.hp_model.specs.Memory.{Write, byte_at, bytes_of, write_of}
+use Rattle.hp_model.specs.Memory.{Write, byte_at, write_of}
+use Rattle.hp_model.proofs.Bytes.{length-bytes_of}
 use Rattle.hp_image.specs.declared.stores.Cell.{Cell}
 use Rattle.hp_image.specs.Cells.{is_width, cell_fits, cells_fit, AreCells, stored_cells}
-
-length-bytes_of : (n value : ℕ) → length (bytes_of n value) ≡ n
-unfolding bytes_of
-length-bytes_of zero value = refl
-length-bytes_of (suc n) value = ap suc (length-bytes_of n (value / 256))
 
 written_past : (addr width value : ℕ) (ws : List Write) (x : ℕ) → addr + width ≤ x → byte_at (write_of addr width value ∷ ws) x ≡ byte_at ws x
 written_past addr width value ws x h = grind (arith, nat_tests, length-bytes_of width value)

@@ -3,7 +3,7 @@
 ghost use Rattle.std.specs.Prelude.{◌≡◌, ◌≤◌, ◌<◌, ◌-◌, ◌^◌, true, List, IfOk, IfSome, OnErr, OnOk, IsOk, length, slice_set};
 ghost use Rattle.hp_model.specs.declared.platforms.Platform.{Platform};
 ghost use Rattle.hp_model.specs.declared.entries.Event.TheVariants.{Do, Insert, Remove, TakeSmi, TakeInit, Resume};
-ghost use Rattle.hp_model.specs.Platform.{IsFit, is_late as comes_late};
+ghost use Rattle.hp_model.specs.Platform.{IsFit};
 ghost use Rattle.hp_model.specs.Cpu.{cpu_at, is_in_smm, smm_address, moved};
 ghost use Rattle.hp_model.specs.State.{State};
 ghost use Rattle.hp_model.specs.Access.{stands_in_smm};
@@ -32,7 +32,7 @@ use hp_fwcfg::FwCfg;
 use hp_ich9::Ich9;
 use hp_image::{Cell, Cells};
 use hp_mem::Mem;
-use hp_model::{Access, Answer, Cpu, Delivery, Event, Mode, NoMemory, Platform};
+use hp_model::{Access, Answer, Cpu, Event, Mode, NoMemory, Platform};
 use hp_regs::Block;
 use hp_smram::{Locks, locks_start_as_the_machine};
 use std::alloc::Global;
@@ -80,16 +80,6 @@ fn store_cells(memory: &mut Mem, cells: &[Cell], low: u32) -> Result<(), NoMemor
             memory.store(first.addr, first.width, first.value)?;
             store_cells(memory, rest, low)
         }
-    }
-}
-
-/// Whether a latched SMI may be taken later than at once.
-fn is_late(delivery: Delivery) -> bool
-    ensures { result ≡ comes_late delivery }
-{
-    match delivery {
-        Delivery::Prompt => false,
-        Delivery::Late { lag: _ } => true,
     }
 }
 
@@ -260,7 +250,7 @@ impl Machine {
             ich9,
             fw_cfg,
             ejected: None,
-            late: is_late(p.delivery),
+            late: p.delivery.is_late(),
             x2apic: p.x2apic,
         })
     }

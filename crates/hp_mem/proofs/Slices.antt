@@ -7,7 +7,7 @@ use borrow.Rule.Slice.PartMut.{put_mid}
 use Rattle.std.specs.Int.{byte_at, bytes_low_first}
 use Rattle.byteorder.specs.Endian.{little_from, little_number, little_bytes}
 use Rattle.byteorder.specs.Numbers.{little_from-take}
-use Rattle.hp_mem.proofs.Values.{length-bytes_of}
+use Rattle.hp_model.proofs.Bytes.{length-bytes_of}
 use Rattle.hp_model.specs.Memory.{byte_over, bytes_of, value_from, write_of}
 
 -- the numbers that are read

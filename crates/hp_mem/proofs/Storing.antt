@@ -4,7 +4,7 @@ use Rattle.std.proofs.lemmas.Bool.Decides.{nat_tests}
 use Rattle.hp_model.specs.Memory.{Write, byte_over, bytes_of, write_of}
 use Rattle.hp_mem.specs.Pages.{ArePages, Covers, entry, place, byte_in}
 use Rattle.hp_mem.proofs.Finding.{by_none, by_entry, within_bytes}
-use Rattle.hp_mem.proofs.Values.{length-bytes_of}
+use Rattle.hp_model.proofs.Bytes.{length-bytes_of}
 
 pub same_pages : (directory old new : List ℕ) → ArePages directory old → length new ≡ length old → ArePages directory new
 same_pages directory old new pages len = record {

@@ -1,8 +1,9 @@
 -- A value and its bytes, one byte at a time.
-use Rattle.std.proofs.Common.{◌≡◌, ℕ, zero, suc, ◌+◌, ◌-◌, ◌*◌, ◌/◌, ◌%◌, ◌^◌, ◌<◌, ◌≤◌, ◌⊎◌, length, slice_index_or, refl, ap, arith}
+use Rattle.std.proofs.Common.{◌≡◌, ℕ, zero, suc, ◌+◌, ◌-◌, ◌*◌, ◌/◌, ◌%◌, ◌^◌, ◌<◌, ◌≤◌, ◌⊎◌, slice_index_or, refl, arith}
 use Rattle.std.proofs.lemmas.Bool.Decides.{nat_tests}
 use Rattle.std.proofs.Math.Nat.{pow-le-pow_right}
 use Rattle.hp_model.specs.Memory.{byte_over, value_from, bytes_of, write_of}
+use Rattle.hp_model.proofs.Bytes.{length-bytes_of}
 
 pub value_none : (f : ℕ → ℕ) (x : ℕ) → value_from f x 0 ≡ 0
 unfolding value_from
@@ -62,11 +63,6 @@ value_moved f g x y (suc n) same =
     let two : y + 1 + k ≡ y + suc k = omega arith in
     rw (one, two) (same (suc k) (omega arith))) in
     rw (low, high) refl
-
-pub length-bytes_of : (n value : ℕ) → length (bytes_of n value) ≡ n
-unfolding bytes_of
-length-bytes_of zero value = refl
-length-bytes_of (suc n) value = ap suc (length-bytes_of n (value / 256))
 
 -- bytes that are a value's are that value
 value_of_bytes : (f : ℕ → ℕ) (x n value : ℕ) → value < 256 ^ n → ((k y : ℕ) → k < n → y ≡ x + k → f y ≡ slice_index_or (bytes_of n value) k 0) → value_from f x n ≡ value

@@ -1,4 +1,6 @@
-pub mod ApicIds
 pub mod AtEach
+pub mod Bytes
+pub mod Counts
+pub mod FitPlatforms
 pub mod Same
 pub mod Scheduled

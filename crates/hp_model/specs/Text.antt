@@ -6,8 +6,6 @@ use Rattle.hp_model.specs.declared.platforms.Delivery.{Delivery}
 use Rattle.hp_model.specs.declared.platforms.Delivery.TheVariants.{Prompt, Late}
 use Rattle.hp_model.specs.declared.accesses.Access.{Access}
 use Rattle.hp_model.specs.declared.accesses.Access.TheVariants.{Load, Store, Swap, In, Out, CfgRead, CfgWrite, Icr, Halt, Nop}
-use Rattle.hp_model.specs.declared.accesses.Answer.{Answer}
-use Rattle.hp_model.specs.declared.accesses.Answer.TheVariants.{Quiet, Value}
 use Rattle.hp_model.specs.declared.outcomes.Refusal.{Refusal}
 use Rattle.hp_model.specs.declared.outcomes.Refusal.TheVariants.{Disabled, Both, AlreadyKnown, GateHeld, NotAtGate, NotCheckedIn, NoUnplug, NotKnown, NotArrived, NotParked, Foreign, StillPending}
 use Rattle.hp_model.specs.declared.outcomes.Outcome.{Outcome}
@@ -15,6 +13,7 @@ use Rattle.hp_model.specs.declared.outcomes.Outcome.TheVariants.{Added, Ejected,
 use Rattle.hp_model.specs.declared.entries.Event.{Event}
 use Rattle.hp_model.specs.declared.entries.Event.TheVariants.{Insert, Remove, Do, TakeSmi, TakeInit, Resume, Tell}
 use Rattle.hp_model.specs.declared.entries.Entry.{Entry}
+use Rattle.hp_model.specs.Boot.{value_in}
 
 -- a number in lower-case hexadecimal, with so many digits
 unfoldable pub hex : ℕ → ℕ → List ℕ
@@ -69,11 +68,6 @@ outcome_pieces (Added cpu apic slot) = three (codes "added ") cpu apic slot
 outcome_pieces (Ejected cpu apic slot) = three (codes "ejected ") cpu apic slot
 outcome_pieces (Refused refusal) = refusal_pieces refusal
 
--- the value of an answer, 0 where it has none
-abbrev pub value_of : Answer → ℕ
-value_of Quiet = 0
-value_of (Value v) = v
-
 -- an access with the value that it was answered; addresses and interrupt halves have 8 digits, ports 4, registers and bytes 2, values two for each byte of the width
 abbrev pub access_pieces : Access → ℕ → List Piece
 access_pieces (Load addr width) seen =
@@ -126,7 +120,7 @@ line_of text = text ++ 10 ∷ []
 
 -- the line of an entry
 unfoldable pub line_text : Entry → List ℕ
-line_text e = line_of (spell (actor_pieces e.event e.at) ++ spell (event_pieces e.event (value_of e.answer)))
+line_text e = line_of (spell (actor_pieces e.event e.at) ++ spell (event_pieces e.event (value_in e.answer)))
 
 -- the lines of entries
 abbrev pub lines_text : List Entry → List ℕ

@@ -1,5 +1,8 @@
 //! What a processor asks of the machine, and what it is answered.
 
+ghost use Rattle.std.specs.Prelude.{◌≡◌};
+ghost use Rattle.hp_model.specs.Boot.{value_in};
+
 use crate::outcomes::Outcome;
 use std::marker::Model;
 
@@ -62,6 +65,18 @@ pub enum Access {
 pub enum Answer {
     Quiet,
     Value(u64),
+}
+
+impl Answer {
+    /// The value, 0 where there is none.
+    pub fn value(&self) -> u64
+        ensures { result ≡ value_in self.now }
+    {
+        match *self {
+            Answer::Quiet => 0,
+            Answer::Value(value) => value,
+        }
+    }
 }
 
 /// What a handler asks of the machine at a label.

@@ -25,7 +25,7 @@ pub fn tile(p: &Platform, slot: u32) -> u32
 }
 
 /// The high half of an interrupt command to this APIC ID, which is a possible one.
-#[tactic(auto, using(crate::proofs::ApicIds::fits_a_byte))]
+#[tactic(auto, using(crate::proofs::FitPlatforms::fits_a_byte))]
 pub fn icr_high(p: &Platform, apic: u32) -> u32
     requires fit { IsFit p.now }
     requires possible { is_in apic p.now.apic ≡ true }

@@ -1,6 +1,7 @@
 //! What a machine is built from.
 
 ghost use Rattle.std.specs.Prelude.{◌≡◌, IfOk};
+ghost use Rattle.hp_model.specs.Platform.{is_late as comes_late};
 
 use crate::errors::NoMemory;
 use std::alloc::Global;
@@ -25,6 +26,18 @@ pub enum Delivery {
     Prompt,
     /// At any later step. A schedule gives one turn in `lag` + 1 of a processor to its latched SMI.
     Late { lag: u32 },
+}
+
+impl Delivery {
+    /// Whether a latched SMI may be taken later than at once.
+    pub fn is_late(&self) -> bool
+        ensures { result ≡ comes_late self.now }
+    {
+        match *self {
+            Delivery::Prompt => false,
+            Delivery::Late { lag: _ } => true,
+        }
+    }
 }
 
 /// A machine before it starts. `fits` says which values can be built.

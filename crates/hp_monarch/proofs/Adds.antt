@@ -8,16 +8,9 @@ use Rattle.std.proofs.lemmas.Option.{same_Some}
 use Rattle.hp_model.specs.Block.{is_in}
 use Rattle.hp_model.specs.Monarch.{with_byte}
 use Rattle.hp_model.specs.Slots.{Slots, bind, place_of, slot_in}
+use Rattle.hp_model.proofs.Counts.{place_below}
 
--- the place of an APIC ID: below their number where it is bound, and their number where it isn't
-place_below : (ids : List ℕ) (a : ℕ) → is_in a ids ≡ true → place_of ids a < length ids
-place_below [] a e = absurd cc
-place_below (b ∷ ids) a e = by_head (b == a) e (place_below ids a)
-  where
-    by_head : (x : Bool) → (x || is_in a ids) ≡ true → (is_in a ids ≡ true → place_of ids a < length ids) → cond x 0 (place_of ids a + 1) < suc (length ids)
-    by_head true e rest = omega arith
-    by_head false e rest = let h = rest e in omega (arith, h)
-
+-- the place of an APIC ID that isn't bound is their number
 place_past : (ids : List ℕ) (a : ℕ) → is_in a ids ≡ false → place_of ids a ≡ length ids
 place_past [] a e = refl
 place_past (b ∷ ids) a e = by_head (b == a) e (place_past ids a)

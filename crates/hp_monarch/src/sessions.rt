@@ -17,8 +17,8 @@ use crate::classes::{Class, UNREAD, gather, judge, place};
 use crate::rows::{Place, Row};
 use hp_collect::{Collect, Reported, Stage};
 use hp_eject::Eject;
-use hp_model::{Access, Answer, Delivery, Label, NoMemory, Outcome, Platform, Refusal, Want, tseg};
-use hp_reloc::{Reloc, Slots, value_of};
+use hp_model::{Access, Answer, Label, NoMemory, Outcome, Platform, Refusal, Want, tseg};
+use hp_reloc::{Reloc, Slots};
 use std::alloc::Global;
 use std::marker::Model;
 
@@ -117,16 +117,6 @@ fn store_byte(addr: u32, value: u64) -> Want
     })
 }
 
-/// Whether SMIs may come late.
-fn is_late_in(delivery: Delivery) -> bool
-    ensures { result ≡ is_late delivery }
-{
-    match delivery {
-        Delivery::Prompt => false,
-        Delivery::Late { .. } => true,
-    }
-}
-
 impl Monarch {
     /// No session has begun, and boot processors have the first slots. Later calls take no memory.
     #[tactic(auto, using(crate::proofs::Start::start_facts))]
@@ -144,7 +134,7 @@ impl Monarch {
             count,
             looks: p.polls,
             x2apic: p.x2apic,
-            late: is_late_in(p.delivery),
+            late: p.delivery.is_late(),
             place: Place::At(Row::S0),
             slot: 0,
             polls: 0,
@@ -395,8 +385,8 @@ impl Monarch {
             Row::S0 => self.go_to_first(Row::S1, Row::S2),
             Row::S1 => self.go_to_next(Row::S1, Row::S2),
             Row::S2 => self.look_from(1),
-            Row::S3 => self.look(value_of(answer) as u8),
-            Row::S4 => self.obey(value_of(answer)),
+            Row::S3 => self.look(answer.value() as u8),
+            Row::S4 => self.obey(answer.value()),
             Row::T => {
                 self.complete();
                 self.take_next();
@@ -453,7 +443,7 @@ fn note(last: &mut [u8], label: Label, slot: u32, answer: Answer)
     ensures bytes { length last.new ≡ length last.old }
 {
     if let Label::N8b | Label::N11 = label {
-        last[slot as usize] = value_of(answer) as u8;
+        last[slot as usize] = answer.value() as u8;
     }
 }
 

@@ -1,5 +1,5 @@
 -- What a turn keeps, and what it makes.
-use Rattle.std.proofs.Common.{◌≡◌, ◌≤◌, ◌<◌, ◌+◌, ◌&&◌, ◌⊎◌, inl, inr, ℕ, zero, suc, Bool, true, false, nat_lt, List, [], ◌∷◌, ◌++◌, length, take, replicate, Option, Some, None, option_and_then, refl, sym, ap, subst, ◌∙◌, arith}
+use Rattle.std.proofs.Common.{◌≡◌, ◌≤◌, ◌<◌, ◌+◌, ◌&&◌, ◌⊎◌, inl, inr, ℕ, zero, suc, Bool, true, false, nat_lt, List, [], ◌∷◌, ◌++◌, length, take, replicate, Option, Some, None, option_and_then, refl, sym, ap, subst, ◌∙◌, arith, length-set}
 use Rattle.std.specs.Prelude.{slice_index_or, slice_set, if◌then◌else◌}
 use Rattle.std.proofs.lemmas.Option.{same_Some}
 use Rattle.std.proofs.lemmas.Bool.Decides.{nat_tests}
@@ -110,11 +110,6 @@ kept_same b c es asked notes kept platform same = record {
 }
 
 -- a turn was counted
-length-set : {X : Type 0} (xs : List X) (k : ℕ) (x : X) → length (slice_set xs k x) ≡ length xs
-length-set [] k x = refl
-length-set (y ∷ ys) zero x = refl
-length-set (y ∷ ys) (suc k) x = ap suc (length-set ys k x)
-
 length-counted : (o : Option ℕ) (ns : List ℕ) → length (counted_at o ns) ≡ length ns
 length-counted None ns = refl
 length-counted (Some place) ns = length-set ns place (one_more (slice_index_or ns place 0))

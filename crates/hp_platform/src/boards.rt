@@ -5,7 +5,7 @@ ghost use Rattle.hp_model.specs.Block.{ejected_by};
 ghost use Rattle.hp_model.specs.Boot.{fact_of, is_booting, is_handed};
 ghost use Rattle.hp_model.specs.declared.platforms.Platform.{Platform as APlatform};
 ghost use Rattle.hp_model.specs.Cpu.{cpu_at, page_of};
-ghost use Rattle.hp_model.specs.Platform.{IsFit, apic_of, is_late as comes_late};
+ghost use Rattle.hp_model.specs.Platform.{IsFit, apic_of};
 ghost use Rattle.hp_model.specs.Runs.{address_of as address_in};
 ghost use Rattle.hp_model.specs.State.{State, at, start};
 ghost use Rattle.hp_model.specs.Access.{stands_in_smm};
@@ -21,7 +21,7 @@ use hp_boot::{Boot, BootStage};
 use hp_image::image;
 use hp_machine::Machine;
 use hp_model::{
-    Access, Actor, Answer, BootFact, Cpu, Delivery, Event, Label, Mode, NoMemory, Platform, Want,
+    Access, Actor, Answer, BootFact, Cpu, Event, Label, Mode, NoMemory, Platform, Want,
 };
 use hp_smm::{Handlers, Stand};
 use std::alloc::Global;
@@ -67,16 +67,6 @@ impl Model for Board {
     ghost view = { λ b. record { platform = b.platform; machine = b.machine; boot = b.boot; handlers = b.handlers } };
 
     ghost invariant = { λ b. IsOf b.platform b.machine.apic b.handlers.layout };
-}
-
-/// Whether a latched SMI may be taken later than at once.
-pub(crate) fn is_late(p: &Platform) -> bool
-    ensures { result ≡ comes_late p.now.delivery }
-{
-    match p.delivery {
-        Delivery::Prompt => false,
-        Delivery::Late { lag: _ } => true,
-    }
 }
 
 /// Whether a present processor is in SMM.
@@ -288,7 +278,7 @@ impl Board {
         ensures due { (s : State) → Shows self.now s → due_by result ≡ due_of_cpu self.now.platform s k }
         ensures found { IsFinding self.now result }
     {
-        if !is_late(&self.platform) && self.machine.enabled(&Event::TakeSmi(k)) {
+        if !self.platform.delivery.is_late() && self.machine.enabled(&Event::TakeSmi(k)) {
             return Finding::Makes(Found::Plain(Event::TakeSmi(k)));
         }
         if self.machine.enabled(&Event::TakeInit(k)) {

@@ -14,7 +14,7 @@ ghost use Rattle.hp_model.specs.Step.{after as step_after, answer_of};
 ghost use Rattle.hp_platform.specs.Board.{IsFound, IsReady, Shows, event_of};
 ghost use Rattle.hp_platform.specs.World.{IsSound, IsTurned, asked_place, counted, counted_at, idle_place_of, idle_places, noted, turns_at, turns_of, without_heard};
 
-use crate::boards::{Board, Finding, Found, is_late};
+use crate::boards::{Board, Finding, Found};
 use crate::normal::normal;
 use hp_agent::{Agent, Agents};
 use hp_exact::runs_are_safe;
@@ -144,7 +144,11 @@ fn many_places(p: &Platform) -> usize
     ensures { result ≡ idle_places (comes_late p.now.delivery) (count_of p.now) }
 {
     let count = possible(p);
-    if is_late(p) { count + count } else { count }
+    if p.delivery.is_late() {
+        count + count
+    } else {
+        count
+    }
 }
 
 /// The place of an actor's idle turns.
@@ -154,7 +158,7 @@ fn place_in(p: &Platform, a: Actor) -> Option<usize>
     let count = possible(p);
     match a {
         Actor::Cpu(k) if (k as usize) < count => Some(k as usize),
-        Actor::Smi(k) if is_late(p) && (k as usize) < count => Some(count + k as usize),
+        Actor::Smi(k) if p.delivery.is_late() && (k as usize) < count => Some(count + k as usize),
         _ => None,
     }
 }

@@ -7,7 +7,8 @@ use Rattle.hp_model.specs.declared.accesses.Access.TheVariants.{Load, Store, Swa
 use Rattle.hp_model.specs.declared.accesses.Answer.{Answer}
 use Rattle.hp_model.specs.declared.accesses.Answer.TheVariants.{Quiet, Value}
 use Rattle.hp_model.specs.Access.{is_memory_width, is_port_width}
-use Rattle.hp_model.specs.Text.{spell, access_pieces, value_of}
+use Rattle.hp_model.specs.Boot.{value_in}
+use Rattle.hp_model.specs.Text.{spell, access_pieces}
 use Rattle.hp_reading.specs.declared.accesses.Made.{Made}
 use Rattle.hp_reading.specs.Forms.{past, fits, filled}
 use Rattle.hp_reading.specs.Lines.{only, quiet, answered, digits_and, load_form, store_form, in_form, out_form, swap_form, memory_width, port_width, load_line, store_line, in_line, out_line, swap_line, read_line, write_line, icr_line, access_of}
@@ -69,7 +70,7 @@ each_of x y p =
 
 -- each access that a line can say is read as it is spelled
 abbrev Reads : Access → Answer → Type 0
-Reads a answer = access_of (spell (access_pieces a (value_of answer))) ≡ Some (record { access = a; answer = answer })
+Reads a answer = access_of (spell (access_pieces a (value_in answer))) ≡ Some (record { access = a; answer = answer })
 
 not_quiet : {P : Type 0} (x y : Bool) → (x && (y && false)) ≡ true → P
 not_quiet true true e = cc
@@ -151,7 +152,7 @@ reads_access Nop (Value seen) h = cc
 -- a text that is read as an access spells it
 pub record IsAccess (t : List ℕ) (m : Made) : Type 0 where
   pub fit : access_fits m.access m.answer ≡ true
-  pub spelled : t ≡ spell (access_pieces m.access (value_of m.answer))
+  pub spelled : t ≡ spell (access_pieces m.access (value_in m.answer))
 
 made_load : (c w addr seen : ℕ) (t : List ℕ) → IsMemoryGlyph c w → fits (load_form w) (addr ∷ seen ∷ []) ≡ true → t ≡ spell (filled (load_form w) (addr ∷ seen ∷ []))
     → IsAccess (codes "load " ++ (c ∷ t)) (answered (Load addr w) seen)

@@ -11,7 +11,8 @@ use Rattle.hp_model.specs.declared.accesses.Answer.TheVariants.{Quiet, Value}
 use Rattle.hp_model.specs.declared.entries.Event.{Event}
 use Rattle.hp_model.specs.declared.entries.Event.TheVariants.{Insert, Remove, Do, TakeSmi, TakeInit, Resume, Tell}
 use Rattle.hp_model.specs.declared.entries.Entry.{Entry}
-use Rattle.hp_model.specs.Text.{Piece, hex, spell, access_pieces, value_of, actor_pieces, event_pieces, line_of, line_text}
+use Rattle.hp_model.specs.Boot.{value_in}
+use Rattle.hp_model.specs.Text.{Piece, hex, spell, access_pieces, actor_pieces, event_pieces, line_of, line_text}
 use Rattle.hp_reading.specs.Forms.{past, hex_front, decimal_front}
 use Rattle.hp_reading.specs.Lines.{most32, most64, row, only, entry, accessed, access_of, access_line, outcome_of, told_line, outside_line, inside_line, behind_address, address_line, behind_cpu, cpu_line, one_decimal, host_line, entry_of}
 use Rattle.hp_reading.specs.Lines as lines
@@ -24,7 +25,7 @@ use Rattle.hp_reading.proofs.OutcomeLines.{to_32, from_32, reads_outcome, outcom
 
 -- the text of a line, with its pieces in one list
 abbrev pub entry_pieces : Entry → List Piece
-entry_pieces e = actor_pieces e.event e.at ++ event_pieces e.event (value_of e.answer)
+entry_pieces e = actor_pieces e.event e.at ++ event_pieces e.event (value_in e.answer)
 
 spell-append : (ps qs : List Piece) → spell (ps ++ qs) ≡ spell ps ++ spell qs
 spell-append [] qs = refl
@@ -32,7 +33,7 @@ spell-append (p ∷ ps) qs = rw (spell-append ps qs) (sym (append_assoc _ (spell
 
 pub line_text-pieces : (e : Entry) → line_text e ≡ line_of (spell (entry_pieces e))
 unfolding line_text
-line_text-pieces e = ap line_of (sym (spell-append (actor_pieces e.event e.at) (event_pieces e.event (value_of e.answer))))
+line_text-pieces e = ap line_of (sym (spell-append (actor_pieces e.event e.at) (event_pieces e.event (value_in e.answer))))
 
 -- a processor's number, and what stands behind it
 abbrev cpu_text : ℕ → List ℕ → List ℕ
@@ -117,11 +118,11 @@ Reads event at answer = entry_of (spell (entry_pieces (record { event = event; a
 
 reads_do : (cpu : ℕ) (a : Access) (at : Option ℕ) (answer : Answer) → has_32 cpu ≡ true → is_either at ≡ true → access_fits a answer ≡ true → Reads (Do cpu a) at answer
 reads_do cpu a None answer h either fit =
-    reads_access_outside cpu a (value_of answer) h
-    ∙ (outside_access cpu a (value_of answer) ∙ ap (option_map (λ made. accessed cpu None made)) (reads_access a answer fit))
+    reads_access_outside cpu a (value_in answer) h
+    ∙ (outside_access cpu a (value_in answer) ∙ ap (option_map (λ made. accessed cpu None made)) (reads_access a answer fit))
 reads_do cpu a (Some at) answer h either fit =
-    reads_inside cpu at (spell (access_pieces a (value_of answer))) h either
-    ∙ (inside_access cpu at a (value_of answer) ∙ ap (option_map (λ made. accessed cpu (Some at) made)) (reads_access a answer fit))
+    reads_inside cpu at (spell (access_pieces a (value_in answer))) h either
+    ∙ (inside_access cpu at a (value_in answer) ∙ ap (option_map (λ made. accessed cpu (Some at) made)) (reads_access a answer fit))
 
 at_smi : (cpu : ℕ) → outside_line cpu (codes "smi" ++ []) ≡ Some (entry (TakeSmi cpu) None)
 unfolding past

@@ -15,7 +15,8 @@ use Rattle.hp_model.specs.declared.outcomes.Outcome.TheVariants.{Added, Ejected,
 use Rattle.hp_model.specs.declared.entries.Event.{Event}
 use Rattle.hp_model.specs.declared.entries.Event.TheVariants.{Insert, Remove, Do, TakeSmi, TakeInit, Resume, Tell}
 use Rattle.hp_model.specs.declared.entries.Entry.{Entry}
-use Rattle.hp_model.specs.Text.{Piece, word, number, hexadecimal, spell, hex, numbers_text, truth_text, ext_pieces, delivery_pieces, x2apic_pieces, head_pieces, access_pieces, value_of, at_pieces, refusal_pieces, outcome_pieces, actor_pieces, event_pieces}
+use Rattle.hp_model.specs.Boot.{value_in}
+use Rattle.hp_model.specs.Text.{Piece, word, number, hexadecimal, spell, hex, numbers_text, truth_text, ext_pieces, delivery_pieces, x2apic_pieces, head_pieces, access_pieces, at_pieces, refusal_pieces, outcome_pieces, actor_pieces, event_pieces}
 use Rattle.hp_reading.proofs.EntryLines.{entry_pieces}
 
 abbrev pub has_none : List ℕ → Bool
@@ -137,7 +138,7 @@ free-event (Resume k) seen = refl
 free-event (Tell o) seen = free-outcome o
 
 pub none-entry : (e : Entry) → has_none (spell (entry_pieces e)) ≡ true
-none-entry e = none-spell (entry_pieces e) (free-append (actor_pieces e.event e.at) _ (free-actor e.event e.at) (free-event e.event (value_of e.answer)))
+none-entry e = none-spell (entry_pieces e) (free-append (actor_pieces e.event e.at) _ (free-actor e.event e.at) (free-event e.event (value_in e.answer)))
 
 free-ext : (b : Bool) → are_free (ext_pieces b) ≡ true
 free-ext true = refl

@@ -15,7 +15,8 @@ use Rattle.hp_model.specs.declared.entries.Event.{Event}
 use Rattle.hp_model.specs.declared.entries.Event.TheVariants.{Insert, Remove, Do, TakeSmi, TakeInit, Resume, Tell}
 use Rattle.hp_model.specs.declared.entries.Entry.{Entry}
 use Rattle.hp_model.specs.Access.{is_normal, is_memory_width, is_port_width}
-use Rattle.hp_model.specs.Text.{Piece, word, number, hexadecimal, spell, hex, access_pieces, value_of, at_pieces, refusal_pieces, outcome_pieces, actor_pieces, event_pieces}
+use Rattle.hp_model.specs.Boot.{value_in}
+use Rattle.hp_model.specs.Text.{Piece, word, number, hexadecimal, spell, hex, access_pieces, at_pieces, refusal_pieces, outcome_pieces, actor_pieces, event_pieces}
 use Rattle.hp_reading.specs.Lines.{entry_of}
 use Rattle.hp_reading.specs.Written.{has_32, has_status, has_two, has_three, refusal_fits, outcome_fits, access_fits, is_either, is_written}
 use Rattle.hp_reading.proofs.HexText.{length-hex}
@@ -165,14 +166,14 @@ short_told o h = let is = short_outcome o h in record { bits = is.bits; short = 
 
 -- each line has at most 22 bytes in front of the step, which has at most 65
 short_entry : (event : Event) (at : Option ℕ) (answer : Answer) → is_written (record { event = event; at = at; answer = answer }) event ≡ true
-    → AreShort 87 (actor_pieces event at ++ event_pieces event (value_of answer))
+    → AreShort 87 (actor_pieces event at ++ event_pieces event (value_in answer))
 short_entry (Insert k) at answer h = let (small, more) = and_parts (has_32 k) _ h in let is = short_host (codes "insert ") k (omega arith) small in record { bits = is.bits; short = omega (arith, is.short) }
 short_entry (Remove k) at answer h = let (small, more) = and_parts (has_32 k) _ h in let is = short_host (codes "remove ") k (omega arith) small in record { bits = is.bits; short = omega (arith, is.short) }
 short_entry (Do k a) at answer h =
     let (small, more) = and_parts (has_32 k) _ h in
     let (either, fit) = and_parts (is_either at) (access_fits a answer) more in
     let (normal, others) = and_parts (is_normal a) _ fit in
-    short-append 22 65 (word (codes "p") ∷ number k ∷ at_pieces at) (access_pieces a (value_of answer)) (short_cpu k at small) (short_access a (value_of answer) normal)
+    short-append 22 65 (word (codes "p") ∷ number k ∷ at_pieces at) (access_pieces a (value_in answer)) (short_cpu k at small) (short_access a (value_in answer) normal)
 short_entry (TakeSmi k) at answer h =
     let (small, more) = and_parts (has_32 k) _ h in
     short-append 22 65 (word (codes "p") ∷ number k ∷ at_pieces at) (word (codes "smi") ∷ []) (short_cpu k at small) (short_word (codes "smi") (omega arith))

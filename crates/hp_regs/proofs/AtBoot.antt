@@ -1,10 +1,8 @@
 -- The slots at the start, one after another.
-use Rattle.std.proofs.Common.{◌≡◌, ℕ, suc, Bool, ◌+◌, ◌<◌, ◌≤◌, ◌==◌, ◌||◌, List, [], ◌∷◌, ◌++◌, length, drop, refl, ap, append_assoc, drop-cons, add-one, arith}
+use Rattle.std.proofs.Common.{◌≡◌, ℕ, suc, Bool, ◌+◌, ◌<◌, ◌==◌, ◌||◌, List, [], ◌∷◌, ◌++◌, length, drop, refl, ap, append_assoc, drop-cons, add-one}
 use Rattle.std.specs.List.{list_any}
-use Rattle.std.proofs.lemmas.Bool.Decides.{nat_tests}
-use Rattle.hp_model.specs.declared.platforms.Platform.{Platform}
-use Rattle.hp_model.specs.Platform.{IsFit}
 use Rattle.hp_model.specs.Block.{Slot, no_slot, is_in, slots_from}
+use Rattle.hp_model.proofs.FitPlatforms.{apic_few}
 
 is_in_any : (k : ℕ) (xs : List ℕ) → is_in k xs ≡ list_any (λ x. x == k) xs
 is_in_any k [] = refl
@@ -20,8 +18,4 @@ pub length-slots_from : (k : ℕ) (apic boot : List ℕ) → length (slots_from 
 length-slots_from k [] boot = refl
 length-slots_from k (a ∷ as') boot = ap suc (length-slots_from (k + 1) as' boot)
 
--- a platform that fits has at most 512 processors
-pub few : (p : Platform) → IsFit p → length p.apic ≤ 512
-few p fit = grind (arith, nat_tests)
-
-pub ruleset new_facts = (length-slots_from, few)
+pub ruleset new_facts = (length-slots_from, apic_few)

@@ -10,7 +10,7 @@ use Rattle.hp_model.specs.Block.{is_in}
 use Rattle.hp_model.specs.Platform.{all_distinct}
 use Rattle.hp_model.specs.Slots.{place_of}
 use Rattle.hp_reloc.specs.Roster.{IsSound}
-use Rattle.hp_reloc.proofs.Bound.{pigeons}
+use Rattle.hp_model.proofs.Counts.{pigeons}
 
 -- the two ways to say that it is among them
 any_in : (x : ℕ) (xs : List ℕ) → list_any (λ y. y == x) xs ≡ is_in x xs

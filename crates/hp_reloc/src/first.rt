@@ -84,16 +84,6 @@ pub fn first_want_by(x2apic: bool, label: Label, apic: u32, base: u32) -> Want
     Want::Do(access)
 }
 
-/// The value of an answer, 0 where it has none.
-pub fn value_of(answer: Answer) -> u64
-    ensures { result ≡ value_in answer }
-{
-    match answer {
-        Answer::Quiet => 0,
-        Answer::Value(value) => value,
-    }
-}
-
 /// Where the answer leads: the next label of the first handler, and the base from there on. Who isn't at the gate stays at F1.
 pub fn first_next(label: Label, apic: u32, base: u32, answer: Answer) -> (Label, u32)
     requires first { part_of label ≡ First }
@@ -101,7 +91,7 @@ pub fn first_next(label: Label, apic: u32, base: u32, answer: Answer) -> (Label,
     ensures { (y : Layout) (slot : ℕ) (r : Monarch) →
         next_at y (record { apic = apic; slot = slot; base = base }) r label (value_in answer) ≡ record { label = result.0; base = result.1; monarch = r } }
 {
-    let value = value_of(answer);
+    let value = answer.value();
     match label {
         Label::F1 if value == u64::from(apic) => (Label::F2, base),
         Label::F1 => (Label::F1, base),

@@ -9,7 +9,7 @@ mod rows;
 mod slots;
 mod standing;
 
-pub use first::{first_next, first_want, first_want_by, value_of};
+pub use first::{first_next, first_want, first_want_by};
 pub use laws::{
     a_slot_stays_with_its_apic_id, an_apic_id_has_a_slot_of_its_own,
     an_apic_id_is_known_from_its_add_to_its_eject,

@@ -15,7 +15,7 @@ ghost use Rattle.hp_model.specs.Platform.{IsFit, high_half, tseg as first_of_tse
 ghost use Rattle.hp_model.specs.SharedBytes.{Layout, gate};
 ghost use Rattle.hp_reloc.specs.Relocating.{Fits, IsGoing, IsOfAdd, add_in, goes_on, greatest, label_of, outcome_of, step_of};
 
-use crate::first::{CLOSED, FLAG, GATE, NEW_SMBASE, SMI, destination, value_of};
+use crate::first::{CLOSED, FLAG, GATE, NEW_SMBASE, SMI, destination};
 use crate::rows::Row;
 use crate::standing::Standing;
 use hp_model::{Access, Answer, Label, Outcome, Platform, Refusal, Step, tseg};
@@ -104,7 +104,7 @@ fn store_gate(value: u64) -> Access
 
 impl Reloc {
     /// The add of the processor in place `cpu`, whose APIC ID is `apic`, to the tile of `slot`, below 512. It begins at NB. Takes no memory.
-    #[tactic(auto, using(crate::proofs::Bound::tseg_below))]
+    #[tactic(auto, using(hp_model::proofs::FitPlatforms::tseg_below))]
     pub fn new(p: &Platform, cpu: u32, apic: u32, slot: u32) -> Reloc
         requires fit { IsFit p.now }
         requires apic { apic ≤ greatest p.now.x2apic }
@@ -360,7 +360,7 @@ impl Reloc {
         ensures of_add { result ≢ steps.Ejected }
         ensures stays { (self.new.tseg ≡ self.old.tseg) × ((self.new.polls ≡ self.old.polls) × (self.new.x2apic ≡ self.old.x2apic)) }
     {
-        let value = value_of(answer);
+        let value = answer.value();
         match self.row() {
             Row::NB => self.begin(),
             Row::N0 => self.go_to(Row::N1),

@@ -67,7 +67,7 @@ fn first_known(known: &[bool], from: u32) -> Option<u32>
 }
 
 /// The APIC IDs of these places.
-#[tactic(auto, using(crate::proofs::Bound::place_below))]
+#[tactic(auto, using(hp_model::proofs::Counts::below_at))]
 fn ids_at(alloc: Global, apic: &[u32], places: &[u32]) -> Result<Vec<u32>, NoMemory>
     requires { list_all (λ k. nat_lt k (length apic.now)) places.now ≡ true }
     ensures { IfOk result (λ ids. ids.items ≡ map (λ k. slice_index_or apic.now k no_id) places.now) }

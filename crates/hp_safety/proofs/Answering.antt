@@ -22,6 +22,7 @@ use Rattle.hp_model.specs.Account.{is_known as known_by}
 use Rattle.hp_model.specs.Sessions.{open_triple}
 use Rattle.hp_model.specs.Outcomes.{answers_by, answers, when_told, each_told}
 use Rattle.hp_model.proofs.AtEach.{made as step_made, each_passes}
+use Rattle.hp_model.proofs.Counts.{place_below}
 use Rattle.hp_sealed.specs.Left.{Sound}
 use Rattle.hp_sealed.specs.Sealed.{Placed, IsSealed}
 use Rattle.hp_sealed.specs.Booting.{IsBooted}
@@ -30,7 +31,6 @@ use Rattle.hp_sealed.proofs.Goes.{boot_goes, refused_goes}
 use Rattle.hp_sealed.proofs.HandOver.{IsBefore}
 use Rattle.hp_sealed.proofs.Runs.{Made, made}
 use Rattle.hp_safety.proofs.Marked.{same_index}
-use Rattle.hp_safety.proofs.Placing.{place_below}
 use Rattle.hp_safety.proofs.Events.{keeps}
 use Rattle.hp_safety.proofs.Runs.{IsHanded, rebase}
 use Rattle.hp_safety.proofs.Named.{Accounted, accounted_on}

@@ -1,7 +1,7 @@
 -- What reports are judged by, as the entries say and as the record has it: over one step more.
 use Rattle.std.specs.Prelude.{slice_index_or, if◌then◌else◌}
 use Rattle.std.specs.Option.{unwrap_or}
-use Rattle.std.proofs.Common.{ℕ, zero, suc, ◌≡◌, ◌≢◌, ◌<◌, ◌≤◌, ◌==◌, inl, inr, Bool, true, false, cond, ◌&&◌, ◌||◌, List, [], ◌∷◌, length, slice_set, Option, Some, None, option_map, option_and_then, refl, sym, ap, subst, ◌∙◌, arith, get_or-set_other}
+use Rattle.std.proofs.Common.{ℕ, zero, suc, ◌≡◌, ◌≢◌, ◌<◌, ◌≤◌, ◌==◌, inl, inr, Bool, true, false, cond, ◌&&◌, ◌||◌, List, [], ◌∷◌, length, slice_set, Option, Some, None, option_map, option_and_then, refl, sym, ap, subst, ◌∙◌, arith, get_or-set_other, length-set}
 use Rattle.std.proofs.lemmas.Bool.{and_parts, eqb-true}
 use Rattle.std.proofs.lemmas.Bool.Decides.{nat_tests}
 use Rattle.hp_model.specs.declared.platforms.Platform.{Platform}
@@ -33,6 +33,7 @@ use Rattle.hp_model.specs.Transitions.{Transition, entries_of}
 use Rattle.hp_model.specs.Account.{told_known, is_known as known_by}
 use Rattle.hp_model.specs.Sessions.{bounds_session, last_look}
 use Rattle.hp_model.proofs.AtEach.{made as step_made}
+use Rattle.hp_model.proofs.Counts.{place_below}
 use Rattle.hp_sealed.specs.Left.{Sound}
 use Rattle.hp_sealed.specs.Sealed.{Placed}
 use Rattle.hp_sealed.proofs.Left.{pick}
@@ -40,7 +41,7 @@ use Rattle.hp_sealed.proofs.Goes.{stepped}
 use Rattle.hp_sealed.proofs.Starts.{set_all}
 use Rattle.hp_sealed.proofs.Runs.{made}
 use Rattle.hp_safety.proofs.Invariant.{is_adding, facts_of, Met, Holding}
-use Rattle.hp_safety.proofs.Placing.{place_same, place_below, length-set}
+use Rattle.hp_safety.proofs.Placing.{place_same}
 use Rattle.hp_safety.proofs.Keeps.{that_is}
 use Rattle.hp_safety.proofs.Marked.{same_index}
 use Rattle.hp_safety.proofs.GateRows.{Moves}

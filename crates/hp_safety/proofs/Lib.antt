@@ -1,6 +1,5 @@
 pub mod Needs
 pub mod EachRow
-pub mod Pigeons
 pub mod Invariant
 pub mod Saves
 pub mod Writes

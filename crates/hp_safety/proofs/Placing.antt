@@ -1,5 +1,5 @@
 -- Slots stay distinct and possible when an APIC ID is bound, and a new processor's isn't slot 0.
-use Rattle.std.proofs.Common.{ℕ, zero, suc, ◌≡◌, ◌+◌, ◌<◌, ◌≤◌, ◌==◌, Bool, true, false, cond, not, ◌&&◌, ◌||◌, List, [], ◌∷◌, ◌++◌, length, slice_set, Some, refl, sym, ap, subst, ◌∙◌, arith}
+use Rattle.std.proofs.Common.{ℕ, zero, suc, ◌≡◌, ◌+◌, ◌≤◌, ◌==◌, Bool, true, false, cond, not, ◌&&◌, ◌||◌, List, [], ◌∷◌, ◌++◌, length, Some, refl, sym, ap, subst, ◌∙◌, arith, length-set}
 use Rattle.std.specs.Prelude.{slice_get, slice_index_or}
 use Rattle.std.specs.List.{list_all, list_any}
 use Rattle.std.proofs.lemmas.Bool.{and_parts, eqb-true}
@@ -11,13 +11,13 @@ use Rattle.hp_model.specs.Block.{is_in}
 use Rattle.hp_model.specs.Slots.{Slots, place_of, bind, completed, forgotten}
 use Rattle.hp_model.specs.Collection.{Report}
 use Rattle.hp_model.specs.Monarch.{is_that, is_own}
+use Rattle.hp_model.proofs.Counts.{pigeons, place_below}
 use Rattle.hp_sealed.specs.Left.{Sound}
 use Rattle.hp_sealed.specs.Sealed.{Placed}
 use Rattle.hp_sealed.proofs.Left.{pick_by}
 use Rattle.hp_safety.proofs.Needs.{IsSlot}
 use Rattle.hp_safety.proofs.Invariant.{Holding}
 use Rattle.hp_safety.proofs.Keeps.{Grows}
-use Rattle.hp_safety.proofs.Pigeons.{pigeons}
 
 same : (n : ℕ) → (n == n) ≡ true
 same n = grind (arith, nat_tests)
@@ -86,11 +86,6 @@ is_in_bind : (s : Slots) (a : ℕ) → is_in a (bind a s).bound ≡ true
 is_in_bind s a = pick_by (λ (t : Slots). is_in a t.bound ≡ true) (is_in a s.bound) s (record s { bound = s.bound ++ a ∷ []; known = s.known ++ false ∷ [] }) (λ e. e) (λ e. in_end a s.bound)
 
 -- it is known from then on
-pub length-set : {A : Type 0} (bs : List A) (k : ℕ) (b : A) → length (slice_set bs k b) ≡ length bs
-length-set [] k b = refl
-length-set (x ∷ xs) zero b = refl
-length-set (x ∷ xs) (suc k) b = ap suc (length-set xs k b)
-
 pub placed_completed : (p : Platform) (s : Slots) (a : ℕ) → Placed p s → Placed p (completed a s)
 placed_completed p s a h = record { first = h.first; distinct = h.distinct; possible = h.possible; known = length-set s.known (place_of s.bound a) true ∙ h.known }
 
@@ -98,14 +93,6 @@ pub placed_forgotten : (p : Platform) (s : Slots) (a : ℕ) → Placed p s → P
 placed_forgotten p s a h = record { first = h.first; distinct = h.distinct; possible = h.possible; known = length-set s.known (place_of s.bound a) false ∙ h.known }
 
 -- the place of one that is bound, and isn't processor 0's
-pub place_below : (bs : List ℕ) (a : ℕ) → is_in a bs ≡ true → place_of bs a < length bs
-place_below [] a e = absurd cc
-place_below (b ∷ bs) a e = by_head (b == a) e (λ f. place_below bs a f)
-  where
-    by_head : (c : Bool) → (c || is_in a bs) ≡ true → (is_in a bs ≡ true → place_of bs a < length bs) → cond c 0 (place_of bs a + 1) < suc (length bs)
-    by_head true e more = omega arith
-    by_head false e more = let i = more e in omega (arith, i)
-
 place_some : (bs : List ℕ) (x a : ℕ) → is_that (slice_get bs 0) x ≡ true → (x == a) ≡ false → 1 ≤ place_of bs a
 place_some [] x a e n = absurd cc
 place_some (b ∷ bs) x a e n = let i : b ≡ x = eqb-true b x e in rw (i, n) (omega arith)

@@ -8,8 +8,9 @@ use Rattle.hp_model.specs.View.{Locks, is_hole, stored}
 use Rattle.hp_model.specs.SharedBytes.{gate, new_smbase, flag, default_smbase_field}
 use Rattle.hp_model.specs.Slots.{Slots}
 use Rattle.hp_model.specs.Monarch.{Monarch}
+use Rattle.hp_model.proofs.Bytes.{length-bytes_of}
 use Rattle.hp_sealed.specs.Left.{IsLeft, Sound, Locked, is_guarded, guarded_by}
-use Rattle.hp_sealed.proofs.Left.{left_same, left_store, length-bytes_of}
+use Rattle.hp_sealed.proofs.Left.{left_same, left_store}
 use Rattle.hp_sealed.proofs.Values.{value_left, value_written, value_eight, value_one}
 use Rattle.hp_safety.proofs.Invariant.{held_tile, is_ready, may_return, IsShut, IsGated}
 use Rattle.hp_safety.proofs.Saves.{in_reach}

@@ -1,6 +1,6 @@
 -- The slots at the start: the boot processors' APIC IDs are distinct possible ones.
 use Rattle.std.proofs.Common.{ℕ, zero, suc, ◌≡◌, ◌+◌, ◌<◌, ◌≤◌, ◌==◌, Bool, true, false, not, ◌&&◌, ◌||◌, nat_lt, List, [], ◌∷◌, length, map, get_or, refl, sym, ap, subst, ◌∙◌, arith}
-use Rattle.std.specs.Prelude.{slice_index_or, slice_get}
+use Rattle.std.specs.Prelude.{slice_get}
 use Rattle.std.specs.List.{list_all, list_any}
 use Rattle.std.proofs.lemmas.Bool.{and_parts, ltb-true}
 use Rattle.std.proofs.lemmas.Bool.Decides.{nat_tests}
@@ -10,6 +10,7 @@ use Rattle.hp_model.specs.Platform.{all_distinct, ascends_from, count_of, apic_o
 use Rattle.hp_model.specs.Block.{is_in}
 use Rattle.hp_model.specs.Slots.{slots_start, place_of}
 use Rattle.hp_model.specs.Monarch.{is_that}
+use Rattle.hp_model.proofs.Counts.{in_at}
 use Rattle.hp_sealed.specs.Sealed.{Placed}
 
 -- two places of a list of distinct IDs hold two of them
@@ -36,18 +37,6 @@ ids_differ (a ∷ as') i j e li lj g = by_head (list_any (λ y. y == a) as') ref
     by_head false u f zero (suc j) li lj g more = absurd (none_same as' a j u (omega (arith, lj)) (sym g))
     by_head false u f (suc i) zero li lj g more = absurd (none_same as' a i u (omega (arith, li)) g)
     by_head false u f (suc i) (suc j) li lj g more = ap suc (more i j f (omega (arith, li)) (omega (arith, lj)) g)
-
-in_at : (as' : List ℕ) (k : ℕ) → k < length as' → is_in (slice_index_or as' k 0xffffffff) as' ≡ true
-in_at [] k less = absurd (omega (arith, less))
-in_at (a ∷ as') zero less = let s : (a == a) ≡ true = same a in rw s refl
-  where
-    same : (n : ℕ) → (n == n) ≡ true
-    same n = grind (arith, nat_tests)
-in_at (a ∷ as') (suc k) less = more (a == slice_index_or as' k 0xffffffff) (is_in (slice_index_or as' k 0xffffffff) as') (in_at as' k (omega (arith, less)))
-  where
-    more : (b c : Bool) → c ≡ true → (b || c) ≡ true
-    more true c e = refl
-    more false c e = e
 
 -- of processors in their order, below the number of possible ones
 module _ (p : Platform) (ids : all_distinct p.apic ≡ true) where
@@ -77,14 +66,14 @@ module _ (p : Platform) (ids : all_distinct p.apic ≡ true) where
   possible_ids [] all = refl
   possible_ids (b ∷ bs) all =
       let alls = and_parts (nat_lt b (count_of p)) (list_all (λ b. nat_lt b (count_of p)) bs) all in
-      let here = in_at p.apic b (ltb-true b (count_of p) alls.0) in
+      let here = in_at p.apic b 0xffffffff (ltb-true b (count_of p) alls.0) in
       rw here (possible_ids bs alls.1)
 
   pub placed_start : (rest : List ℕ) → p.boot ≡ 0 ∷ rest → ascends_from 0 rest ≡ true → list_all (λ b. nat_lt b (count_of p)) rest ≡ true → 1 ≤ count_of p → Placed p (slots_start p)
   placed_start rest is up all some = record {
     first = subst (λ bs. is_that (slice_get (map (apic_of p) bs) 0) (apic_of p 0) ≡ true) (sym is) (same (apic_of p 0));
     distinct = subst (λ bs. all_distinct (map (apic_of p) bs) ≡ true) (sym is) (let none = none_later 0 0 rest (omega arith) some up all in rw none (distinct_ids 0 rest up all));
-    possible = subst (λ bs. list_all (λ a. is_in a p.apic) (map (apic_of p) bs) ≡ true) (sym is) (let here = in_at p.apic 0 some in rw here (possible_ids rest all));
+    possible = subst (λ bs. list_all (λ a. is_in a p.apic) (map (apic_of p) bs) ≡ true) (sym is) (let here = in_at p.apic 0 0xffffffff some in rw here (possible_ids rest all));
     known = length-replicate (length p.boot) true ∙ sym (length-map p.boot (apic_of p));
   }
     where

@@ -12,10 +12,11 @@ use Rattle.hp_model.specs.Labels.{Part, First, Relocated, Monarch, part_of, inde
 use Rattle.hp_model.specs.SharedBytes.{layout_of, release_byte, gate, closed}
 use Rattle.hp_model.specs.Image.{relocated_labels, monarch_labels, with_cells, with_tiles, with_releases, image}
 use Rattle.hp_model.specs.Handlers.{runs_at, address_of_label}
+use Rattle.hp_model.proofs.Bytes.{length-bytes_of}
 use Rattle.hp_sealed.specs.Left.{Sound}
 use Rattle.hp_sealed.specs.Sealed.{is_other_tile, Holds}
 use Rattle.hp_sealed.specs.Booting.{memory_after, is_set_up}
-use Rattle.hp_sealed.proofs.Left.{left_more, length-bytes_of}
+use Rattle.hp_sealed.proofs.Left.{left_more}
 use Rattle.hp_sealed.proofs.Labels.{same_label, index_small, mark_small, among_relocated, among_monarch}
 use Rattle.hp_sealed.proofs.Values.{value_same, value_written, value_apart}
 use Rattle.hp_sealed.proofs.Places.{slot_of, kept_cell, kept_set_up, gate_set_up}

@@ -1,10 +1,11 @@
 -- Which writes leave a byte alone: none from outside SMM covers one that is locked.
-use Rattle.std.proofs.Common.{ℕ, zero, suc, ◌≡◌, ◌+◌, ◌/◌, ◌==◌, Bool, true, false, cond, ◌&&◌, ◌||◌, nat_lt, nat_le, List, [], ◌∷◌, length, refl, sym, subst, ◌∙◌, arith}
+use Rattle.std.proofs.Common.{ℕ, zero, suc, ◌≡◌, ◌+◌, ◌==◌, Bool, true, false, cond, ◌&&◌, ◌||◌, nat_lt, nat_le, List, [], ◌∷◌, refl, sym, subst, ◌∙◌, arith}
 use Rattle.std.proofs.lemmas.Bool.Decides.{nat_tests}
-use Rattle.hp_model.specs.Memory.{Write, covers, byte_at, bytes_of, write_of}
+use Rattle.hp_model.specs.Memory.{Write, covers, byte_at, write_of}
 use Rattle.hp_model.specs.View.{Locks, is_locked, is_hidden, is_hole, loaded, stored, swapped}
 use Rattle.hp_model.specs.FwCfg.{FwCfg}
 use Rattle.hp_model.specs.Transfers.{Asked, Move, nothing, to_memory, from_memory, failed, Transferred, descriptor_at, ask, bytes_stored, moved, control_after, carried_out, transfer}
+use Rattle.hp_model.proofs.Bytes.{length-bytes_of}
 use Rattle.hp_sealed.specs.Left.{IsLeft}
 
 pub left_same : (x : ℕ) (ws : List Write) → IsLeft x ws ws
@@ -15,11 +16,6 @@ left_then x a b c h g = record { byte = g.byte ∙ h.byte; touched = g.touched �
 
 pub left_more : (x : ℕ) (w : Write) (ws : List Write) → covers w x ≡ false → IsLeft x ws (w ∷ ws)
 left_more x w ws e = record { byte = rw e refl; touched = rw e refl }
-
-pub length-bytes_of : (n v : ℕ) → length (bytes_of n v) ≡ n
-unfolding bytes_of
-length-bytes_of zero v = refl
-length-bytes_of (suc n) v = omega (arith, length-bytes_of n (v / 256))
 
 -- a property of both sides of a choice
 pub pick : {X : Type 0} (P : X → Type 0) (b : Bool) (y n : X) → P y → P n → P (cond b y n)

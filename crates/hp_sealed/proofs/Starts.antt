@@ -1,12 +1,12 @@
 -- A platform that fits, and its machine at the start.
-use Rattle.std.proofs.Common.{ℕ, zero, suc, ◌≡◌, ◌≢◌, ◌+◌, ◌-◌, ◌*◌, ◌/◌, ◌%◌, ◌<◌, ◌≤◌, ◌==◌, ◌⊎◌, inl, inr, Bool, true, false, cond, not, ◌&&◌, ◌||◌, nat_lt, nat_le, List, [], ◌∷◌, length, slice_set, replicate, Option, Some, None, refl, sym, ap, subst, ◌∙◌, arith, get_or-set_other, if◌then◌else◌}
+use Rattle.std.proofs.Common.{ℕ, zero, suc, ◌≡◌, ◌≢◌, ◌+◌, ◌-◌, ◌*◌, ◌/◌, ◌%◌, ◌<◌, ◌≤◌, ◌==◌, ◌⊎◌, inl, inr, Bool, true, false, not, ◌&&◌, ◌||◌, nat_lt, nat_le, List, [], ◌∷◌, length, slice_set, replicate, None, refl, sym, ap, subst, ◌∙◌, arith, get_or-set_other, if◌then◌else◌}
 use Rattle.std.specs.Prelude.{slice_index_or}
 use Rattle.std.specs.List.{list_all}
 use Rattle.std.proofs.lemmas.Bool.{and_parts, eqb-true, ltb-true, cases_eq}
 use Rattle.std.proofs.lemmas.Bool.Decides.{nat_tests}
 use Rattle.hp_model.specs.declared.platforms.Platform.{Platform}
 use Rattle.hp_model.specs.declared.processors.Cpu.{Cpu}
-use Rattle.hp_model.specs.Platform.{IsFit, counts_fit, ids_fit, boot_fits, memory_fits, tseg_fits, tiles_fit, features_fit, polls_fit, ascends_from, ascends_from_zero, all_distinct, tseg, tile, count_of, apic_of, greatest_id, most_tiles, has_room}
+use Rattle.hp_model.specs.Platform.{IsFit, boot_fits, tseg_fits, ascends_from, ascends_from_zero, all_distinct, tseg, tile, count_of, apic_of, greatest_id, most_tiles, has_room}
 use Rattle.hp_model.specs.Cpu.{absent, booted, boot_cpus, cpus_start, cpu_at, smm_address}
 use Rattle.hp_model.specs.Block.{is_in}
 use Rattle.hp_model.specs.SharedBytes.{layout_of}
@@ -14,14 +14,11 @@ use Rattle.hp_model.specs.Handlers.{slot_at}
 use Rattle.hp_model.specs.Slots.{slots_start, boot_ids, place_of}
 use Rattle.hp_model.specs.Boot.{ext_count}
 use Rattle.hp_model.specs.State.{start}
+use Rattle.hp_model.proofs.FitPlatforms.{rules_of}
 use Rattle.hp_sealed.specs.Left.{Sound}
 use Rattle.hp_sealed.specs.Sealed.{is_based, Placed, IsAtSlot}
 use Rattle.hp_sealed.specs.Booting.{smram_after, esmramc_after, IsBooting}
 use Rattle.hp_sealed.proofs.BootSlots.{placed_start, AtPlaces, places}
-
-passed : (b : Bool) (n : ℕ) (rest : Option ℕ) → cond (not b) (Some n) rest ≡ None → (b ≡ true) × (rest ≡ None)
-passed true n rest e = (refl, e)
-passed false n rest e = absurd cc
 
 ids_small : (most : ℕ) (as' : List ℕ) (k : ℕ) → most ≤ 0xffffffff → list_all (λ a. nat_le a most) as' ≡ true → slice_index_or as' k 0xffffffff ≤ 0xffffffff
 ids_small most [] k low e = omega arith
@@ -67,33 +64,10 @@ boot_list p e = by_list p.boot refl e
 sizes : (m : ℕ) → ((m == 1) || ((m == 2) || ((m == 8) || (m == 48)))) ≡ true → (m ≡ 1) ⊎ ((m ≡ 2) ⊎ ((m ≡ 8) ⊎ (m ≡ 48)))
 sizes m e = grind (arith, nat_tests)
 
--- rules 2 to 9
-pub record Fits (p : Platform) : Type 0 where
-  pub counts : counts_fit p ≡ true
-  pub ids : ids_fit p ≡ true
-  pub boot : boot_fits p ≡ true
-  pub memory : memory_fits p ≡ true
-  pub size : tseg_fits p ≡ true
-  pub tiles : tiles_fit p ≡ true
-  pub features : features_fit p ≡ true
-  pub polls : polls_fit p ≡ true
-
-pub fits : (p : Platform) → IsFit p → Fits p
-fits p e =
-    let a = passed (counts_fit p) 2 _ e in
-    let b = passed (ids_fit p) 3 _ a.1 in
-    let c = passed (boot_fits p) 4 _ b.1 in
-    let d = passed (memory_fits p) 5 _ c.1 in
-    let f = passed (tseg_fits p) 6 _ d.1 in
-    let g = passed (tiles_fit p) 7 _ f.1 in
-    let k = passed (features_fit p) 8 _ g.1 in
-    let l = passed (polls_fit p) 9 _ k.1 in
-    record { counts = a.0; ids = b.0; boot = c.0; memory = d.0; size = f.0; tiles = g.0; features = k.0; polls = l.0 }
-
 pub sound : (p : Platform) → IsFit p → Sound p
 sound p e =
-    let f = fits p e in
-    let size = sizes p.tseg_mib f.size in
+    let f = rules_of p e in
+    let size = sizes p.tseg_mib f.tseg in
     let list = boot_list p f.boot in
     let low = memory_low p.low_memory f.memory in
     let tiles = and_parts (nat_le (count_of p) (most_tiles p.tseg_mib)) (has_room p) (and_parts (tseg_fits p) (nat_le (count_of p) (most_tiles p.tseg_mib) && has_room p) f.tiles).1 in
@@ -266,7 +240,7 @@ pub starts : (p : Platform) → IsFit p → IsBooting p (start p)
 unfolding cpus_start
 starts p e =
     let fit = sound p e in
-    let list = boot_list p (fits p e).boot in
+    let list = boot_list p (rules_of p e).boot in
     let all : (j : ℕ) → Booted p j (cpu_at (boot_cpus p 0 p.boot (replicate (count_of p) absent)) j) = subst (λ bs. (j : ℕ) → Booted p j (cpu_at (boot_cpus p 0 bs (replicate (count_of p) absent)) j)) (sym list.is) (all_booted p list fit.some (subst (AtPlaces (apic_of p) (boot_ids p) 0) list.is (places (apic_of p) p.boot (placed p list fit).distinct))) in
     let first : (cpu_at (boot_cpus p 0 p.boot (replicate (count_of p) absent)) 0).present ≡ true = subst (λ bs. (cpu_at (boot_cpus p 0 bs (replicate (count_of p) absent)) 0).present ≡ true) (sym list.is) (first_booted p list fit) in
     record {

@@ -3,8 +3,9 @@ use Rattle.std.proofs.Common.{ℕ, zero, suc, ◌≡◌, ◌+◌, ◌-◌, ◌<�
 use Rattle.std.proofs.lemmas.Bool.Decides.{nat_tests}
 use Rattle.hp_model.specs.Memory.{Write, covers, byte_at, bytes_of, value_from, write_of}
 use Rattle.hp_model.specs.FwCfg.{little_value}
+use Rattle.hp_model.proofs.Bytes.{length-bytes_of}
 use Rattle.hp_sealed.specs.Left.{IsLeft}
-use Rattle.hp_sealed.proofs.Left.{left_more, length-bytes_of}
+use Rattle.hp_sealed.proofs.Left.{left_more}
 
 -- equal bytes, equal values
 pub value_same : (n x : ℕ) (ws vs : List Write) → ((i : ℕ) → i < n → byte_at vs (x + i) ≡ byte_at ws (x + i)) → value_from (byte_at vs) x n ≡ value_from (byte_at ws) x n

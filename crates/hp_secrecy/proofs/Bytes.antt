@@ -1,8 +1,9 @@
 -- Memory that is alike outside locked ranges: what is loaded and stored from outside SMM, and stores that nobody there sees.
-use Rattle.std.proofs.Common.{ℕ, zero, suc, ◌≡◌, ◌+◌, ◌*◌, ◌-◌, ◌/◌, ◌==◌, Bool, true, false, cond, ◌&&◌, ◌||◌, nat_lt, nat_le, List, ◌∷◌, length, refl, sym, ap, subst, ◌∙◌, arith}
+use Rattle.std.proofs.Common.{ℕ, zero, suc, ◌≡◌, ◌+◌, ◌*◌, ◌-◌, ◌==◌, Bool, true, false, cond, ◌&&◌, ◌||◌, nat_lt, nat_le, List, ◌∷◌, refl, sym, ap, subst, ◌∙◌}
 use Rattle.std.specs.Prelude.{slice_index_or}
-use Rattle.hp_model.specs.Memory.{Write, covers, byte_at, bytes_of, value_from, write_of}
+use Rattle.hp_model.specs.Memory.{Write, covers, byte_at, value_from, write_of}
 use Rattle.hp_model.specs.View.{Locks, is_locked, is_hidden, is_hole, ones, loaded, stored, swapped}
+use Rattle.hp_model.proofs.Bytes.{length-bytes_of}
 use Rattle.hp_secrecy.specs.Shielded.{AreLocked}
 
 -- each byte that isn't locked is the same in both
@@ -30,11 +31,6 @@ store_both l in_smm a n v ws vs h = by_hole (is_hole l in_smm a n)
     by_hole false = write_both l (write_of a n v) ws vs h
 
 -- a store of locked bytes alone
-length-bytes_of : (n v : ℕ) → length (bytes_of n v) ≡ n
-unfolding bytes_of
-length-bytes_of zero v = refl
-length-bytes_of (suc n) v = omega (arith, length-bytes_of n (v / 256))
-
 pub store_unseen : (l : Locks) (in_smm : Bool) (a n v : ℕ) (ws : List Write) → AreLocked l a n → AlikeBytes l (stored l in_smm a n v ws) ws
 store_unseen l in_smm a n v ws locked = by_hole (is_hole l in_smm a n)
   where

@@ -1,7 +1,7 @@
 -- Entries of two runs that have the same events.
-use Rattle.std.proofs.Common.{ℕ, ◌≡◌, Bool, true, false, cond, not, ◌&&◌, ◌||◌, List, [], ◌∷◌, ◌++◌, map, Option, Some, None, option_and_then, refl, sym, ap, subst, ◌∙◌}
+use Rattle.std.proofs.Common.{ℕ, ◌≡◌, Bool, true, false, not, ◌&&◌, ◌||◌, List, [], ◌∷◌, ◌++◌, map, Option, Some, None, option_and_then, refl, sym, ap, subst, ◌∙◌}
 use Rattle.std.specs.Prelude.{is_some}
-use Rattle.std.proofs.lemmas.Bool.{and_parts, eqb-true}
+use Rattle.std.proofs.lemmas.Bool.{and_parts}
 use Rattle.std.proofs.lemmas.Option.{same_Some}
 use Rattle.hp_model.specs.declared.platforms.Platform.{Platform}
 use Rattle.hp_model.specs.declared.processors.Cpu.{Cpu}
@@ -9,7 +9,7 @@ use Rattle.hp_model.specs.declared.processors.Mode.{Mode}
 use Rattle.hp_model.specs.declared.processors.Mode.TheVariants.{Wait, Running, Halted, Smm}
 use Rattle.hp_model.specs.declared.accesses.Access.{Access}
 use Rattle.hp_model.specs.declared.accesses.Answer.{Answer}
-use Rattle.hp_model.specs.declared.accesses.Answer.TheVariants.{Quiet, Value}
+use Rattle.hp_model.specs.declared.accesses.Answer.TheVariants.{Quiet}
 use Rattle.hp_model.specs.declared.entries.Event.{Event}
 use Rattle.hp_model.specs.declared.entries.Event.TheVariants.{Insert, Remove, Do, TakeSmi, TakeInit, Resume, Tell}
 use Rattle.hp_model.specs.declared.entries.Entry.{Entry}
@@ -18,47 +18,13 @@ use Rattle.hp_model.specs.Cpu.{is_running, is_in_smm, is_unlatched, smm_address}
 use Rattle.hp_model.specs.Boot.{Stage, Boots, Refused, Handed, is_handed, stage_after}
 use Rattle.hp_model.specs.State.{State, at, start}
 use Rattle.hp_model.specs.Access.{is_normal, is_halt, stands_in_smm, may_access}
-use Rattle.hp_model.specs.Step.{After, is_enabled, answer_of, step}
-use Rattle.hp_model.specs.Runs.{same_answer, same_address, address_of, accept, run_on, run_from, run}
+use Rattle.hp_model.specs.Step.{is_enabled, answer_of, step}
+use Rattle.hp_model.specs.Runs.{address_of, run_on, run_from, run}
 use Rattle.hp_model.specs.Visible.{IsAlike, visible_by, visible_entry}
+use Rattle.hp_sealed.proofs.Runs.{first_step, made}
 use Rattle.hp_secrecy.specs.Shielded.{IsShielded, StaysShielded, IsAlwaysShielded, events_of, GoAlike, GoOnAlike}
 use Rattle.hp_secrecy.proofs.Cpus.{AlikeCpu, alike_at}
 use Rattle.hp_secrecy.proofs.Steps.{stepped, stands_alike, step_alike, same_answers}
-
--- an entry's step
-record Made (p : Platform) (s : State) (e : Entry) (t : State) : Type 0 where
-  after : After
-  step : step p s e.event ≡ Some after
-  state : after.state ≡ t
-  answer : after.answer ≡ e.answer
-  place : address_of s e.event ≡ e.at
-
-same_answers-equal : (a b : Answer) → same_answer a b ≡ true → a ≡ b
-same_answers-equal Quiet Quiet e = refl
-same_answers-equal Quiet (Value v) e = absurd cc
-same_answers-equal (Value v) Quiet e = absurd cc
-same_answers-equal (Value v) (Value w) e = ap Value (eqb-true v w e)
-
-same_places : (a b : Option ℕ) → same_address a b ≡ true → a ≡ b
-same_places None None e = refl
-same_places None (Some y) e = absurd cc
-same_places (Some x) None e = absurd cc
-same_places (Some x) (Some y) e = ap Some (eqb-true x y e)
-
-made : (p : Platform) (s : State) (e : Entry) (t : State) → run_on p s e ≡ Some t → Made p s e t
-unfolding run_on
-made p s e t is = on (step p s e.event) refl is
-  where
-    parts : (a b : Bool) (x : State) → cond (a && b) (Some x) None ≡ Some t → (a ≡ true) × (b ≡ true) × (x ≡ t)
-    parts true true x e = (refl, refl, same_Some x t e)
-    parts true false x e = absurd cc
-    parts false b x e = absurd cc
-
-    on : (o : Option After) → step p s e.event ≡ o → option_and_then (accept e (address_of s e.event)) o ≡ Some t → Made p s e t
-    on None is f = absurd cc
-    on (Some a) is f =
-        let g = parts (same_answer a.answer e.answer) (same_address (address_of s e.event) e.at) a.state f in
-        record { after = a; step = is; state = g.2; answer = same_answers-equal a.answer e.answer g.0; place = same_places (address_of s e.event) e.at g.1 }
 
 -- who is in SMM in one is so in the other
 some_address : (c : Cpu) → is_some (smm_address c) ≡ stands_in_smm c
@@ -123,15 +89,6 @@ state_alike p s t u v e f fit shut closed h here there same =
     let n = made p t f v there in
     subst (λ x. IsAlike x v) m.state (subst (IsAlike m.after.state) n.state
     (step_alike p s t e.event m.after n.after fit shut closed h m.step (subst (λ x. step p t x ≡ Some n.after) (sym same) n.step)))
-
--- the first step of a run
-first_step : (p : Platform) (s t : State) (e : Entry) (es : List Entry) → run_from p s (e ∷ es) ≡ Some t → (u : State) × (run_on p s e ≡ Some u) × (run_from p u es ≡ Some t)
-unfolding run_from
-first_step p s t e es is = on (run_on p s e) is
-  where
-    on : (o : Option State) → option_and_then (λ u. run_from p u es) o ≡ Some t → (u : State) × (o ≡ Some u) × (run_from p u es ≡ Some t)
-    on None f = absurd cc
-    on (Some u) f = (u, refl, f)
 
 none_made : (p : Platform) (s t : State) → run_from p s [] ≡ Some t → s ≡ t
 unfolding run_from

@@ -1,22 +1,19 @@
 -- What SMI entry stores is locked, for a processor that is based where it may be.
-use Rattle.std.proofs.Common.{ℕ, ◌≡◌, ◌+◌, ◌-◌, ◌*◌, ◌%◌, ◌<◌, ◌≤◌, ◌==◌, ◌⊎◌, inl, inr, Bool, true, false, cond, not, ◌&&◌, ◌||◌, nat_lt, nat_le, List, Option, Some, None, refl, sym, subst, arith}
+use Rattle.std.proofs.Common.{ℕ, ◌≡◌, ◌+◌, ◌-◌, ◌*◌, ◌%◌, ◌<◌, ◌≤◌, ◌==◌, ◌⊎◌, inl, inr, Bool, true, false, not, ◌&&◌, ◌||◌, nat_lt, nat_le, List, refl, sym, subst, arith}
 use Rattle.std.proofs.lemmas.Bool.{and_parts, eqb-true, ltb-true}
 use Rattle.std.proofs.lemmas.Bool.Decides.{nat_tests}
 use Rattle.hp_model.specs.declared.platforms.Platform.{Platform}
 use Rattle.hp_model.specs.declared.processors.Cpu.{Cpu}
-use Rattle.hp_model.specs.Platform.{IsFit, count_of, counts_fit, ids_fit, boot_fits, memory_fits, tseg_fits, tiles_fit, most_tiles, has_room, tseg, tile}
+use Rattle.hp_model.specs.Platform.{IsFit, count_of, tseg_fits, most_tiles, has_room, tseg, tile}
 use Rattle.hp_model.specs.Memory.{Write}
 use Rattle.hp_model.specs.View.{Locks, is_locked, stored}
 use Rattle.hp_model.specs.SaveArea.{smbase_field, revision_field, rip_field, revision, rip_of, saved}
 use Rattle.hp_model.specs.SharedBytes.{layout_of}
 use Rattle.hp_model.specs.Handlers.{slot_at, is_tile}
 use Rattle.hp_model.specs.State.{State}
+use Rattle.hp_model.proofs.FitPlatforms.{rules_of}
 use Rattle.hp_secrecy.specs.Shielded.{is_base, IsShielded, AreLocked}
 use Rattle.hp_secrecy.proofs.Bytes.{AlikeBytes, bytes_then, store_unseen}
-
-passed : (b : Bool) (n : ℕ) (rest : Option ℕ) → cond (not b) (Some n) rest ≡ None → (b ≡ true) × (rest ≡ None)
-passed true n rest e = (refl, e)
-passed false n rest e = absurd cc
 
 -- the tiles lie in TSEG: rules 5 to 7
 pub record HasTiles (p : Platform) : Type 0 where
@@ -36,15 +33,10 @@ below a b e = grind (arith, nat_tests)
 
 pub has_tiles : (p : Platform) → IsFit p → HasTiles p
 has_tiles p e =
-    let a = passed (counts_fit p) 2 _ e in
-    let b = passed (ids_fit p) 3 _ a.1 in
-    let c = passed (boot_fits p) 4 _ b.1 in
-    let d = passed (memory_fits p) 5 _ c.1 in
-    let f = passed (tseg_fits p) 6 _ d.1 in
-    let g = passed (tiles_fit p) 7 _ f.1 in
-    let m = and_parts (nat_le 0x1000000 p.low_memory) (nat_le p.low_memory 0x80000000) (and_parts (p.low_memory % 0x100000 == 0) _ d.0).1 in
-    let t = and_parts (nat_le (count_of p) (most_tiles p.tseg_mib)) (has_room p) (and_parts (tseg_fits p) _ g.0).1 in
-    record { top = by_size p.low_memory p.tseg_mib (count_of p) (sizes p.tseg_mib f.0) (below 0x1000000 p.low_memory m.0) (below (count_of p) (most_tiles p.tseg_mib) t.0) t.1 }
+    let r = rules_of p e in
+    let m = and_parts (nat_le 0x1000000 p.low_memory) (nat_le p.low_memory 0x80000000) (and_parts (p.low_memory % 0x100000 == 0) _ r.memory).1 in
+    let t = and_parts (nat_le (count_of p) (most_tiles p.tseg_mib)) (has_room p) (and_parts (tseg_fits p) _ r.tiles).1 in
+    record { top = by_size p.low_memory p.tseg_mib (count_of p) (sizes p.tseg_mib r.tseg) (below 0x1000000 p.low_memory m.0) (below (count_of p) (most_tiles p.tseg_mib) t.0) t.1 }
   where
     by_size : (low mib n : ℕ) → (mib ≡ 1) ⊎ ((mib ≡ 2) ⊎ ((mib ≡ 8) ⊎ (mib ≡ 48))) → 0x1000000 ≤ low → n ≤ most_tiles mib → (not (mib == 48) || nat_le 0x4000000 low) ≡ true → low - mib * 0x100000 + 0x20000 + 0x10000 * n ≤ low
     by_size low mib n (inl e) least = subst (λ m. n ≤ most_tiles m → (not (m == 48) || nat_le 0x4000000 low) ≡ true → low - m * 0x100000 + 0x20000 + 0x10000 * n ≤ low) (sym e) (λ room large. room_small low 1 n least (omega arith) (omega arith) room)

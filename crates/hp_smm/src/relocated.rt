@@ -10,7 +10,6 @@ ghost use Rattle.hp_model.specs.Monarch.{Monarch};
 ghost use Rattle.hp_model.specs.SharedBytes.{Layout};
 
 use hp_model::{Access, Answer, Label, Want};
-use hp_reloc::value_of;
 
 /// Where the bytes of the slots begin, from the first address of TSEG. The arrived bytes are the first of them.
 const RELEASE: u32 = 0x1000;
@@ -60,9 +59,9 @@ pub fn relocated_next(label: Label, answer: Answer) -> Label
 {
     match label {
         Label::R1 | Label::R6 => Label::R2,
-        Label::R2 if value_of(answer) == 1 => Label::R6,
+        Label::R2 if answer.value() == 1 => Label::R6,
         Label::R2 => Label::R3,
-        Label::R3 if value_of(answer) == 1 => Label::R4,
+        Label::R3 if answer.value() == 1 => Label::R4,
         Label::R3 => Label::R1,
         Label::R4 | Label::R5 => Label::R5,
         _ => unreachable!(),

@@ -1,7 +1,8 @@
 //! Who acts in an entry, and what the step is, as text.
 
 ghost use Rattle.std.specs.Prelude.{◌≡◌, ◌++◌, OnErr, OnOk};
-ghost use Rattle.hp_model.specs.Text.{actor_pieces, cpu_pieces, event_pieces, spell, value_of};
+ghost use Rattle.hp_model.specs.Boot.{value_in};
+ghost use Rattle.hp_model.specs.Text.{actor_pieces, cpu_pieces, event_pieces, spell};
 ghost use Rattle.hp_trace.specs.Pieces.{Begins};
 
 use crate::accesses::put_access;
@@ -44,26 +45,16 @@ pub fn put_actor(event: Event, at: Option<u32>, out: &mut Vec<u8>) -> Result<(),
     }
 }
 
-/// The value of an answer, 0 where it has none.
-fn value_of_answer(answer: Answer) -> u64
-    ensures { result ≡ value_of answer }
-{
-    match answer {
-        Answer::Quiet => 0,
-        Answer::Value(value) => value,
-    }
-}
-
 /// Appends what the step is.
 #[tactic(auto, using(crate::proofs::Texts::front_facts))]
 pub fn put_event(event: Event, answer: Answer, out: &mut Vec<u8>) -> Result<(), NoMemory>
-    ensures text { OnOk result (out.new.items ≡ out.old.items ++ spell (event_pieces event (value_of answer))) }
+    ensures text { OnOk result (out.new.items ≡ out.old.items ++ spell (event_pieces event (value_in answer))) }
     ensures front { OnErr result (Begins out.old.items out.new.items) }
 {
     match event {
         Event::Insert(cpu) => put_all(&[Word(b"insert "), Number(cpu as u64)], out),
         Event::Remove(cpu) => put_all(&[Word(b"remove "), Number(cpu as u64)], out),
-        Event::Do(_, access) => put_access(access, value_of_answer(answer), out),
+        Event::Do(_, access) => put_access(access, answer.value(), out),
         Event::TakeSmi(_) => put_all(&[Word(b"smi")], out),
         Event::TakeInit(_) => put_all(&[Word(b"init")], out),
         Event::Resume(_) => put_all(&[Word(b"rsm")], out),

@@ -8,6 +8,6 @@ use Rattle.hp_boot.proofs.boots.Boot.feed.Goals as goal
 pub after-self-inside-requires-clause-read : goal.after-self-inside-requires-clause-read
 after-self-inside-requires-clause-read c =
     let at = ap (λ (b : Booting). b.stage) (sym c.self.view_is) ∙ ap stage_view c.in-Boots.is in
-    rw c.value_of.ensures
+    rw c.value.ensures
     (subst (λ (b : Booting). IsRead b.mib c.in-Boots.done (value_in c.args.answer)) (sym c.self.view_is)
     (read_at c.args.self.now c.in-Boots.supported c.in-Boots.done c.args.answer at c.requires.fits))

@@ -11,4 +11,4 @@ pub overflow_cast-value : goal.overflow_cast-value
 overflow_cast-value c =
     let e = c.args.self.now in
     let at : e.led ≡ EjectsAt E4g e.eject = c.row.ensures ∙ ap (λ (w : Row). EjectsAt (label_of w) e.eject) c.in-E4g.is in
-    omega (arith, c.value_of-value.ensures, status_read e.tseg e.led e.eject c.args.answer at c.requires)
+    omega (arith, c.value-value.ensures, status_read e.tseg e.led e.eject c.args.answer at c.requires)

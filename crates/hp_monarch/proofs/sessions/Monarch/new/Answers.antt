@@ -1,6 +1,7 @@
 -- No session has begun: the slots are those of the boot processors, and all parts go by the platform.
 use Rattle.std.proofs.Common.{rules}
-use Rattle.hp_monarch.proofs.Start.{apic_few, boot_bound, ids_as, tseg_below}
+use Rattle.hp_model.proofs.FitPlatforms.{apic_few, tseg_below}
+use Rattle.hp_monarch.proofs.Start.{boot_bound, ids_as}
 use Rattle.hp_monarch.proofs.sessions.Monarch.new.Goals as goal
 
 pub invariant_of-result-2 : goal.invariant_of-result-2
