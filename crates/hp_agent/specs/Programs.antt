@@ -2,7 +2,7 @@
 use Rattle.std.specs.Prelude.{◌<◌, ◌≤◌, ℕ, List, ◌++◌, length, drop, vec_capacity}
 use Rattle.hp_model.specs.declared.accesses.Access.{Access}
 use Rattle.hp_model.specs.OsProgram.{OsPlace, polls, polled, scans, selected, commanded, looked, judged, acts, removes, starts, to_do}
-use Rattle.hp_model.specs.Voices.{Voice, os}
+use Rattle.hp_model.specs.Voices.{Voice, Said, os}
 use Rattle.hp_agent.specs.declared.programs.Acting.{Acting}
 use Rattle.hp_agent.specs.declared.programs.Acting.TheVariants.{Announces, Starts, Removes}
 use Rattle.hp_agent.specs.declared.programs.Place.{Place}
@@ -30,6 +30,13 @@ place_in p = stands_at p.halves.items p.cpu p.inserts.items p.removals.items p.p
 
 abbrev pub voice_in : Program → Voice
 voice_in p = os p.halves.items (place_in p)
+
+-- what it says, and where it then stands
+abbrev pub said_by : Access → Program → Said
+said_by access p = record { access = access; voice = voice_in p }
+
+abbrev pub left_in : Program → Acting → List Access
+left_in p at = left_to_do p.halves.items p.inserts.items p.removals.items at
 
 -- of the processor that is being started or ejected some access is left
 abbrev pub IsStep : Acting → Type 0

@@ -8,7 +8,7 @@ ghost use Rattle.hp_model.specs.OsProgram.{polls, start_of, removal_of, with_ins
 ghost use Rattle.hp_model.specs.Platform.{IsFit, high_half};
 ghost use Rattle.hp_model.specs.Voices.{doing, finding, hearing, looking, os, os_says, scanning, selecting};
 ghost use Rattle.hp_agent.specs.declared.programs.Acting.TheVariants as acting;
-ghost use Rattle.hp_agent.specs.Programs.{IsSound, IsStep, left_to_do, place_in, voice_in};
+ghost use Rattle.hp_agent.specs.Programs.{IsSound, IsStep, left_in, place_in, said_by, voice_in};
 
 use hp_model::{Access, Answer, NoMemory, Platform, icr_high};
 use std::alloc::Global;
@@ -252,7 +252,7 @@ impl Program {
     /// It looks for events.
     fn look(&mut self) -> Access
         requires { IsSound self.old }
-        ensures says { record { access = result; voice = voice_in self.new } ≡ looking self.old.halves.items }
+        ensures says { said_by result self.new ≡ looking self.old.halves.items }
         ensures sound { IsSound self.new }
     {
         self.place = Place::Polled;
@@ -264,8 +264,7 @@ impl Program {
         requires sound { IsSound self.old }
         requires item { item < length self.old.inserts.items }
         requires done { done < 15 }
-        ensures says { record { access = result; voice = voice_in self.new }
-            ≡ doing self.old.halves.items (left_to_do self.old.halves.items self.old.inserts.items self.old.removals.items (acting.Starts item done)) }
+        ensures says { said_by result self.new ≡ doing self.old.halves.items (left_in self.old (acting.Starts item done)) }
         ensures sound { IsSound self.new }
     {
         let cpu = self.inserts[item];
@@ -279,8 +278,7 @@ impl Program {
         requires sound { IsSound self.old }
         requires item { item < length self.old.removals.items }
         requires done { done < 4 }
-        ensures says { record { access = result; voice = voice_in self.new }
-            ≡ doing self.old.halves.items (left_to_do self.old.halves.items self.old.inserts.items self.old.removals.items (acting.Removes item done)) }
+        ensures says { said_by result self.new ≡ doing self.old.halves.items (left_in self.old (acting.Removes item done)) }
         ensures sound { IsSound self.new }
     {
         let access = removal(self.removals[item])[done];
@@ -292,8 +290,7 @@ impl Program {
     fn remove_or_look(&mut self, item: usize, done: usize) -> Access
         requires sound { IsSound self.old }
         requires done { done < 4 }
-        ensures says { record { access = result; voice = voice_in self.new }
-            ≡ doing self.old.halves.items (left_to_do self.old.halves.items self.old.inserts.items self.old.removals.items (acting.Removes item done)) }
+        ensures says { said_by result self.new ≡ doing self.old.halves.items (left_in self.old (acting.Removes item done)) }
         ensures sound { IsSound self.new }
     {
         if item < self.removals.len() {
@@ -307,8 +304,7 @@ impl Program {
     fn announce(&mut self) -> Access
         requires sound { IsSound self.old }
         requires some { 0 < length self.old.inserts.items }
-        ensures says { record { access = result; voice = voice_in self.new }
-            ≡ doing self.old.halves.items (left_to_do self.old.halves.items self.old.inserts.items self.old.removals.items acting.Announces) }
+        ensures says { said_by result self.new ≡ doing self.old.halves.items (left_in self.old acting.Announces) }
         ensures sound { IsSound self.new }
     {
         self.place = Place::Acts(Acting::Starts { item: 0, done: 0 });
@@ -319,8 +315,7 @@ impl Program {
     fn act(&mut self, at: Acting) -> Access
         requires sound { IsSound self.old }
         requires step { IsStep at }
-        ensures says { record { access = result; voice = voice_in self.new }
-            ≡ doing self.old.halves.items (left_to_do self.old.halves.items self.old.inserts.items self.old.removals.items at) }
+        ensures says { said_by result self.new ≡ doing self.old.halves.items (left_in self.old at) }
         ensures sound { IsSound self.new }
     {
         match at {
@@ -337,7 +332,7 @@ impl Program {
     /// The GPE status, and where it tells of an event the beginning of a scan.
     fn hear(&mut self, status: u8) -> Access
         requires { IsSound self.old }
-        ensures says { record { access = result; voice = voice_in self.new } ≡ hearing self.old.halves.items status }
+        ensures says { said_by result self.new ≡ hearing self.old.halves.items status }
         ensures sound { IsSound self.new }
     {
         if status & PROCESSOR_EVENT == PROCESSOR_EVENT {
@@ -354,7 +349,7 @@ impl Program {
     /// The processor from which on the next event is looked for.
     fn select(&mut self) -> Access
         requires { IsSound self.old }
-        ensures says { record { access = result; voice = voice_in self.new }
+        ensures says { said_by result self.new
             ≡ selecting self.old.halves.items self.old.cpu self.old.inserts.items self.old.removals.items }
         ensures sound { IsSound self.new }
     {
@@ -365,7 +360,7 @@ impl Program {
     /// The selector went on to this processor.
     fn find(&mut self, cpu: u32) -> Access
         requires { IsSound self.old }
-        ensures says { record { access = result; voice = voice_in self.new }
+        ensures says { said_by result self.new
             ≡ finding self.old.halves.items self.old.cpu cpu self.old.inserts.items self.old.removals.items }
         ensures sound { IsSound self.new }
     {
@@ -380,7 +375,7 @@ impl Program {
     /// The scan goes on at the next processor, and past the last it is over.
     fn scan(&mut self) -> Access
         requires { IsSound self.old }
-        ensures says { record { access = result; voice = voice_in self.new }
+        ensures says { said_by result self.new
             ≡ scanning self.old.halves.items self.old.cpu self.old.inserts.items self.old.removals.items }
         ensures sound { IsSound self.new }
     {
@@ -395,7 +390,7 @@ impl Program {
     fn judge(&mut self, status: u8) -> Access
         requires sound { IsSound self.old }
         requires possible { self.old.cpu < length self.old.halves.items }
-        ensures says { record { access = result; voice = voice_in self.new }
+        ensures says { said_by result self.new
             ≡ scanning self.old.halves.items (self.old.cpu + 1) (with_insert_of self.old.cpu status self.old.inserts.items)
             (with_removal_of self.old.cpu status self.old.removals.items) }
         ensures sound { IsSound self.new }
@@ -410,7 +405,7 @@ impl Program {
     /// Its next access, where its last one had this answer.
     pub fn go_on(&mut self, last: Answer) -> Access
         requires { IsSound self.old }
-        ensures says { record { access = result; voice = voice_in self.new } ≡ os_says self.old.halves.items (place_in self.old) (value_in last) }
+        ensures says { said_by result self.new ≡ os_says self.old.halves.items (place_in self.old) (value_in last) }
         ensures sound { IsSound self.new }
     {
         let value = value_of(last);

@@ -18,7 +18,7 @@ loop-kind-preserved g c =
     let next : into_iter_items at.kind-iterator ≡ kind ∷ into_iter_items c.next.new.self = c.in-Some.ensures.steps.0 in
     record {
       all = append_assoc at.yielded (kind ∷ []) _ ∙ rw (← next) at.invariant.all;
-      tell = ap (all_tell g.A.Agent.voice) c.in_ok-push.ensures.items ∙ told_more g.A.Agent.voice c.args.p.now at.places.items _ at.yielded kind at.invariant.tell c.in_ok-voice_for-agent.ensures.voice;
+      tell = ap (all_tell g.A.Agent.voice) c.in_ok-push.ensures.items ∙ told_more g.A.Agent.voice c.args.p.now at.places.items _ at.yielded kind at.invariant.tell c.in_ok-agent.ensures.voice;
       left = let was = at.invariant.left in let gone = c.in-Some.ensures.steps.1 in let short = ap length next in omega arith;
     }
 
