@@ -1,2 +1,4 @@
+pub mod ApicIds
+pub mod Doing
 pub mod Said
 pub mod Told

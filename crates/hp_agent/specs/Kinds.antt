@@ -4,12 +4,14 @@ use Rattle.hp_model.specs.declared.accesses.Access.{Access}
 use Rattle.hp_model.specs.Voices as model
 use Rattle.hp_agent.specs.Speaking.{Heard, heard_with}
 use Rattle.hp_agent.specs.declared.kinds.Voice.{Voice}
-use Rattle.hp_agent.specs.declared.kinds.Voice.TheVariants.{Script, Pen, Handed}
+use Rattle.hp_agent.specs.declared.kinds.Voice.TheVariants.{Script, Os, Pen, Seeded, Handed}
 
 -- an agent of this crate tells its voice, and one that was handed in what it tells
 abbrev pub tells : {A : Type 0} → (A → Option model.Voice) → Voice A → Option model.Voice
 tells handed (Script s) = Some s.voice
+tells handed (Os s) = Some s.voice
 tells handed (Pen s) = Some s.voice
+tells handed (Seeded s) = Some s.voice
 tells handed (Handed a) = handed a
 
 -- a place without an agent tells a voice that only halts
@@ -22,7 +24,9 @@ all_tell handed places = map (place_tells handed) places
 
 abbrev pub has_heard : {A : Type 0} → (A → Heard) → Voice A → Heard
 has_heard handed (Script s) = s.heard
+has_heard handed (Os s) = s.heard
 has_heard handed (Pen s) = s.heard
+has_heard handed (Seeded s) = s.heard
 has_heard handed (Handed a) = handed a
 
 -- where there is no agent, nobody hears

@@ -1,3 +1,4 @@
 pub mod Speaking
 pub mod Kinds
 pub mod Questions
+pub mod Programs

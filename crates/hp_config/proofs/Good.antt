@@ -9,7 +9,6 @@ use Rattle.hp_model.specs.Platform.{count_of, IsFit}
 use Rattle.hp_config.specs.declared.parts.AgentRow.{AgentRow}
 use Rattle.hp_config.specs.declared.parts.Parts.{Parts}
 use Rattle.hp_config.specs.Rules.{hosts_are_hosts, hosts_fit, stalls_fit, agents_fit, steps_fit}
-use Rattle.hp_config.specs.Unbuilt.{parts_run}
 use Rattle.hp_config.specs.Kinds.{default_kind, default_kinds, put_kind, put_kinds, kinds_of}
 use Rattle.hp_config.specs.Shape.{parts_of}
 use Rattle.hp_config.specs.Reading.{good, platform_fault, later_fault, first_of, file_from, judged, reading_of, file_of}
@@ -32,11 +31,10 @@ length-kinds_of : (agents : List AgentRow) (boot : List ℕ) (count : ℕ) → l
 unfolding kinds_of
 length-kinds_of agents boot count = length-put_kinds agents (default_kinds boot count) ∙ length-default_kinds boot count
 
--- rules 11 to 16 hold
+-- rules 11 to 15 hold
 record HoldLater (parts : Parts) : Type 0 where
   hosts : hosts_fit (count_of parts.machine.platform) parts.hosts ≡ true
   stalls : stalls_fit (count_of parts.machine.platform) parts.stalls ≡ true
-  runs : parts_run parts ≡ true
 
 -- no test of a chain is passed over
 next : (t : Bool) (rule : ℕ) (others : Option ℕ) → (if not t then Some rule else others) ≡ None → (t ≡ true) × (others ≡ None)
@@ -50,9 +48,8 @@ hold_later parts e =
     let (hosts, e13) = next (hosts_fit (count_of parts.machine.platform) parts.hosts) 12 _ e12 in
     let (stalls, e14) = next (stalls_fit (count_of parts.machine.platform) parts.stalls) 13 _ e13 in
     let (agents, e15) = next (agents_fit (count_of parts.machine.platform) parts.agents) 14 _ e14 in
-    let (steps, e16) = next (steps_fit parts.agents) 15 _ e15 in
-    let (runs, done) = next (parts_run parts) 16 _ e16 in
-    record { hosts = hosts; stalls = stalls; runs = runs }
+    let (steps, done) = next (steps_fit parts.agents) 15 _ e15 in
+    record { hosts = hosts; stalls = stalls }
 
 -- the parts of a good file
 record AreParts (parts : Parts) (f : File) : Type 0 where

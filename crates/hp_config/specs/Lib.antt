@@ -4,7 +4,6 @@ pub mod Keys
 pub mod Rows
 pub mod Shape
 pub mod Rules
-pub mod Unbuilt
 pub mod Kinds
 pub mod Reading
 pub mod Spelling

@@ -10,7 +10,6 @@ use Rattle.hp_config.specs.declared.faults.ConfigFault.{ConfigFault}
 use Rattle.hp_config.specs.declared.faults.ConfigFault.TheVariants as fault
 use Rattle.hp_config.specs.declared.parts.Parts.{Parts}
 use Rattle.hp_config.specs.Rules.{hosts_fit, stalls_fit, agents_fit, steps_fit}
-use Rattle.hp_config.specs.Unbuilt.{parts_run}
 use Rattle.hp_config.specs.Kinds.{kinds_of}
 use Rattle.hp_config.specs.Shape.{parts_of}
 
@@ -22,7 +21,7 @@ pub data Reading : Type 0 where
 unfoldable pub platform_fault : Platform → Option ℕ
 platform_fault p = first_broken p
 
--- the first of rules 11 to 16 that fails, where rule 11 is that `delivery` names one
+-- the first of rules 11 to 15 that fails, where rule 11 is that `delivery` names one
 unfoldable pub later_fault : Parts → Option ℕ
 later_fault parts =
     if not parts.machine.names_delivery then Some 11
@@ -30,14 +29,13 @@ later_fault parts =
     else if not (stalls_fit (count_of parts.machine.platform) parts.stalls) then Some 13
     else if not (agents_fit (count_of parts.machine.platform) parts.agents) then Some 14
     else if not (steps_fit parts.agents) then Some 15
-    else if not (parts_run parts) then Some 16
     else None
 
 abbrev pub first_of : Option ℕ → Option ℕ → Option ℕ
 first_of (Some rule) later = Some rule
 first_of None later = later
 
--- the first of rules 2 to 16 that fails
+-- the first of rules 2 to 15 that fails
 abbrev pub fault_of : Parts → Option ℕ
 fault_of parts = first_of (platform_fault parts.machine.platform) (later_fault parts)
 

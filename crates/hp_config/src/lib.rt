@@ -12,7 +12,6 @@ mod rules;
 mod shape;
 mod steps;
 mod tree;
-mod unbuilt;
 
 pub use faults::ConfigFault;
 pub use laws::{good_files_are_sound, read_files_are_sound, steps_are_read_as_spelled};

@@ -6,7 +6,6 @@ ghost use Rattle.hp_config.specs.Rules.{place_of, hosts_fit, stalls_fit, no_two,
 ghost use Rattle.hp_config.specs.Reading.{platform_fault as fault_of_platform, later_fault as later_rule, fault_of as first_rule};
 
 use crate::parts::{AgentRow, Parts};
-use crate::unbuilt::runs;
 use hp_model::{Actor, HostEvent, Platform, Rule, Stall, fits};
 
 fn cpu_of(actor: Actor) -> u32
@@ -80,7 +79,7 @@ fn platform_fault(platform: &Platform) -> Option<Rule>
     }
 }
 
-/// The first of rules 11 to 16 that fails, where rule 11 is that `delivery` names one.
+/// The first of rules 11 to 15 that fails, where rule 11 is that `delivery` names one.
 #[tactic(auto, unfolding(crate::specs::Reading::later_fault))]
 fn later_fault(parts: &Parts) -> Option<Rule>
     ensures { option_map (λ rule. rule.0) result ≡ later_rule parts.now }
@@ -101,13 +100,10 @@ fn later_fault(parts: &Parts) -> Option<Rule>
     if !have_fitting_steps(parts.agents.0.as_slice()) {
         return Some(Rule(15));
     }
-    if !runs(parts) {
-        return Some(Rule(16));
-    }
     None
 }
 
-/// The first of rules 2 to 16 that fails.
+/// The first of rules 2 to 15 that fails.
 pub fn fault_of(parts: &Parts) -> Option<Rule>
     ensures { option_map (λ rule. rule.0) result ≡ first_rule parts.now }
 {

@@ -20,6 +20,9 @@ pub mod Add
 pub mod Eject
 pub mod Monarch
 pub mod Handlers
+pub mod OsProgram
+pub mod Seeded
+pub mod Attacks
 pub mod Voices
 pub mod State
 pub mod Ports

@@ -47,7 +47,7 @@ abbrev pub said_by : Scene → ℕ → Said
 said_by w k = says (voice_at w k) (question w k)
 
 abbrev pub scene_start : File → Scene
-scene_start f = record { state = start f.platform; voices = map voice_of f.voices; last = map (λ v. Quiet) f.voices }
+scene_start f = record { state = start f.platform; voices = map (voice_of f.platform) f.voices; last = map (λ v. Quiet) f.voices }
 
 -- the entries that a part of the schedule makes, and the scene after it
 pub record Made : Type 0 where

@@ -1,15 +1,29 @@
 -- Voices: what a processor says outside SMM, as plain data (own rules).
-use Rattle.std.specs.Prelude.{ℕ, Bool, true, false, ◌&&◌, not, ◌==◌, List, [], ◌∷◌, if◌then◌else◌}
+use Rattle.std.specs.Prelude.{ℕ, Bool, true, false, ◌&&◌, ◌||◌, not, ◌==◌, ◌+◌, nat_lt, List, [], ◌∷◌, length, map, bit_and, if◌then◌else◌}
+use Rattle.rand_pcg.specs.Lcg.{Lcg}
 use Rattle.hp_model.specs.declared.accesses.Access.{Access}
-use Rattle.hp_model.specs.declared.accesses.Access.TheVariants.{Store, Halt}
+use Rattle.hp_model.specs.declared.accesses.Access.TheVariants.{Store, In, Out, Halt}
 use Rattle.hp_model.specs.declared.accesses.Answer.{Answer}
+use Rattle.hp_model.specs.declared.platforms.Platform.{Platform}
 use Rattle.hp_model.specs.declared.files.VoiceKind.{VoiceKind}
 use Rattle.hp_model.specs.declared.files.VoiceKind.TheVariants.{Script, Os, Pen, Seeded, Handed}
+use Rattle.hp_model.specs.Attacks.{once_more, storm_access, flood_access, digger_access, churn_access}
+use Rattle.hp_model.specs.Block.{cut}
+use Rattle.hp_model.specs.Boot.{value_in}
+use Rattle.hp_model.specs.OsProgram.{OsPlace, polls, polled, scans, selected, commanded, looked, judged, acts, with_insert_of, with_removal_of, to_do}
+use Rattle.hp_model.specs.Platform.{high_half}
+use Rattle.hp_model.specs.Seeded.{generator_of, draw, drawn_access}
 
--- the steps of a script that are left, and halts after them; a pen, and whether it has stored its byte
+-- a kind of voice with what it still holds
 pub data Voice : Type 0 where
-  script : List Access → Voice
-  pen : Bool → Voice
+  script : List Access → Voice  -- the steps that are left, and halts after them
+  pen : Bool → Voice  -- whether it has stored its byte
+  os : List ℕ → OsPlace → Voice  -- by place, the high half of an interrupt command to each processor, and where the program stands
+  seeded : Lcg → Voice  -- the generator of its words
+  storm : ℕ → ℕ → Voice  -- for so many processors; of this one and of those below, how often it was asked
+  flood : ℕ → ℕ → Voice  -- against an APIC ID
+  digger : ℕ → Voice
+  churn : ℕ → ℕ → Voice  -- against a processor
 
 -- what a voice is asked: which processor, at which page, and the answer to its last asked access
 pub record Question : Type 0 where
@@ -39,15 +53,60 @@ pen_says stored page =
     if not stored && (page == pen_page) then record { access = pen_store; voice = pen true }
     else record { access = Halt; voice = pen stored }
 
+-- the operating system looks for events
+abbrev pub looking : List ℕ → Said
+looking halves = record { access = In 0x620 1; voice = os halves polled }
+
+-- it does what is left to do, and then looks for events again
+abbrev pub doing : List ℕ → List Access → Said
+doing halves [] = looking halves
+doing halves (a ∷ as') = record { access = a; voice = os halves (acts as') }
+
+-- bit 2 of the GPE status tells of a processor event: it is cleared, and a scan begins
+abbrev pub hearing : List ℕ → ℕ → Said
+hearing halves status = if bit_and status 4 == 4 then record { access = Out 0x620 1 4; voice = os halves (scans 0 [] []) } else looking halves
+
+abbrev pub selecting : List ℕ → ℕ → List ℕ → List ℕ → Said
+selecting halves cpu inserts removals = record { access = Out 0xcd8 4 cpu; voice = os halves (selected cpu inserts removals) }
+
+-- its scan goes on at a processor, and is over past the last
+abbrev pub scanning : List ℕ → ℕ → List ℕ → List ℕ → Said
+scanning halves cpu inserts removals =
+    if nat_lt cpu (length halves) then selecting halves cpu inserts removals else doing halves (to_do halves inserts removals)
+
+-- the selector has gone on to the next processor with an event: there is none where it is below, as it began anew, or names none
+abbrev pub finding : List ℕ → ℕ → ℕ → List ℕ → List ℕ → Said
+finding halves cpu next inserts removals =
+    if nat_lt next cpu || not (nat_lt next (length halves)) then doing halves (to_do halves inserts removals)
+    else record { access = In 0xcdc 1; voice = os halves (judged next inserts removals) }
+
+-- where v is the value of its last answer, of which it takes the low bits of the width that it asked
+abbrev pub os_says : List ℕ → OsPlace → ℕ → Said
+os_says halves polls v = looking halves
+os_says halves polled v = hearing halves (cut 1 v)
+os_says halves (scans cpu inserts removals) v = selecting halves cpu inserts removals
+os_says halves (selected cpu inserts removals) v = record { access = Out 0xcdd 1 0; voice = os halves (commanded cpu inserts removals) }
+os_says halves (commanded cpu inserts removals) v = record { access = In 0xce0 4; voice = os halves (looked cpu inserts removals) }
+os_says halves (looked cpu inserts removals) v = finding halves cpu (cut 4 v) inserts removals
+os_says halves (judged cpu inserts removals) v =
+    scanning halves (cpu + 1) (with_insert_of cpu (cut 1 v) inserts) (with_removal_of cpu (cut 1 v) removals)
+os_says halves (acts as') v = doing halves as'
+
 unfoldable pub says : Voice → Question → Said
 says (script []) q = record { access = Halt; voice = silent }
 says (script (a ∷ as')) q = record { access = a; voice = script as' }
 says (pen stored) q = pen_says stored q.page
+says (os halves place) q = os_says halves place (value_in q.last)
+says (seeded g) q = record { access = drawn_access (draw g).0; voice = seeded (draw g).1 }
+says (storm count i) q = record { access = storm_access count i; voice = storm count (once_more i) }
+says (flood apic i) q = record { access = flood_access apic i; voice = flood apic (once_more i) }
+says (digger i) q = record { access = digger_access i; voice = digger (once_more i) }
+says (churn cpu i) q = record { access = churn_access cpu i; voice = churn cpu (once_more i) }
 
--- the voice of a kind. Kinds that aren't built yet halt.
-abbrev pub voice_of : VoiceKind → Voice
-voice_of (Script steps) = script steps
-voice_of Os = silent
-voice_of Pen = pen false
-voice_of (Seeded seed) = silent
-voice_of Handed = silent
+-- the voice of a kind on a platform. A processor whose agent is to be handed in halts where none is.
+abbrev pub voice_of : Platform → VoiceKind → Voice
+voice_of p (Script steps) = script steps
+voice_of p Os = os (map (high_half p.x2apic) p.apic) polls
+voice_of p Pen = pen false
+voice_of p (Seeded seed) = seeded (generator_of seed)
+voice_of p Handed = silent

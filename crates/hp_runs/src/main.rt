@@ -17,7 +17,7 @@ fn main(rt: HostRuntime) -> io::Result<ExitCode> {
         "shapes",
         "rules",
         "sizes",
-        "unbuilt",
+        "kinds",
         "features",
         "changed_adds",
     ] {

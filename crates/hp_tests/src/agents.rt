@@ -1,6 +1,7 @@
 //! Agents by their own calls: what they answer, and that one is dropped when its processor is ejected.
 
 use crate::echoes::Echo;
+use crate::platforms::{LARGE, platform_of};
 use hp_agent::{Agent, Agents, PenAgent, Script, Voice, voice_for};
 use hp_model::{Access, Answer, Steps, VoiceKind};
 use std::alloc::Global;
@@ -18,6 +19,16 @@ const WRITE: Access = Access::Out {
     port: 0xcd8,
     width: 4,
     value: 7,
+};
+
+const LOOK: Access = Access::In {
+    port: 0x620,
+    width: 1,
+};
+
+const LOAD: Access = Access::Load {
+    addr: 0x30000,
+    width: 8,
 };
 
 const STORE: Access = Access::Store {
@@ -67,10 +78,11 @@ fn scripts_say_their_steps_whatever_they_are_asked_and_pens_store_once_at_page_9
 }
 
 #[test]
-fn scripts_and_pens_are_made_of_their_kinds_and_other_kinds_halt(
+fn agents_are_made_of_their_kinds_and_one_that_is_not_handed_in_halts(
     rt: HostRuntime,
 ) -> Result<(), Fail> {
     let alloc = rt.alloc();
+    let p = platform_of(&rt, alloc, LARGE)?;
     for (kind, first, second) in [
         (VoiceKind::Script(two_steps(alloc)?), READ, WRITE),
         (
@@ -79,11 +91,11 @@ fn scripts_and_pens_are_made_of_their_kinds_and_other_kinds_halt(
             Access::Halt,
         ),
         (VoiceKind::Pen, STORE, Access::Halt),
-        (VoiceKind::Os, Access::Halt, Access::Halt),
-        (VoiceKind::Seeded(9), Access::Halt, Access::Halt),
+        (VoiceKind::Os, LOOK, LOOK),
+        (VoiceKind::Seeded(9), LOAD, Access::Nop),
         (VoiceKind::Handed, Access::Halt, Access::Halt),
     ] {
-        let mut voice: Voice<PenAgent> = voice_for(alloc, kind);
+        let mut voice: Voice<PenAgent> = voice_for(alloc, &p, kind)?;
         let rows = [
             (1, 0x9f, Answer::Quiet, first),
             (1, 0x9f, Answer::Quiet, second),

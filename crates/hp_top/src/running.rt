@@ -280,13 +280,19 @@ fn take_voices(alloc: Global, file: File) -> (File, Vec<VoiceKind>)
     (rest, voices.0)
 }
 
-/// An agent of each of these kinds.
-fn agents_of<A: Agent>(alloc: Global, kinds: Vec<VoiceKind>) -> Result<Agents<A>, NoMemory>
-    ensures { IfOk result (λ agents. agents.voices ≡ map (λ v. Some v) (map voice_of kinds.items)) }
+/// An agent of each of these kinds, for processors of this platform.
+fn agents_of<A: Agent>(
+    alloc: Global,
+    p: &Platform,
+    kinds: Vec<VoiceKind>,
+) -> Result<Agents<A>, NoMemory>
+    requires { IsFit p.now }
+    ensures { IfOk result (λ agents. agents.voices ≡ map (λ v. Some v) (map (voice_of p.now) kinds.items)) }
 {
     let mut places = Vec::new(alloc);
     for kind in kinds {
-        places.push(Some(voice_for(alloc, kind)))?;
+        let agent = voice_for(alloc, p, kind)?;
+        places.push(Some(agent))?;
     }
     Ok(Agents::new(places))
 }
@@ -301,7 +307,7 @@ fn world_of<A: Agent>(
     requires voices { length kinds.items ≡ count_of p.now }
     ensures { (f : Whole) → f.platform ≡ p.now → f.voices ≡ kinds.items → IfOk result (λ world. Shows p.now world (scene_start f)) }
 {
-    let agents = agents_of(alloc, kinds)?;
+    let agents = agents_of(alloc, p, kinds)?;
     let world = World::new(alloc, p, agents)?;
     Ok(world)
 }

@@ -4,6 +4,7 @@ pub mod AddsChanged
 pub mod AddsRun
 pub mod AddsScheduled
 pub mod Changed
+pub mod Dialogues
 pub mod EjectsChanged
 pub mod EjectsRun
 pub mod EjectsScheduled

@@ -2,6 +2,7 @@ pub mod Adds
 pub mod Alone
 pub mod Asked
 pub mod ClosedGate
+pub mod Dialogues
 pub mod Ejects
 pub mod Entries
 pub mod Fed

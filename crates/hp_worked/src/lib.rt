@@ -9,6 +9,7 @@ mod laws;
 mod records;
 mod safety;
 mod steps;
+mod voices;
 
 pub use accounts::{
     an_apic_id_is_held, apic_ids_are_bound, apic_ids_are_known, reports_have_their_class,
@@ -40,3 +41,7 @@ pub use safety::{
     wrong_traces_are_refused,
 };
 pub use steps::{wrong_steps_are_no_runs, wrong_steps_are_recorded, wrong_steps_are_refused};
+pub use voices::{
+    attackers_say_nothing_else, attackers_say_their_accesses, seeded_voices_say_their_words,
+    the_operating_system_says_its_program, the_operating_system_says_nothing_else,
+};

@@ -8,6 +8,6 @@ use Rattle.hp_top.proofs.running.agents_of.Given as goal
 abbrev pub invariant-loop-kind : goal.invariant-loop-kind
 invariant-loop-kind g l = record {
   all : l.yielded ++ into_iter_items l.kind-iterator ≡ into_iter_items l.initial.kind-iterator;
-  tell : all_tell g.A.Agent.voice l.places.items ≡ told l.yielded;
+  tell : all_tell g.A.Agent.voice l.places.items ≡ told l.p l.yielded;
   left : into_iter_len l.kind-iterator ≡ length (into_iter_items l.kind-iterator);
 }
