@@ -1,5 +1,5 @@
 -- What contracts see of a machine with its firmware, and which states of the model it shows.
-use Rattle.std.specs.Prelude.{◌≡◌, ◌≤◌, ⊤, ⊥, ℕ, Bool, true, false, ◌&&◌, ◌==◌, List, Some, if◌then◌else◌}
+use Rattle.std.specs.Prelude.{◌≡◌, ◌≤◌, ⊤, ℕ, Bool, true, false, ◌&&◌, ◌==◌, List, Some, if◌then◌else◌}
 use Rattle.hp_model.specs.declared.platforms.Platform.{Platform}
 use Rattle.hp_model.specs.declared.entries.Event.{Event}
 use Rattle.hp_model.specs.declared.entries.Event.TheVariants.{Insert, Remove, Do, TakeSmi, TakeInit, Resume, Tell}

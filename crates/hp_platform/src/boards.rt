@@ -117,6 +117,7 @@ fn stand_of(machine: &Machine, p: &Platform, k: u32) -> Option<Stand>
     requires apic { machine.now.apic ≡ p.now.apic }
     ensures some { (s : State) → IsState p.now machine.now s → IfSome result (IsStand p.now s k) }
     ensures none { (s : State) → IsState p.now machine.now s → result ≡ None → mark_at s k ≡ None }
+    ensures cpu { IfSome result (λ x. x.cpu ≡ k) }
     ensures apic { IfSome result (λ x. x.apic ≤ greatest p.now.x2apic) }
 {
     let Some(mark) = machine.mark_at(k) else {
@@ -209,6 +210,7 @@ impl Board {
     fn stand(&self, k: u32) -> Option<Stand>
         ensures some { (s : State) → Shows self.now s → IfSome result (IsStand self.now.platform s k) }
         ensures none { (s : State) → Shows self.now s → result ≡ None → mark_at s k ≡ None }
+        ensures cpu { IfSome result (λ x. x.cpu ≡ k) }
         ensures apic { IfSome result (λ x. x.apic ≤ greatest self.now.platform.x2apic) }
     {
         stand_of(&self.machine, &self.platform, k)
