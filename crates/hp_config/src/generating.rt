@@ -20,6 +20,7 @@ const ROUNDS: u32 = 39;
 
 const TURNS: u32 = 5000;
 
+#[tactic(auto, unfolding(crate::specs::Generated::numbers_below))]
 fn first_numbers(alloc: Global, count: u32) -> Result<Ids, NoMemory>
     ensures { IfOk result (λ ids. ids ≡ numbers_below count) }
 {
@@ -49,6 +50,7 @@ fn platform(alloc: Global) -> Result<Platform, NoMemory>
     })
 }
 
+#[tactic(auto, unfolding(crate::specs::Generated::rounds))]
 fn hosts(alloc: Global, seed: u32) -> Result<Hosts, NoMemory>
     ensures { IfOk result (λ hosts. hosts ≡ (rounds 39 (generator_of seed)).events) }
 {
@@ -81,6 +83,7 @@ fn kind_of(n: u32, cpu: u32) -> VoiceKind
     }
 }
 
+#[tactic(auto, unfolding(crate::specs::Generated::generated_kinds))]
 fn voices(alloc: Global, n: u32) -> Result<Voices, NoMemory>
     requires { n ≤ 1000 }
     ensures { IfOk result (λ voices. voices ≡ generated_kinds n 64) }

@@ -16,6 +16,9 @@ mod tree;
 
 pub use faults::ConfigFault;
 pub use generating::generated;
-pub use laws::{good_files_are_sound, read_files_are_sound, steps_are_read_as_spelled};
+pub use laws::{
+    generated_files_are_sound, good_files_are_sound, read_files_are_sound,
+    steps_are_read_as_spelled,
+};
 pub use reading::read;
 pub use steps::step_of;
