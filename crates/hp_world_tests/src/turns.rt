@@ -1,5 +1,8 @@
 //! Worlds that are given turns one by one, and the lines that these make.
 
+ghost use Rattle.std.specs.Prelude.{IfOk};
+ghost use Rattle.hp_model.specs.Platform.{IsFit};
+
 use hp_agent::{Agent, Agents, Script, Voice};
 use hp_config::step_of;
 use hp_model::{Actor, Entry, NoMemory, Platform, Steps, fits};
@@ -16,6 +19,17 @@ pub(crate) const TWO: &str =
 /// Two boot processors.
 pub(crate) const BOTH: &str =
     "platform apic=0,1 boot=0,1 low=08000000 tseg=1 features=7 polls=8 turns=0 modern=true smram=true delivery=prompt";
+
+/// The platform whose trace has this header.
+pub(crate) fn platform_of(rt: &impl Abort, alloc: Global, head: &str) -> Result<Platform, Fail>
+    ensures { IfOk result (λ p. IsFit p) }
+{
+    let Some(p) = read_head(alloc, head.as_bytes())? else {
+        panic!(rt; "no header");
+    };
+    assert!(rt; fits(&p).is_ok());
+    Ok(p)
+}
 
 /// The script of these steps.
 fn script_of(alloc: Global, steps: &[&str]) -> Result<Script, Fail> {
@@ -34,8 +48,9 @@ fn world<A: Agent>(
     alloc: Global,
     p: &Platform,
     voices: Vec<Option<Voice<A>>>,
-) -> Result<World<A>, NoMemory> {
-    assert!(rt; fits(p).is_ok());
+) -> Result<World<A>, NoMemory>
+    requires { IsFit p.now }
+{
     assert_eq!(rt; voices.len(), p.apic.0.len());
     World::new(alloc, p, Agents::new(voices))
 }
@@ -48,9 +63,7 @@ pub(crate) fn world_of<A: Agent>(
     steps: &[&str],
     agents: Vec<Voice<A>>,
 ) -> Result<World<A>, Fail> {
-    let Some(p) = read_head(alloc, head.as_bytes())? else {
-        return Err(Fail::from("no header"));
-    };
+    let p = platform_of(rt, alloc, head)?;
     let mut voices = Vec::new(alloc);
     voices.push(Some(Voice::Script(script_of(alloc, steps)?)))?;
     for agent in agents {

@@ -1,0 +1,5 @@
+//! Tests of the edge: what no platform file can say of `top`.
+#![tactic(auto)]
+
+#[cfg(test)]
+mod edge;
