@@ -1,5 +1,5 @@
 -- Accesses 1 to 4: the register block, and so the whole boot.
-use Rattle.std.proofs.Common.{◌≡◌, ℕ, Bool, true, false, ◌&&◌, not, Option, Some, None, refl, ap, subst, ◌∙◌, arith, if◌then◌else◌}
+use Rattle.std.proofs.Common.{◌≡◌, ℕ, Bool, true, false, ◌&&◌, not, List, Option, Some, None, refl, ap, subst, ◌∙◌, arith, if◌then◌else◌}
 use Rattle.std.proofs.lemmas.Bool.{cond_both, ne_eqb}
 use Rattle.hp_model.specs.declared.platforms.Platform.{Platform}
 use Rattle.hp_model.specs.declared.accesses.Access.TheVariants.{In, Out}
@@ -13,9 +13,9 @@ use Rattle.hp_model.specs.Image.{image}
 use Rattle.hp_model.specs.State.{State, start}
 use Rattle.hp_model.specs.Ports.{write_block}
 use Rattle.hp_model.specs.Firmware.{with_agreed}
-use Rattle.hp_model.specs.declared.files.File.{File}
 use Rattle.hp_model.specs.Platform.{IsFit}
 use Rattle.hp_model.specs.Schedule.{boot_turns, booted, scene_start}
+use Rattle.hp_model.specs.Voices.{Voice}
 use Rattle.hp_boot.specs.Ending.{has_size, is_negotiable, legacy_value, end_of}
 use Rattle.hp_boot.proofs.Start.{Facts, facts, no_event, legacy_shows}
 use Rattle.hp_boot.proofs.Going.{Ends, ends_refused, made}
@@ -108,6 +108,6 @@ module _ (p : Platform) (f : Facts p) where
       let turns : more 15 (rest p) ≡ boot_turns p = omega arith in
       subst (λ (n : ℕ). Ends p n (start p) (end_of p)) turns (blocks p f (end_of p) p.modern refl (form_end p.modern refl))
 
-pub boot_stage : (f : File) → IsFit f.platform → (booted f).scene.state.stage ≡ end_of f.platform
+pub boot_stage : (p : Platform) (vs : List Voice) → IsFit p → (booted p vs).scene.state.stage ≡ end_of p
 unfolding booted
-boot_stage f fit = boot_end f.platform (facts f.platform fit) (scene_start f) refl
+boot_stage p vs fit = boot_end p (facts p fit) (scene_start p vs) refl

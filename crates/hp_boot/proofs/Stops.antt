@@ -11,7 +11,6 @@ use Rattle.hp_model.specs.declared.entries.Actor.{Actor}
 use Rattle.hp_model.specs.declared.entries.Actor.TheVariants as actor
 use Rattle.hp_model.specs.declared.entries.Event.TheVariants.{Do}
 use Rattle.hp_model.specs.declared.entries.Entry.{Entry}
-use Rattle.hp_model.specs.declared.files.File.{File}
 use Rattle.hp_model.specs.declared.outcomes.BootFact.{BootFact}
 use Rattle.hp_model.specs.declared.outcomes.BootFact.TheVariants.{NotModern, NoDefaultSmram, NotNegotiated, NoExtTseg}
 use Rattle.hp_model.specs.declared.processors.Cpu.{Cpu}
@@ -23,6 +22,7 @@ use Rattle.hp_model.specs.State.{State, at}
 use Rattle.hp_model.specs.Access.{answer_to}
 use Rattle.hp_model.specs.Firmware.{firmware_led}
 use Rattle.hp_model.specs.Step.{After, effect_of, after, step}
+use Rattle.hp_model.specs.Voices.{Voice}
 use Rattle.hp_model.specs.Schedule.{Scene, Made, makes_none, both_make, made_by, entry_of, act, act_all, booted, boot_fact, boot_turns, scene_start}
 use Rattle.hp_boot.specs.Ending.{reads_fact, IsRefusing, StopsAt}
 use Rattle.hp_boot.proofs.Parts.{at_ext, at_ok}
@@ -213,6 +213,6 @@ stops (suc n) p w fact done supported boots outside h =
         (stops_then p w fact done supported boots outside more
         (λ d u goes. later (turn p w fact done supported boots outside).scene d u goes (outside_then p w fact done supported boots outside)))
 
-pub boot_stops : (f : File) (fact : BootFact) → boot_fact f ≡ Some fact → StopsAt fact (booted f).entries
+pub boot_stops : (p : Platform) (vs : List Voice) (fact : BootFact) → boot_fact p vs ≡ Some fact → StopsAt fact (booted p vs).entries
 unfolding boot_fact booted
-boot_stops f fact h = stops (boot_turns f.platform) f.platform (scene_start f) fact 0 0 refl (IsOutside-start f.platform) h
+boot_stops p vs fact h = stops (boot_turns p) p (scene_start p vs) fact 0 0 refl (IsOutside-start p) h

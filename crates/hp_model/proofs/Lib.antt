@@ -1,3 +1,4 @@
+pub mod Agreeing
 pub mod AtEach
 pub mod Bytes
 pub mod Counts

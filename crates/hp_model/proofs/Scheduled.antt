@@ -98,16 +98,17 @@ IsRun-turns f (suc n) turn w =
     (IsRun-all f.platform (actors_of f turn) w) (IsRun-turns f n (turn + 1) (act_all f.platform w (actors_of f turn)).scene)
 
 -- the machine makes each entry of the boot, one after another
-pub booted_runs : (f : File) → IsSome (run f.platform (booted f).entries)
+pub booted_runs : (p : Platform) (vs : List Voice) → IsSome (run p (booted p vs).entries)
 unfolding run booted
-booted_runs f = subst (λ (r : Option State). IsSome r) (sym (IsRun-all f.platform (replicate (boot_turns f.platform) (actor.Cpu 0)) (scene_start f)).runs) refl
+booted_runs p vs = subst (λ (r : Option State). IsSome r) (sym (IsRun-all p (replicate (boot_turns p) (actor.Cpu 0)) (scene_start p vs)).runs) refl
 
 -- and each of the schedule, one after another
-pub scheduled_runs : (f : File) → IsSome (run f.platform (scheduled f))
+pub scheduled_runs : (f : File) (vs : List Voice) → IsSome (run f.platform (scheduled f vs))
 unfolding run scheduled booted
-scheduled_runs f =
-    let boot = IsRun-all f.platform (replicate (boot_turns f.platform) (actor.Cpu 0)) (scene_start f) in
-    let all = IsRun-both f.platform (scene_start f) (booted f) (turns_from f f.platform.turns 0 (booted f).scene) boot (IsRun-turns f f.platform.turns 0 (booted f).scene) in
+scheduled_runs f vs =
+    let p = f.platform in
+    let boot = IsRun-all p (replicate (boot_turns p) (actor.Cpu 0)) (scene_start p vs) in
+    let all = IsRun-both p (scene_start p vs) (booted p vs) (turns_from f p.turns 0 (booted p vs).scene) boot (IsRun-turns f p.turns 0 (booted p vs).scene) in
     subst (λ (r : Option State). IsSome r) (sym all.runs) refl
 
 pub ruleset runs = (scheduled_runs, booted_runs)

@@ -17,7 +17,7 @@ use Rattle.hp_model.specs.declared.turns.Due.{Due}
 use Rattle.hp_model.specs.declared.turns.Due.TheVariants.{Idle, Makes, Asks}
 use Rattle.hp_model.specs.Platform.{count_of}
 use Rattle.hp_model.specs.Cpu.{page_of}
-use Rattle.hp_model.specs.Voices.{Voice, Question, Said, silent, says, voice_of}
+use Rattle.hp_model.specs.Voices.{Voice, Question, Said, silent, says}
 use Rattle.hp_model.specs.declared.outcomes.BootFact.{BootFact}
 use Rattle.hp_model.specs.Block.{ejected_by}
 use Rattle.hp_model.specs.Boot.{fact_of, boot_count}
@@ -46,8 +46,9 @@ question w k = question_in w.state k w.last
 abbrev pub said_by : Scene → ℕ → Said
 said_by w k = says (voice_at w k) (question w k)
 
-abbrev pub scene_start : File → Scene
-scene_start f = record { state = start f.platform; voices = map (voice_of f.platform) f.voices; last = map (λ v. Quiet) f.voices }
+-- at the start of a run, by the voices of the processors
+abbrev pub scene_start : Platform → List Voice → Scene
+scene_start p voices = record { state = start p; voices = voices; last = map (λ v. Quiet) voices }
 
 -- the entries that a part of the schedule makes, and the scene after it
 pub record Made : Type 0 where
@@ -123,13 +124,17 @@ turns_from f (suc n) turn w =
 abbrev pub boot_turns : Platform → ℕ
 boot_turns p = boot_count p.tseg_mib
 
-unfoldable pub booted : File → Made
-booted f = act_all f.platform (scene_start f) (replicate (boot_turns f.platform) (actor.Cpu 0))
+unfoldable pub booted : Platform → List Voice → Made
+booted p voices = act_all p (scene_start p voices) (replicate (boot_turns p) (actor.Cpu 0))
 
 -- the value that refused the boot, if one did
-unfoldable pub boot_fact : File → Option BootFact
-boot_fact f = fact_of (booted f).scene.state.stage
+unfoldable pub boot_fact : Platform → List Voice → Option BootFact
+boot_fact p voices = fact_of (booted p voices).scene.state.stage
 
--- the entries of `run`: those of the boot, and those of turns 0 to the platform's number of turns, less one
-unfoldable pub scheduled : File → List Entry
-scheduled f = (both_make (booted f) (turns_from f f.platform.turns 0 (booted f).scene)).entries
+-- the boot, and turns 0 to the platform's number of turns, less one
+abbrev pub run_of : File → List Voice → Made
+run_of f voices = both_make (booted f.platform voices) (turns_from f f.platform.turns 0 (booted f.platform voices).scene)
+
+-- the entries of `run`, by the voices of the processors
+unfoldable pub scheduled : File → List Voice → List Entry
+scheduled f voices = (run_of f voices).entries

@@ -1,5 +1,5 @@
 -- Voices: what a processor says outside SMM, as plain data (own rules).
-use Rattle.std.specs.Prelude.{ℕ, Bool, true, false, ◌&&◌, ◌||◌, not, ◌==◌, ◌+◌, nat_lt, List, [], ◌∷◌, length, map, bit_and, if◌then◌else◌}
+use Rattle.std.specs.Prelude.{◌≡◌, ℕ, Bool, true, false, ◌&&◌, ◌||◌, not, ◌==◌, ◌+◌, nat_lt, List, [], ◌∷◌, length, map, Option, Some, None, bit_and, if◌then◌else◌}
 use Rattle.rand_pcg.specs.Lcg.{Lcg}
 use Rattle.hp_model.specs.declared.accesses.Access.{Access}
 use Rattle.hp_model.specs.declared.accesses.Access.TheVariants.{Store, In, Out, Halt}
@@ -7,6 +7,7 @@ use Rattle.hp_model.specs.declared.accesses.Answer.{Answer}
 use Rattle.hp_model.specs.declared.platforms.Platform.{Platform}
 use Rattle.hp_model.specs.declared.files.VoiceKind.{VoiceKind}
 use Rattle.hp_model.specs.declared.files.VoiceKind.TheVariants.{Script, Os, Pen, Seeded, Handed}
+use Rattle.hp_model.specs.declared.files.File.{File}
 use Rattle.hp_model.specs.Attacks.{once_more, storm_access, flood_access, digger_access, churn_access}
 use Rattle.hp_model.specs.Block.{cut}
 use Rattle.hp_model.specs.Boot.{value_in}
@@ -110,3 +111,48 @@ voice_of p Os = os (map (high_half p.x2apic) p.apic) polls
 voice_of p Pen = pen false
 voice_of p (Seeded seed) = seeded (generator_of seed)
 voice_of p Handed = silent
+
+-- What processors of these kinds have: each what its kind has, but the first of kind handed the first of what was handed in, and so on. A processor for
+-- which nothing is left has what its kind has, and what no processor is left for is dropped.
+abbrev pub with_handed : {X : Type 0} → (VoiceKind → X) → List VoiceKind → List X → List X
+with_handed own [] handed = []
+with_handed own (Script steps ∷ kinds) handed = own (Script steps) ∷ with_handed own kinds handed
+with_handed own (Os ∷ kinds) handed = own Os ∷ with_handed own kinds handed
+with_handed own (Pen ∷ kinds) handed = own Pen ∷ with_handed own kinds handed
+with_handed own (Seeded seed ∷ kinds) handed = own (Seeded seed) ∷ with_handed own kinds handed
+with_handed own (Handed ∷ kinds) [] = own Handed ∷ with_handed own kinds []
+with_handed own (Handed ∷ kinds) (x ∷ handed) = x ∷ with_handed own kinds handed
+
+-- the voices of a file's processors, where these were handed in
+abbrev pub voices_of : File → List Voice → List Voice
+voices_of f handed = with_handed (voice_of f.platform) f.voices handed
+
+-- what the agents of processors of these kinds tell, where some were handed in that tell this: one of a kind tells the kind's voice
+abbrev pub told_by : Platform → List VoiceKind → List (Option Voice) → List (Option Voice)
+told_by p kinds handed = with_handed (λ kind. Some (voice_of p kind)) kinds handed
+
+-- and those of a file's processors
+abbrev pub told_of : File → List (Option Voice) → List (Option Voice)
+told_of f handed = told_by f.platform f.voices handed
+
+abbrev pub is_script : Voice → Bool
+is_script (script steps) = true
+is_script (pen stored) = false
+is_script (os halves place) = false
+is_script (seeded g) = false
+is_script (storm count i) = false
+is_script (flood apic i) = false
+is_script (digger i) = false
+is_script (churn cpu i) = false
+
+-- A voice that a place may have: the one that it tells. Where it tells none it is some script: these say any accesses, one after the other.
+abbrev pub MayHave : Option Voice → Voice → Type 0
+MayHave None v = is_script v ≡ true
+MayHave (Some told) v = v ≡ told
+
+-- voices that agree with what the places tell, one a place
+abbrev pub Agree : List (Option Voice) → List Voice → Type 0
+Agree [] [] = Unit {0}
+Agree [] (v ∷ vs) = ⊥
+Agree (told ∷ places) [] = ⊥
+Agree (told ∷ places) (v ∷ vs) = MayHave told v × Agree places vs

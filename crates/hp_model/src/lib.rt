@@ -22,7 +22,7 @@ pub use errors::NoMemory;
 pub use files::{File, HostEvent, Hosts, Stall, Stalls, VoiceKind, Voices};
 pub use generators::Generator;
 pub use labels::Label;
-pub use laws::schedule_is_a_run;
+pub use laws::{schedule_is_a_run, told_voices_alone_agree};
 pub use layout::{icr_high, tile, tseg};
 pub use outcomes::{BootFact, Outcome, Refusal, Step};
 pub use platforms::{Delivery, Ids, Platform};

@@ -4,7 +4,7 @@ use Rattle.std.specs.Prelude.{⊤}
 use Rattle.rand_core.specs.Pcg32Seed.{pcg32_seed}
 use Rattle.rand_core.specs.Steps.{u32_at, word_bytes}
 use Rattle.hp_model.specs.Seeded.{draw, generator_of}
-use Rattle.hp_model.specs.Step.{same_access}
+use Rattle.hp_model.specs.Access.{same_access}
 use Rattle.hp_model.specs.Voices.{says, seeded, storm, flood, digger, churn}
 use Rattle.hp_worked.specs.Dialogues.{says_all, os_of_two, os_of_three, os_of_wide, looks_until_an_event, starts_one, starts_and_ejects, passes_over, ends_below, ends_past_the_last, counts_32_bits, looks_again, clears_after_the_scan, scans_without_a_command, starts_before_the_call, keeps_the_insert_event, waits_no_time, sends_one_sipi, ejects_first, hands_over_first, calls_once, starts_a_disabled_one, goes_round, asks_past_the_last, drawn_of_seed_2, drawn_of_seed_0, storm_of_two, flood_of_one, digger_lines, churn_of_one, storm_past_the_last}
 

@@ -15,7 +15,7 @@ use Rattle.hp_model.specs.Platform.{is_late}
 use Rattle.hp_model.specs.Runs.{run}
 use Rattle.hp_model.specs.State.{State}
 use Rattle.hp_model.specs.Firmware.{is_wanted}
-use Rattle.hp_model.specs.Step.{After, after, is_enabled, step}
+use Rattle.hp_model.specs.Step.{after, is_enabled, step}
 use Rattle.hp_model.specs.Hosting.{IsHosted, IsMadeAt, IsMarked, is_host, owner_of}
 
 -- the event of an actor of the host; of another actor none is asked for

@@ -11,10 +11,22 @@ use Rattle.hp_model.specs.State.{State, at, start}
 use Rattle.hp_model.specs.Access.{stands_in_smm}
 use Rattle.hp_model.specs.Platform.{count_of}
 use Rattle.hp_model.specs.Runs.{run, run_from, run_on}
-use Rattle.hp_model.specs.Schedule.{Scene, scene_start, boot_turns, turns_from}
+use Rattle.hp_model.specs.declared.outcomes.BootFact.{BootFact}
+use Rattle.hp_model.specs.Schedule.{Scene, boot_fact, boot_turns, scene_start, scheduled, turns_from}
+use Rattle.hp_model.specs.Voices.{Voice, voices_of}
 use Rattle.hp_model.specs.Memory.{touched}
 use Rattle.hp_model.specs.Safety.{is_astray}
 use Rattle.hp_model.specs.Transitions.{places}
+
+-- the voices of a file where no agent is handed in, the entries that its schedule makes then, and the value that refuses its boot
+abbrev pub own_voices : File → List Voice
+own_voices f = voices_of f []
+
+abbrev pub own_run : File → List Entry
+own_run f = scheduled f (own_voices f)
+
+abbrev pub own_fact : File → Option BootFact
+own_fact f = boot_fact f.platform (own_voices f)
 
 -- the entries are a run of the file's platform
 abbrev pub is_run : File → List Entry → Bool
@@ -36,7 +48,7 @@ stops_at f es = first_stop f.platform 0 es (start f.platform)
 
 -- the scene at the start, as if the firmware had handed over before the first access of the boot
 abbrev pub scene_alone : File → Scene
-scene_alone f = record (scene_start f) { state = record (start f.platform) { stage = Handed 0 } }
+scene_alone f = record (scene_start f.platform (own_voices f)) { state = record (start f.platform) { stage = Handed 0 } }
 
 -- the entries are steps of this machine alone
 abbrev pub is_run_alone : File → List Entry → Bool

@@ -6,7 +6,7 @@ use Rattle.hp_model.specs.declared.accesses.Access.TheVariants.{Load, Store, In,
 use Rattle.hp_model.specs.declared.accesses.Answer.{Answer}
 use Rattle.hp_model.specs.declared.accesses.Answer.TheVariants.{Quiet, Value}
 use Rattle.hp_model.specs.declared.files.VoiceKind.TheVariants.{Os}
-use Rattle.hp_model.specs.Step.{same_access}
+use Rattle.hp_model.specs.Access.{same_access}
 use Rattle.hp_model.specs.Voices.{Voice, Question, says, voice_of}
 use Rattle.hp_worked.specs.Files.{one_of_two, one_of_three}
 

@@ -5,9 +5,10 @@ use Rattle.hp_model.specs.declared.entries.Actor.{Actor}
 use Rattle.hp_model.specs.declared.entries.Entry.{Entry}
 use Rattle.hp_model.specs.declared.files.File.{File}
 use Rattle.hp_model.specs.Following.{Carried, carried_all, follows}
-use Rattle.hp_model.specs.Schedule.{Scene, both_make, booted, scene_start, turns_from}
+use Rattle.hp_model.specs.Schedule.{Scene, run_of, scene_start}
 use Rattle.hp_model.specs.Voices.{Voice}
 use Rattle.hp_worked.specs.Adds.{an_add}
+use Rattle.hp_worked.specs.Asked.{own_voices}
 use Rattle.hp_worked.specs.Ejects.{ejected_and_added_again}
 use Rattle.hp_worked.specs.Entries.{does, reads, takes_smi, with_entry}
 use Rattle.hp_worked.specs.Late.{selector_taken_away}
@@ -22,18 +23,18 @@ carried_in w = record { state = w.state; voices = all_told w.voices; last = w.la
 
 -- from the scene at the start, the entries follow the voices of a file; and what they leave
 abbrev pub follows_voices : File → List Entry → Bool
-follows_voices f es = follows f.platform (carried_in (scene_start f)) es
+follows_voices f es = follows f.platform (carried_in (scene_start f.platform (own_voices f))) es
 
 abbrev pub carried_by : File → List Entry → Carried
-carried_by f es = carried_all f.platform (carried_in (scene_start f)) es
+carried_by f es = carried_all f.platform (carried_in (scene_start f.platform (own_voices f))) es
 
 -- the same where processor 1 doesn't tell its voice, of two
 abbrev pub follows_the_first : File → Voice → List Entry → Bool
-follows_the_first f v es = follows f.platform (record (carried_in (scene_start f)) { voices = Some v ∷ None ∷ [] }) es
+follows_the_first f v es = follows f.platform (record (carried_in (scene_start f.platform (own_voices f))) { voices = Some v ∷ None ∷ [] }) es
 
 -- the scene that a file's schedule leaves
 abbrev pub scene_left : File → Scene
-scene_left f = (both_make (booted f) (turns_from f f.platform.turns 0 (booted f).scene)).scene
+scene_left f = (run_of f (own_voices f)).scene
 
 -- the actors of a file's host events, in the order of the file
 abbrev pub hosts_of_file : File → List Actor

@@ -1,8 +1,7 @@
 //! Laws over definitions, computed on worked traces of adds: public functions with empty bodies.
 
 ghost use Rattle.std.specs.Prelude.{◌≡◌, true, false, [], ◌∷◌, Some, length};
-ghost use Rattle.hp_model.specs.Schedule.{scheduled};
-ghost use Rattle.hp_worked.specs.Asked.{is_run, stops_at, is_nobody_astray, is_locked_at_each, is_untouched_at_each};
+ghost use Rattle.hp_worked.specs.Asked.{own_run, is_run, stops_at, is_nobody_astray, is_locked_at_each, is_untouched_at_each};
 ghost use Rattle.hp_worked.specs.Files.{an_add_file, add_with_a_stored_pen_byte_file, two_adds_file, two_new_processors_file, gate_held_file, insert_and_eject_file, disabled_processor_file, cleared_event_file, already_known_file, not_at_gate_file};
 ghost use Rattle.hp_worked.specs.Adds.{an_add, add_with_a_stored_pen_byte, told_without_arrival, opened_too_early, with_another_tile, without_its_own_smi, with_the_gate_left_open};
 ghost use Rattle.hp_worked.specs.TwoAdds.{two_adds};
@@ -29,16 +28,16 @@ pub fn worked_adds_are_runs()
 /// And each is what the schedule makes of its file, entry for entry, to the end.
 #[tactic(auto, using(crate::proofs::AddsScheduled::scheduled_adds))]
 pub fn files_make_worked_adds()
-    ensures an_add { scheduled an_add_file ≡ an_add }
-    ensures add_with_a_stored_pen_byte { scheduled add_with_a_stored_pen_byte_file ≡ add_with_a_stored_pen_byte }
-    ensures two_adds { scheduled two_adds_file ≡ two_adds }
-    ensures two_new_processors { scheduled two_new_processors_file ≡ two_new_processors }
-    ensures gate_held { scheduled gate_held_file ≡ gate_held }
-    ensures insert_and_eject { scheduled insert_and_eject_file ≡ insert_and_eject }
-    ensures disabled_processor { scheduled disabled_processor_file ≡ disabled_processor }
-    ensures cleared_event { scheduled cleared_event_file ≡ cleared_event }
-    ensures already_known { scheduled already_known_file ≡ already_known }
-    ensures not_at_gate { scheduled not_at_gate_file ≡ not_at_gate }
+    ensures an_add { own_run an_add_file ≡ an_add }
+    ensures add_with_a_stored_pen_byte { own_run add_with_a_stored_pen_byte_file ≡ add_with_a_stored_pen_byte }
+    ensures two_adds { own_run two_adds_file ≡ two_adds }
+    ensures two_new_processors { own_run two_new_processors_file ≡ two_new_processors }
+    ensures gate_held { own_run gate_held_file ≡ gate_held }
+    ensures insert_and_eject { own_run insert_and_eject_file ≡ insert_and_eject }
+    ensures disabled_processor { own_run disabled_processor_file ≡ disabled_processor }
+    ensures cleared_event { own_run cleared_event_file ≡ cleared_event }
+    ensures already_known { own_run already_known_file ≡ already_known }
+    ensures not_at_gate { own_run not_at_gate_file ≡ not_at_gate }
 {}
 
 /// These are no runs, each with one thing changed.

@@ -1,9 +1,8 @@
 //! Laws over definitions, computed on worked traces of ejects, of late delivery and of wide platforms: public functions with empty bodies.
 
 ghost use Rattle.std.specs.Prelude.{◌≡◌, true, false, Some};
-ghost use Rattle.hp_model.specs.Schedule.{scheduled, boot_fact};
 ghost use Rattle.hp_model.specs.declared.outcomes.BootFact.TheVariants.{NoExtTseg};
-ghost use Rattle.hp_worked.specs.Asked.{is_run, stops_at};
+ghost use Rattle.hp_worked.specs.Asked.{own_run, own_fact, is_run, stops_at};
 ghost use Rattle.hp_worked.specs.Files.{ejected_and_added_again_file, no_unplug_file, not_known_file, not_arrived_file, not_parked_file, late_alone_file, selector_taken_away_file, eject_led_astray_file, wide_add_file, largest_file, refused_for_its_tseg_file, prompt_file};
 ghost use Rattle.hp_worked.specs.Ejects.{ejected_and_added_again, told_too_early, ejected_unparked};
 ghost use Rattle.hp_worked.specs.RefusedEjects.{no_unplug, not_known, not_arrived, not_parked};
@@ -30,23 +29,23 @@ pub fn worked_ejects_are_runs()
 /// And each is what the schedule makes of its file, entry for entry, to the end.
 #[tactic(auto, using(crate::proofs::EjectsScheduled::scheduled_ejects))]
 pub fn files_make_worked_ejects()
-    ensures ejected_and_added_again { scheduled ejected_and_added_again_file ≡ ejected_and_added_again }
-    ensures no_unplug { scheduled no_unplug_file ≡ no_unplug }
-    ensures not_known { scheduled not_known_file ≡ not_known }
-    ensures not_arrived { scheduled not_arrived_file ≡ not_arrived }
-    ensures not_parked { scheduled not_parked_file ≡ not_parked }
-    ensures late_alone { scheduled late_alone_file ≡ late_alone }
-    ensures selector_taken_away { scheduled selector_taken_away_file ≡ selector_taken_away }
-    ensures eject_led_astray { scheduled eject_led_astray_file ≡ eject_led_astray }
-    ensures wide_add { scheduled wide_add_file ≡ wide_add }
-    ensures largest_boot { scheduled largest_file ≡ largest_boot }
-    ensures refused_for_its_tseg { scheduled refused_for_its_tseg_file ≡ refused_for_its_tseg }
+    ensures ejected_and_added_again { own_run ejected_and_added_again_file ≡ ejected_and_added_again }
+    ensures no_unplug { own_run no_unplug_file ≡ no_unplug }
+    ensures not_known { own_run not_known_file ≡ not_known }
+    ensures not_arrived { own_run not_arrived_file ≡ not_arrived }
+    ensures not_parked { own_run not_parked_file ≡ not_parked }
+    ensures late_alone { own_run late_alone_file ≡ late_alone }
+    ensures selector_taken_away { own_run selector_taken_away_file ≡ selector_taken_away }
+    ensures eject_led_astray { own_run eject_led_astray_file ≡ eject_led_astray }
+    ensures wide_add { own_run wide_add_file ≡ wide_add }
+    ensures largest_boot { own_run largest_file ≡ largest_boot }
+    ensures refused_for_its_tseg { own_run refused_for_its_tseg_file ≡ refused_for_its_tseg }
 {}
 
 /// A boot is refused where register 50 stays 0.
 #[tactic(auto, using(crate::proofs::EjectsScheduled::tseg_fact))]
 pub fn worked_tseg_is_refused()
-    ensures refused_for_its_tseg { boot_fact refused_for_its_tseg_file ≡ Some (NoExtTseg 0) }
+    ensures refused_for_its_tseg { own_fact refused_for_its_tseg_file ≡ Some (NoExtTseg 0) }
 {}
 
 /// These are no runs: four have one thing changed, and one comes late where SMIs are prompt.

@@ -1,9 +1,8 @@
 //! Laws over definitions: public functions with empty bodies, whose clauses are what is proved.
 
 ghost use Rattle.std.specs.Prelude.{◌≡◌, true, false, Some, take, length};
-ghost use Rattle.hp_model.specs.Schedule.{scheduled, boot_fact};
 ghost use Rattle.hp_model.specs.declared.outcomes.BootFact.TheVariants.{NotModern, NoDefaultSmram, NotNegotiated};
-ghost use Rattle.hp_worked.specs.Asked.{is_run, stops_at, is_run_alone, scheduled_alone, is_never_astray, in_smm_after, astray_after, astray_alone_after, is_locked_at_each, is_untouched_at_each};
+ghost use Rattle.hp_worked.specs.Asked.{own_run, own_fact, is_run, stops_at, is_run_alone, scheduled_alone, is_never_astray, in_smm_after, astray_after, astray_alone_after, is_locked_at_each, is_untouched_at_each};
 ghost use Rattle.hp_worked.specs.Files.{smallest_file, selector_past_the_end_file, several_control_bits_file, transfer_into_locked_memory_file, store_across_64_kib_file, host_events_file, rendezvous_file, late_processor_file, closed_gate_file, refused_for_the_legacy_form_file, refused_for_an_open_default_area_file, refused_for_its_features_file, modern_form_file, default_area_file, interrupts_file, smi_before_init_file};
 ghost use Rattle.hp_worked.specs.Traces.{smallest, selector_past_the_end, several_control_bits, transfer_into_locked_memory, store_across_64_kib, host_events, refused_for_the_legacy_form, refused_for_an_open_default_area, refused_for_its_features, unlocked_boot, boot_out_of_order, boot_after_a_refusal};
 ghost use Rattle.hp_worked.specs.Rendezvous.{rendezvous, with_another_byte, from_another_cell, with_another_answer, without_a_session, released_too_early, left_unreleased};
@@ -32,26 +31,26 @@ pub fn worked_traces_are_runs()
 /// And each is what the schedule makes of its file, entry for entry, to the end.
 #[tactic(auto, using(crate::proofs::Scheduled::scheduled_traces))]
 pub fn files_make_worked_traces()
-    ensures smallest { scheduled smallest_file ≡ smallest }
-    ensures selector_past_the_end { scheduled selector_past_the_end_file ≡ selector_past_the_end }
-    ensures several_control_bits { scheduled several_control_bits_file ≡ several_control_bits }
-    ensures transfer_into_locked_memory { scheduled transfer_into_locked_memory_file ≡ transfer_into_locked_memory }
-    ensures store_across_64_kib { scheduled store_across_64_kib_file ≡ store_across_64_kib }
-    ensures host_events { scheduled host_events_file ≡ host_events }
-    ensures rendezvous { scheduled rendezvous_file ≡ rendezvous }
-    ensures late_processor { scheduled late_processor_file ≡ late_processor }
-    ensures closed_gate { scheduled closed_gate_file ≡ closed_gate }
-    ensures refused_for_the_legacy_form { scheduled refused_for_the_legacy_form_file ≡ refused_for_the_legacy_form }
-    ensures refused_for_an_open_default_area { scheduled refused_for_an_open_default_area_file ≡ refused_for_an_open_default_area }
-    ensures refused_for_its_features { scheduled refused_for_its_features_file ≡ refused_for_its_features }
+    ensures smallest { own_run smallest_file ≡ smallest }
+    ensures selector_past_the_end { own_run selector_past_the_end_file ≡ selector_past_the_end }
+    ensures several_control_bits { own_run several_control_bits_file ≡ several_control_bits }
+    ensures transfer_into_locked_memory { own_run transfer_into_locked_memory_file ≡ transfer_into_locked_memory }
+    ensures store_across_64_kib { own_run store_across_64_kib_file ≡ store_across_64_kib }
+    ensures host_events { own_run host_events_file ≡ host_events }
+    ensures rendezvous { own_run rendezvous_file ≡ rendezvous }
+    ensures late_processor { own_run late_processor_file ≡ late_processor }
+    ensures closed_gate { own_run closed_gate_file ≡ closed_gate }
+    ensures refused_for_the_legacy_form { own_run refused_for_the_legacy_form_file ≡ refused_for_the_legacy_form }
+    ensures refused_for_an_open_default_area { own_run refused_for_an_open_default_area_file ≡ refused_for_an_open_default_area }
+    ensures refused_for_its_features { own_run refused_for_its_features_file ≡ refused_for_its_features }
 {}
 
 /// Three of them are boots that are refused, for the value that their last entry reads.
 #[tactic(auto, using(crate::proofs::Scheduled::boot_facts))]
 pub fn worked_boots_are_refused()
-    ensures the_legacy_form { boot_fact refused_for_the_legacy_form_file ≡ Some (NotModern 1) }
-    ensures an_open_default_area { boot_fact refused_for_an_open_default_area_file ≡ Some (NoDefaultSmram 0) }
-    ensures its_features { boot_fact refused_for_its_features_file ≡ Some (NotNegotiated 0) }
+    ensures the_legacy_form { own_fact refused_for_the_legacy_form_file ≡ Some (NotModern 1) }
+    ensures an_open_default_area { own_fact refused_for_an_open_default_area_file ≡ Some (NoDefaultSmram 0) }
+    ensures its_features { own_fact refused_for_its_features_file ≡ Some (NotNegotiated 0) }
 {}
 
 /// Traces of the machine alone, without the boot, as if its firmware had handed over at once: they are steps of it.
