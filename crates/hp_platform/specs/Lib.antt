@@ -1,2 +1,4 @@
+pub mod Agents
 pub mod Board
+pub mod Live
 pub mod World
