@@ -2,5 +2,6 @@ pub mod AtEach
 pub mod Bytes
 pub mod Counts
 pub mod FitPlatforms
+pub mod Marks
 pub mod Same
 pub mod Scheduled

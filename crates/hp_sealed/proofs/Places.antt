@@ -13,7 +13,7 @@ use Rattle.hp_model.specs.Handlers.{slot_at, is_tile, runs_at, address_of_label}
 use Rattle.hp_sealed.specs.Left.{Sound, Locked, is_gate, is_guarded, guarded_by, is_kept}
 use Rattle.hp_sealed.specs.Sealed.{is_other_tile, is_based}
 use Rattle.hp_sealed.specs.Booting.{is_set_up}
-use Rattle.hp_sealed.proofs.Labels.{index_small, index_first}
+use Rattle.hp_model.proofs.Marks.{index_small, index_first}
 
 pub from_size : (p : Platform) (ext : ℕ) → Sound p → (p.tseg_mib ≡ 48 → ext ≡ 0x30) → p.low_memory - tseg_size ext (tseg_enabled p.tseg_mib) * 0x100000 ≡ tseg p
 from_size p ext sound asked = by_size sound.size
