@@ -1,5 +1,6 @@
 pub mod AtEach
 pub mod Bytes
+pub mod Cases
 pub mod Counts
 pub mod FitPlatforms
 pub mod Marks
