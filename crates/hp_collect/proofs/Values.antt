@@ -1,51 +1,24 @@
 -- What is read at C3, C4 and C6 has the width of its register, since it fits what any monarch with this collection wants.
-use Rattle.std.proofs.Common.{◌≡◌, ◌<◌, ◌^◌, false, [], refl, subst}
+use Rattle.std.proofs.Common.{◌≡◌, ◌<◌, ◌^◌, refl, subst}
 use Rattle.hp_model.specs.declared.accesses.Answer.{Answer}
 use Rattle.hp_model.specs.declared.accesses.Answer.TheVariants.{Quiet, Value}
-use Rattle.hp_model.specs.declared.labels.Label.TheVariants.{C1, C3, C4, C6}
-use Rattle.hp_model.specs.Add.{add_of}
+use Rattle.hp_model.specs.declared.labels.Label.TheVariants.{C3, C4, C6}
+use Rattle.hp_model.specs.Bare.{bare_monarch, layout_at, nobody}
 use Rattle.hp_model.specs.Boot.{value_in}
 use Rattle.hp_model.specs.Collection.{Collected, Collection, CollectsAt}
-use Rattle.hp_model.specs.Eject.{eject_of}
-use Rattle.hp_model.specs.Handlers.{Seat}
-use Rattle.hp_model.specs.Monarch.{Monarch, no_outcome}
-use Rattle.hp_model.specs.SharedBytes.{Layout}
-use Rattle.std.specs.Prelude.{None}
 use Rattle.hp_collect.specs.Collecting.{Fits}
 
-nowhere : Layout
-nowhere = record { tseg = 0; count = 0; apics = []; polls = 0; x2apic = false; late = false }
-
-nobody : Seat
-nobody = record { apic = 0; slot = 0; base = 0 }
-
-abbrev with_collection : Collection → Monarch
-with_collection c =
-    record {
-      label = C1;
-      slot = 0;
-      polls = 0;
-      slots = record { bound = []; known = []; held = None };
-      last = [];
-      features = 0;
-      collection = c;
-      taken = 0;
-      add = add_of 0 0 0;
-      eject = eject_of 0 0 0;
-      outcome = no_outcome;
-    }
-
 word_at_C3 : (c : Collection) (answer : Answer) → Fits (CollectsAt C3 c) answer → value_in answer < 256 ^ 4
-word_at_C3 c Quiet h = absurd (h nowhere nobody (with_collection c) refl)
-word_at_C3 c (Value v) h = h nowhere nobody (with_collection c) refl
+word_at_C3 c Quiet h = absurd (h (layout_at 0) nobody (record bare_monarch { collection = c }) refl)
+word_at_C3 c (Value v) h = h (layout_at 0) nobody (record bare_monarch { collection = c }) refl
 
 byte_at_C4 : (c : Collection) (answer : Answer) → Fits (CollectsAt C4 c) answer → value_in answer < 256 ^ 1
-byte_at_C4 c Quiet h = absurd (h nowhere nobody (with_collection c) refl)
-byte_at_C4 c (Value v) h = h nowhere nobody (with_collection c) refl
+byte_at_C4 c Quiet h = absurd (h (layout_at 0) nobody (record bare_monarch { collection = c }) refl)
+byte_at_C4 c (Value v) h = h (layout_at 0) nobody (record bare_monarch { collection = c }) refl
 
 word_at_C6 : (c : Collection) (answer : Answer) → Fits (CollectsAt C6 c) answer → value_in answer < 256 ^ 4
-word_at_C6 c Quiet h = absurd (h nowhere nobody (with_collection c) refl)
-word_at_C6 c (Value v) h = h nowhere nobody (with_collection c) refl
+word_at_C6 c Quiet h = absurd (h (layout_at 0) nobody (record bare_monarch { collection = c }) refl)
+word_at_C6 c (Value v) h = h (layout_at 0) nobody (record bare_monarch { collection = c }) refl
 
 pub place_read : (at : Collected) (c : Collection) (answer : Answer) → at ≡ CollectsAt C3 c → Fits at answer → value_in answer < 256 ^ 4
 place_read at c answer e h = word_at_C3 c answer (subst (λ (k : Collected). Fits k answer) e h)

@@ -1,30 +1,16 @@
 -- The bytes of a number, as hp_model has them, are those that byteorder writes and reads.
-use Rattle.std.proofs.Common.{◌≡◌, ℕ, zero, suc, ◌+◌, ◌/◌, ◌%◌, ◌^◌, ◌<◌, List, ◌++◌, take, drop, slice_index, refl, sym, ap, ◌∙◌, add-one, [], arith}
-use Rattle.std.proofs.Math.Nat.{div-div-eq-div-mul, div-one, pow-suc}
+use Rattle.std.proofs.Common.{◌≡◌, ℕ, zero, suc, ◌+◌, ◌^◌, ◌<◌, List, ◌++◌, take, drop, slice_index, refl, sym, ap, ◌∙◌, add-one, [], arith}
 use Rattle.std.proofs.lemmas.List.{get_or-drop}
-use Rattle.std.specs.Int.{byte_at, bytes_low_first}
 use Rattle.byteorder.specs.Endian.{little_from, little_number, little_bytes}
 use Rattle.byteorder.specs.Numbers.{little_from-take, little_number-reads_back}
+use Rattle.hp_model.proofs.Bytes.{low_first}
 use Rattle.hp_model.specs.Memory.{bytes_of, value_from}
 use Rattle.hp_cpu.specs.declared.save_area.SavePlan.{SavePlan}
 use Rattle.hp_cpu.specs.Saving.{packed, unpacked}
 
--- a byte by its place, and the one after it
-byte_at-pow : (k x : ℕ) → byte_at k x ≡ x / 256 ^ k % 256
-byte_at-pow zero x = ap (λ (y : ℕ). y % 256) (sym (div-one x))
-byte_at-pow (suc k) x = refl
-
-next_byte : (i x : ℕ) → x / 256 ^ suc i ≡ x / 256 ^ i / 256
-next_byte i x = ap (λ (p : ℕ). x / p) (pow-suc 256 i) ∙ sym (div-div-eq-div-mul x (256 ^ i) 256)
-
 -- the bytes that are written
-bytes_from : (i n x : ℕ) → bytes_low_first i n x ≡ bytes_of n (x / 256 ^ i)
-unfolding bytes_of
-bytes_from i zero x = refl
-bytes_from i (suc n) x = rw (byte_at-pow i x, bytes_from (suc i) n x, next_byte i x) refl
-
 little_bytes_are : (n x : ℕ) → little_bytes n x ≡ bytes_of n x
-little_bytes_are n x = bytes_from 0 n x ∙ ap (bytes_of n) (div-one x)
+little_bytes_are n x = low_first n x
 
 -- the numbers that are read
 little_from_is : (i n : ℕ) (xs : List ℕ) → little_from i n xs ≡ value_from (slice_index xs) i n

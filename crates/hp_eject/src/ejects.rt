@@ -4,27 +4,26 @@
 ghost use Rattle.std.specs.Prelude.{◌≡◌, ◌≢◌, ◌↔◌, ◌<◌, ◌≤◌, ◌+◌, Some, None, ℕ};
 ghost use Rattle.hp_model.specs.declared.labels.Label.{Label};
 ghost use Rattle.hp_model.specs.declared.labels.Label.TheVariants.{E0};
-ghost use Rattle.hp_model.specs.declared.accesses.Access.TheVariants as accesses;
 ghost use Rattle.hp_model.specs.declared.accesses.Want.TheVariants as wants;
 ghost use Rattle.hp_model.specs.declared.outcomes.Step.TheVariants as steps;
 ghost use Rattle.hp_model.specs.declared.outcomes.Outcome.TheVariants as outcomes;
+ghost use Rattle.hp_model.specs.Bare.{layout_at};
 ghost use Rattle.hp_model.specs.Boot.{value_in};
 ghost use Rattle.hp_model.specs.Eject.{Eject as AnEject, EjectEnds, EjectsAt, awaits, eject_of, gone, handed_to_block, saw_parked, saw_status};
 ghost use Rattle.hp_model.specs.Handlers.{Seat, goes, next_at, want_at};
 ghost use Rattle.hp_model.specs.Monarch.{Monarch, eject_led};
 ghost use Rattle.hp_model.specs.Platform.{IsFit, is_late, tseg as first_of_tseg};
-ghost use Rattle.hp_model.specs.SharedBytes.{Layout};
+ghost use Rattle.hp_model.specs.SharedBytes.{Layout, arrived_byte as arrived_byte_of, map_byte as map_byte_of, parked_byte as parked_byte_of};
 ghost use Rattle.hp_eject.specs.Ejecting.{Fits, IsGoing, IsOfEject, eject_in, goes_on, label_of, outcome_of, step_of};
 
 use crate::rows::Row;
 use crate::standing::Standing;
-use hp_model::{Access, Answer, Label, Outcome, Platform, Refusal, Step, tseg};
+use hp_model::{
+    Access, Answer, Label, Outcome, Platform, Refusal, Step, arrived_byte, map_byte, parked_byte,
+    tseg,
+};
 use std::marker::Model;
 
-/// The map bytes from the first address of TSEG.
-const MAP: u32 = 0x2000;
-/// The parked bytes from the first address of TSEG.
-const PARKED: u32 = 0x3000;
 /// Selects the processor that control and status speak of: 4 bytes, written.
 const SELECTOR: u16 = 0xcd8;
 /// Control where it is written, status where it is read: 1 byte.
@@ -69,17 +68,6 @@ impl Model for Eject {
         record { tseg = e.tseg; polls = e.polls; late = e.late; eject = j; led = led_at e.standing j } };
 
     ghost invariant = { λ e. IsSmall e.tseg e.slot e.standing };
-}
-
-/// Stores one byte.
-fn store_byte(addr: u32, value: u64) -> Access
-    ensures { result ≡ accesses.Store addr 1 value }
-{
-    Access::Store {
-        addr,
-        width: 1,
-        value,
-    }
 }
 
 impl Eject {
@@ -161,23 +149,23 @@ impl Eject {
 
     /// The arrived byte of its slot.
     fn arrived(&self) -> u32
-        ensures { result ≡ self.now.tseg + self.now.eject.slot }
+        ensures { result ≡ arrived_byte_of (layout_at self.now.tseg) self.now.eject.slot }
     {
-        self.tseg + self.slot
+        arrived_byte(self.tseg, self.slot)
     }
 
     /// The map byte of its slot.
     fn map(&self) -> u32
-        ensures { result ≡ self.now.tseg + 0x2000 + self.now.eject.slot }
+        ensures { result ≡ map_byte_of (layout_at self.now.tseg) self.now.eject.slot }
     {
-        self.tseg + MAP + self.slot
+        map_byte(self.tseg, self.slot)
     }
 
     /// The parked byte of its slot.
     fn parked(&self) -> u32
-        ensures { result ≡ self.now.tseg + 0x3000 + self.now.eject.slot }
+        ensures { result ≡ parked_byte_of (layout_at self.now.tseg) self.now.eject.slot }
     {
-        self.tseg + PARKED + self.slot
+        parked_byte(self.tseg, self.slot)
     }
 
     /// What it wants where it stands, while it goes on.
@@ -187,13 +175,10 @@ impl Eject {
             self.now.led ≡ EjectsAt l r.eject → want_at y x r l ≡ Some (wants.Do result) }
     {
         match self.row() {
-            Row::E0 | Row::E4e => store_byte(self.parked(), 0),
-            Row::E1 => store_byte(self.map(), 1),
-            Row::E2 => Access::Load {
-                addr: self.parked(),
-                width: 1,
-            },
-            Row::E3 | Row::E4d | Row::E4h => store_byte(self.map(), 0),
+            Row::E0 | Row::E4e => Access::store_byte(self.parked(), 0),
+            Row::E1 => Access::store_byte(self.map(), 1),
+            Row::E2 => Access::load_byte(self.parked()),
+            Row::E3 | Row::E4d | Row::E4h => Access::store_byte(self.map(), 0),
             Row::E4a | Row::E4f => Access::Out {
                 port: SELECTOR,
                 width: 4,
@@ -204,7 +189,7 @@ impl Eject {
                 width: 1,
                 value: EJECT,
             },
-            Row::E4c => store_byte(self.arrived(), 0),
+            Row::E4c => Access::store_byte(self.arrived(), 0),
             Row::E4g => Access::In {
                 port: CONTROL,
                 width: 1,

@@ -12,7 +12,7 @@ use Rattle.hp_model.proofs.Bytes.{length-bytes_of}
 use Rattle.hp_sealed.specs.Left.{Sound}
 use Rattle.hp_sealed.specs.Booting.{memory_after, more_if}
 use Rattle.hp_sealed.proofs.Left.{left_more}
-use Rattle.hp_sealed.proofs.Labels.{index_small}
+use Rattle.hp_model.proofs.Marks.{index_small}
 use Rattle.hp_sealed.proofs.Starts.{sound}
 use Rattle.hp_exact.proofs.Releasing.{from_1000, to_2000}
 

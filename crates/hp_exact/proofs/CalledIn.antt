@@ -20,7 +20,7 @@ use Rattle.hp_exact.proofs.Latching.{must_leave}
 use Rattle.hp_exact.proofs.Waking.{waking, waking_called}
 use Rattle.hp_exact.proofs.Invariant.{is_calling, must_latch, Reported, Invariant}
 use Rattle.hp_exact.proofs.InSmm.{none_outside, outside_in, running_outside}
-use Rattle.hp_sealed.proofs.Labels.{same_label as marked_label}
+use Rattle.hp_model.proofs.Marks.{same_label as marked_label}
 
 one_label : (l m : Label) → same_label l m ≡ true → l ≡ m
 one_label l m e = marked_label l m (eqb-true (mark_of l) (mark_of m) e)

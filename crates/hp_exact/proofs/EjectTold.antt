@@ -23,7 +23,7 @@ use Rattle.hp_model.specs.Sessions.{is_disturbed}
 use Rattle.hp_model.specs.Outcomes.{own_of, telling}
 use Rattle.hp_model.proofs.AtEach.{made}
 use Rattle.hp_sealed.specs.Left.{Sound}
-use Rattle.hp_sealed.proofs.Labels.{same_label as one_label}
+use Rattle.hp_model.proofs.Marks.{same_label as one_label}
 use Rattle.hp_safety.proofs.Needs.{Nothing, Ejecting, need_of, MonarchNeeds, Needs}
 use Rattle.hp_safety.proofs.Invariant.{Stands, AtCell, facts_of}
 use Rattle.hp_safety.proofs.Runs.{IsHanded}

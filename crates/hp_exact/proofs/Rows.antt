@@ -31,7 +31,7 @@ use Rattle.hp_model.specs.Transitions.{Transition, newest}
 use Rattle.hp_model.specs.Account.{is_at}
 use Rattle.hp_sealed.specs.Left.{Sound}
 use Rattle.hp_sealed.proofs.Stay.{stays_sent}
-use Rattle.hp_sealed.proofs.Labels.{same_label as one_label}
+use Rattle.hp_model.proofs.Marks.{same_label as one_label}
 use Rattle.hp_exact.proofs.Stepping.{AtMonarch}
 use Rattle.hp_exact.proofs.Monarchs.{is_among, ejecting}
 use Rattle.hp_exact.proofs.Stages.{adding_alone}

@@ -27,7 +27,7 @@ use Rattle.hp_model.specs.Firmware.{seat, row_at, is_that_access, is_that_outcom
 use Rattle.hp_model.specs.Step.{After, is_enabled, insert, request_removal, enter_smm, leave_smm, answer_of, effect_of, is_after_broadcast, is_disturbed_by, after}
 use Rattle.hp_model.specs.Runs.{address_of, run_on}
 use Rattle.hp_sealed.specs.Sealed.{is_other_tile}
-use Rattle.hp_sealed.proofs.Labels.{same_label as one_label}
+use Rattle.hp_model.proofs.Marks.{same_label as one_label}
 use Rattle.hp_sealed.proofs.Runs.{made}
 use Rattle.hp_sealed.proofs.Goes.{stepped}
 use Rattle.hp_model.proofs.Same.{same_access-equal}

@@ -1,19 +1,12 @@
 -- The numbers of hp_model are those that byteorder and std read and write.
 use Rattle.std.proofs.Common.{◌≡◌, ℕ, zero, suc, ◌/◌, ◌%◌, ◌^◌, ◌<◌, List, [], ◌∷◌, length, refl, sym, ap, ◌∙◌, arith}
-use Rattle.std.proofs.Math.Nat.{div-div-eq-div-mul, div-one, pow-suc}
-use Rattle.std.specs.Int.{byte_at, bytes_low_first, swap_bytes, w32}
+use Rattle.std.proofs.Math.Nat.{div-div-eq-div-mul}
+use Rattle.std.specs.Int.{bytes_low_first, swap_bytes, w32}
 use Rattle.byteorder.specs.Endian as kit
 use Rattle.byteorder.specs.Numbers.{big_from-cons, little_from-cons}
+use Rattle.hp_model.proofs.Bytes.{byte_at-pow, low_first}
 use Rattle.hp_model.specs.FwCfg.{big_bytes, big_value, little_value, swapped_bytes}
 use Rattle.hp_model.specs.Memory.{bytes_of}
-
--- a byte by its place, and what is left above it
-byte_at-pow : (k x : ℕ) → byte_at k x ≡ x / 256 ^ k % 256
-byte_at-pow zero x = ap (λ (y : ℕ). y % 256) (sym (div-one x))
-byte_at-pow (suc k) x = refl
-
-above : (i x : ℕ) → x / 256 ^ suc i ≡ x / 256 ^ i / 256
-above i x = ap (λ (p : ℕ). x / p) (pow-suc 256 i) ∙ sym (div-div-eq-div-mul x (256 ^ i) 256)
 
 -- the bytes that are written
 pub big_bytes_are : (n x : ℕ) → big_bytes n x ≡ kit.big_bytes n x
@@ -21,13 +14,8 @@ unfolding big_bytes
 big_bytes_are zero x = refl
 big_bytes_are (suc n) x = rw (byte_at-pow n x, big_bytes_are n x) refl
 
-bytes_from : (i n x : ℕ) → bytes_low_first i n x ≡ bytes_of n (x / 256 ^ i)
-unfolding bytes_of
-bytes_from i zero x = refl
-bytes_from i (suc n) x = rw (byte_at-pow i x, bytes_from (suc i) n x, above i x) refl
-
 pub little_bytes_are : (n x : ℕ) → bytes_of n x ≡ bytes_low_first 0 n x
-little_bytes_are n x = sym (bytes_from 0 n x ∙ ap (bytes_of n) (div-one x))
+little_bytes_are n x = sym (low_first n x)
 
 -- the numbers that are read
 pub big_value_from : (xs : List ℕ) → big_value xs ≡ kit.big_from 0 (length xs) xs

@@ -8,7 +8,7 @@ use Rattle.hp_model.specs.Labels.{Part, First, Relocated, Monarch, cell_of, firs
 use Rattle.hp_model.specs.Platform.{IsFit, count_of, tile, tseg}
 use Rattle.hp_model.specs.SaveArea.{revision_field}
 use Rattle.hp_image.specs.Handlers.{smbase_in}
-use Rattle.hp_image.proofs.Found.{index_below, same_place}
+use Rattle.hp_model.proofs.Marks.{index_small, same_place}
 
 -- a handler's first cell is where SMI entry leads
 pub enters : (p : Platform) (h : Part) (slot : ℕ) → first_cell p h slot ≡ smbase_in p h slot + 0x8000
@@ -19,7 +19,7 @@ enters p Monarch slot = refl
 pub in_tile : (p : Platform) (l : Label) (slot : ℕ) →
     (smbase_in p (part_of l) slot + 0x8000 ≤ cell_of p l slot)
     × (cell_of p l slot + 4 ≤ smbase_in p (part_of l) slot + revision_field)
-in_tile p l slot = grind (arith, enters p (part_of l) slot, index_below l)
+in_tile p l slot = grind (arith, enters p (part_of l) slot, index_small l)
 
 same_first : (p : Platform) (l m : Label) (slot : ℕ) → part_of l ≡ part_of m →
     first_cell p (part_of l) slot ≡ first_cell p (part_of m) slot

@@ -26,7 +26,7 @@ pub fn cells_store_in_order()
 {}
 
 /// A label is found by its mark and by no other, so different labels have different marks.
-#[tactic(auto, using(crate::proofs::Found::by_mark))]
+#[tactic(auto, using(hp_model::proofs::Marks::by_mark))]
 pub fn each_mark_names_its_label()
     ensures found { (l : Label) → label_with (mark_of l) ≡ Some l }
     ensures alone { (n : ℕ) (l : Label) → label_with n ≡ Some l → mark_of l ≡ n }

@@ -1,35 +1,10 @@
 //! What a processor may do, by its presence, mode and latches.
 
-ghost use Rattle.std.specs.Prelude.{◌≡◌, ◌^◌, true, nat_lt};
+ghost use Rattle.std.specs.Prelude.{◌≡◌};
 ghost use Rattle.hp_model.specs.Cpu.{is_unlatched as unlatched, is_free as free, is_running, is_in_smm, is_outside, may_take_smi, may_take_init};
-ghost use Rattle.hp_model.specs.Access.{is_memory_width as memory_width, is_port_width as port_width, is_normal as normal, is_halt as halt, stands_in_smm, may_access};
+ghost use Rattle.hp_model.specs.Access.{is_normal as normal, is_halt as halt, stands_in_smm, may_access};
 
-use hp_model::{Access, Cpu, Mode};
-
-fn is_memory_width(width: u8) -> bool
-    ensures { result ≡ memory_width width }
-{
-    width == 1 || width == 2 || width == 4 || width == 8
-}
-
-fn is_port_width(width: u8) -> bool
-    ensures { result ≡ port_width width }
-{
-    width == 1 || width == 2 || width == 4
-}
-
-/// Whether so many bytes hold the value.
-fn holds(width: u8, value: u64) -> bool
-    requires { memory_width width ≡ true }
-    ensures { result ≡ nat_lt value (256 ^ width) }
-{
-    match width {
-        1 => value < 0x100,
-        2 => value < 0x1_0000,
-        4 => value < 0x1_0000_0000,
-        _ => true,
-    }
-}
+use hp_model::{Access, Cpu, Mode, holds, is_memory_width, is_port_width};
 
 /// Whether the access has a width that there is, and no value that its width can't hold.
 pub fn is_normal(access: Access) -> bool

@@ -1,13 +1,11 @@
 -- Values in a slice of bytes, as byteorder reads and writes them.
 use Rattle.std.proofs.Common.{◌≡◌, ℕ, zero, suc, ◌+◌, ◌-◌, ◌/◌, ◌%◌, ◌^◌, ◌<◌, ◌≤◌, List, [], ◌++◌, length, take, drop, slice_index, slice_set, length-drop, refl, sym, ap, ◌∙◌, add-one, arith}
-use Rattle.std.proofs.Math.Nat.{div-div-eq-div-mul, div-one, pow-suc}
 use Rattle.std.proofs.lemmas.Bool.Decides.{nat_tests}
 use Rattle.std.proofs.lemmas.List.{get_or-append_right, get_or-drop, get_or-set_other, get_or-set_same, get_or-take, get_or_append_left, length-take-le, drop-drop, drop_all, take_rest, append-nil}
 use borrow.Rule.Slice.PartMut.{put_mid}
-use Rattle.std.specs.Int.{byte_at, bytes_low_first}
 use Rattle.byteorder.specs.Endian.{little_from, little_number, little_bytes}
 use Rattle.byteorder.specs.Numbers.{little_from-take}
-use Rattle.hp_model.proofs.Bytes.{length-bytes_of}
+use Rattle.hp_model.proofs.Bytes.{length-bytes_of, low_first}
 use Rattle.hp_model.specs.Memory.{byte_over, bytes_of, value_from, write_of}
 
 -- the numbers that are read
@@ -44,20 +42,8 @@ read_8 at xs h = number_read at 8 (length xs - at) xs (omega arith)
 pub ruleset word_facts = (read_1, read_2, read_4, read_8)
 
 -- the bytes that are written
-byte_at-pow : (k x : ℕ) → byte_at k x ≡ x / 256 ^ k % 256
-byte_at-pow zero x = ap (λ (y : ℕ). y % 256) (sym (div-one x))
-byte_at-pow (suc k) x = refl
-
-next_byte : (i x : ℕ) → x / 256 ^ suc i ≡ x / 256 ^ i / 256
-next_byte i x = ap (λ (p : ℕ). x / p) (pow-suc 256 i) ∙ sym (div-div-eq-div-mul x (256 ^ i) 256)
-
-bytes_from : (i n x : ℕ) → bytes_low_first i n x ≡ bytes_of n (x / 256 ^ i)
-unfolding bytes_of
-bytes_from i zero x = refl
-bytes_from i (suc n) x = rw (byte_at-pow i x, bytes_from (suc i) n x, next_byte i x) refl
-
 pub little_bytes_are : (n x : ℕ) → little_bytes n x ≡ bytes_of n x
-little_bytes_are n x = bytes_from 0 n x ∙ ap (bytes_of n) (div-one x)
+little_bytes_are n x = low_first n x
 
 -- bytes in place of others
 before : (xs bs ys : List ℕ) (at k : ℕ) → at ≤ length xs → k < at → slice_index (take at xs ++ (bs ++ ys)) k ≡ slice_index xs k

@@ -2,7 +2,7 @@
 use Rattle.std.proofs.Common.{◌≡◌, ◌≤◌, ◌<◌, ◌+◌, ◌==◌, ℕ, zero, suc, Bool, true, false, cond, not, ◌&&◌, ◌||◌, nat_lt, List, [], ◌∷◌, length, get_or, refl, ap, arith, if◌then◌else◌}
 use Rattle.std.specs.Prelude.{slice_index_or}
 use Rattle.std.specs.List.{list_all, list_any}
-use Rattle.std.proofs.lemmas.Bool.{and_parts}
+use Rattle.std.proofs.lemmas.Bool.{and_parts, or_parts}
 use Rattle.std.proofs.lemmas.Bool.Decides.{nat_tests}
 use Rattle.std.proofs.lemmas.Grind.{common_steps}
 use Rattle.hp_model.specs.Platform.{all_distinct, ascends_from, ascends_from_zero}
@@ -36,13 +36,9 @@ others_in : (b : ℕ) (bs ys : List ℕ) → list_any (λ y. y == b) bs ≡ fals
 others_in b [] ys n e = refl
 others_in b (z ∷ zs) ys n e =
     let parts = and_parts (is_in z ys) (list_all (λ y. is_in y ys) zs) e in
-    let other = neither (z == b) (list_any (λ y. y == b) zs) n in
+    let other = or_parts (z == b) (list_any (λ y. y == b) zs) n in
     let here = in_without b z ys other.0 parts.0 in
     rw here (others_in b zs ys other.1 parts.1)
-  where
-    neither : (a b : Bool) → (a || b) ≡ false → (a ≡ false) × (b ≡ false)
-    neither true b e = absurd cc
-    neither false b e = (refl, e)
 
 -- distinct numbers among others are no more than those
 pub pigeons : (bs ys : List ℕ) → all_distinct bs ≡ true → list_all (λ b. is_in b ys) bs ≡ true → length bs ≤ length ys

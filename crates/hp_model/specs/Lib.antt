@@ -3,6 +3,7 @@ pub mod Labels
 pub mod Memory
 pub mod View
 pub mod Cpu
+pub mod Bare
 pub mod Block
 pub mod Interrupts
 pub mod SaveArea

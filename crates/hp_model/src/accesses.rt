@@ -1,6 +1,7 @@
 //! What a processor asks of the machine, and what it is answered.
 
 ghost use Rattle.std.specs.Prelude.{◌≡◌};
+ghost use Rattle.hp_model.specs.declared.accesses.Access.TheVariants.{Load, Store};
 ghost use Rattle.hp_model.specs.Boot.{value_in};
 
 use crate::outcomes::Outcome;
@@ -58,6 +59,26 @@ pub enum Access {
     Halt,
     /// Does nothing.
     Nop,
+}
+
+impl Access {
+    /// A load of one byte.
+    pub fn load_byte(addr: u32) -> Access
+        ensures { result ≡ Load addr 1 }
+    {
+        Access::Load { addr, width: 1 }
+    }
+
+    /// A store of one byte.
+    pub fn store_byte(addr: u32, value: u8) -> Access
+        ensures { result ≡ Store addr 1 value }
+    {
+        Access::Store {
+            addr,
+            width: 1,
+            value: u64::from(value),
+        }
+    }
 }
 
 /// What an access is answered: a value for `Load`, `Swap` (the old content), `In` and `CfgRead`, nothing for others.

@@ -5,6 +5,7 @@ ghost use Rattle.hp_model.specs.Platform.{IsFit, tseg as first_of_tseg, tile as 
 ghost use Rattle.hp_model.specs.Block.{is_in};
 
 use crate::platforms::Platform;
+use crate::shared_bytes::tile_at;
 
 /// The first address of TSEG: the last 1, 2, 8 or 48 MiB below `low_memory`.
 pub fn tseg(p: &Platform) -> u32
@@ -21,7 +22,7 @@ pub fn tile(p: &Platform, slot: u32) -> u32
     requires slot { slot < length p.now.apic }
     ensures { result ≡ first_of_tile p.now slot }
 {
-    tseg(p) + 0x20000 + slot * 0x10000
+    tile_at(tseg(p), slot)
 }
 
 /// The high half of an interrupt command to this APIC ID, which is a possible one.

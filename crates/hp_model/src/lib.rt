@@ -13,8 +13,10 @@ mod outcomes;
 mod platforms;
 mod processors;
 mod rules;
+mod shared_bytes;
 mod spans;
 mod turns;
+mod widths;
 
 pub use accesses::{Access, Answer, Steps, Want};
 pub use entries::{Actor, Entry, Event};
@@ -28,5 +30,10 @@ pub use outcomes::{BootFact, Outcome, Refusal, Step};
 pub use platforms::{Delivery, Ids, Platform};
 pub use processors::{Cpu, Ipi, Kind, Mode, Target};
 pub use rules::{Rule, fits};
+pub use shared_bytes::{
+    CLOSED, DEFAULT_SMBASE_FIELD, FLAG, GATE, NEW_SMBASE, arrived_byte, map_byte, parked_byte,
+    release_byte, session_byte, tile_at,
+};
 pub use spans::Span;
 pub use turns::Due;
+pub use widths::{holds, is_memory_width, is_port_width};

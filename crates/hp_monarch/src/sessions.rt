@@ -3,7 +3,7 @@
 ghost use Rattle.std.specs.Prelude.{◌≡◌, ◌≢◌, ◌↔◌, ◌<◌, ◌≤◌, ◌+◌, ◌^◌, ◌∷◌, ◌++◌, [], Some, IfOk, length, nat_lt, replicate, slice_set, vec_capacity, if◌then◌else◌};
 ghost use Rattle.hp_model.specs.declared.labels.Label.TheVariants as labels;
 ghost use Rattle.hp_model.specs.Boot.{value_in};
-ghost use Rattle.hp_model.specs.Handlers.{Seat, next_at, store_byte as store_of, want_at};
+ghost use Rattle.hp_model.specs.Handlers.{Seat, next_at, want_at};
 ghost use Rattle.hp_model.specs.Fitting.{FitsWant};
 ghost use Rattle.hp_model.specs.Monarch.{Adds, Ejects, adds, answered, class as class_at, commanded, ejects, facts_of, first_slot, look_at, looked, monarch_start, next_report, next_slot, noted, restarted, told, with_features};
 ghost use Rattle.hp_model.specs.Platform.{IsFit, is_late};
@@ -17,15 +17,14 @@ use crate::classes::{Class, UNREAD, gather, judge, place};
 use crate::rows::{Place, Row};
 use hp_collect::{Collect, Reported, Stage};
 use hp_eject::Eject;
-use hp_model::{Access, Answer, Label, NoMemory, Outcome, Platform, Refusal, Want, tseg};
+use hp_model::{
+    Access, Answer, Label, NoMemory, Outcome, Platform, Refusal, Want, arrived_byte, release_byte,
+    session_byte, tseg,
+};
 use hp_reloc::{Reloc, Slots};
 use std::alloc::Global;
 use std::marker::Model;
 
-/// The release bytes from the first address of TSEG.
-const RELEASE: u32 = 0x1000;
-/// The session byte from the first address of TSEG.
-const SESSION: u32 = 0x4000;
 /// The port of the SMI command (ICH9).
 const APM_CNT: u16 = 0xb2;
 /// The SMI command that announces processors (own rule, after EDK II).
@@ -104,17 +103,6 @@ impl Model for Monarch {
     } };
 
     ghost invariant = { λ m. IsSound m.tseg m.count m.looks m.x2apic m.late m.slot m.place m.slots m.last.items (vec_capacity m.last) m.collect m.add m.eject };
-}
-
-/// A store of one byte.
-fn store_byte(addr: u32, value: u64) -> Want
-    ensures { store_of addr value ≡ Some result }
-{
-    Want::Do(Access::Store {
-        addr,
-        width: 1,
-        value,
-    })
 }
 
 impl Monarch {
@@ -224,26 +212,24 @@ impl Monarch {
     fn want_in(&self, row: Row) -> Want
         ensures { (x : Seat) → want_at self.now.layout x self.now.monarch (label_of row) ≡ Some result }
     {
-        match row {
-            Row::S0 => store_byte(self.tseg + SESSION, 1),
-            Row::S1 => store_byte(self.tseg + RELEASE + self.slot, 0),
-            Row::S2 => Want::Do(Access::Icr {
+        let access = match row {
+            Row::S0 => Access::store_byte(session_byte(self.tseg), 1),
+            Row::S1 => Access::store_byte(release_byte(self.tseg, self.slot), 0),
+            Row::S2 => Access::Icr {
                 high: 0,
                 low: SMI_TO_OTHERS,
-            }),
-            Row::S3 => Want::Do(Access::Load {
-                addr: self.tseg + self.slot,
-                width: 1,
-            }),
-            Row::S4 => Want::Do(Access::In {
+            },
+            Row::S3 => Access::load_byte(arrived_byte(self.tseg, self.slot)),
+            Row::S4 => Access::In {
                 port: APM_CNT,
                 width: 1,
-            }),
-            Row::T => Want::Tell(self.outcome),
-            Row::E5 => store_byte(self.tseg + SESSION, 0),
-            Row::E6 => store_byte(self.tseg + RELEASE + self.slot, 1),
-            Row::E7 => Want::Resume,
-        }
+            },
+            Row::T => return Want::Tell(self.outcome),
+            Row::E5 => Access::store_byte(session_byte(self.tseg), 0),
+            Row::E6 => Access::store_byte(release_byte(self.tseg, self.slot), 1),
+            Row::E7 => return Want::Resume,
+        };
+        Want::Do(access)
     }
 
     /// From slot 1 on, if one is bound, at `each`, else at `past`.

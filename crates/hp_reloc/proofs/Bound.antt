@@ -1,5 +1,5 @@
 -- No more distinct APIC IDs are bound than are possible; those of the boot processors are such.
-use Rattle.std.proofs.Common.{ℕ, zero, suc, ◌≡◌, ◌≤◌, ◌<◌, ◌==◌, Bool, true, false, ◌&&◌, List, [], ◌∷◌, length, get_or, map, nat_lt, replicate, refl, sym, ap, ◌∙◌, arith}
+use Rattle.std.proofs.Common.{ℕ, zero, suc, ◌≡◌, ◌≤◌, ◌<◌, ◌==◌, Bool, true, false, List, [], ◌∷◌, length, get_or, map, nat_lt, replicate, refl, sym, ap, ◌∙◌, arith}
 use Rattle.std.specs.List.{list_all, list_any}
 use Rattle.std.proofs.lemmas.Bool.Decides.{nat_tests}
 use Rattle.std.proofs.lemmas.Grind.{common_steps}
@@ -7,14 +7,11 @@ use Rattle.hp_model.specs.declared.platforms.Platform.{Platform}
 use Rattle.hp_model.specs.Block.{is_in}
 use Rattle.hp_model.specs.Platform.{IsFit, all_distinct, ascends_from, ascends_from_zero, no_id}
 use Rattle.hp_model.specs.Slots.{boot_ids}
+use Rattle.hp_model.proofs.Counts.{in_at}
 use Rattle.hp_model.proofs.FitPlatforms.{apic_few, boot_few, possible_small as id_small}
 use Rattle.hp_reloc.specs.Relocating.{greatest}
 use Rattle.hp_reloc.specs.Roster.{IsSound}
 use Rattle.std.proofs.lemmas.List.{length-map, length-replicate}
-
-both : (a b : Bool) → (a && b) ≡ true → (a ≡ true) × (b ≡ true)
-both true b e = (refl, e)
-both false b e = absurd cc
 
 any_false : (x : ℕ) (xs : List ℕ) (k : ℕ) → list_any (λ y. y == x) xs ≡ false → k < length xs → (get_or xs k no_id == x) ≡ false
 any_false x [] k e h = absurd (omega (arith, h))
@@ -58,17 +55,12 @@ distinct_all xs (k ∷ ks) d up below =
     let after : list_all (λ k. nat_lt k (length xs)) ks ≡ true = grind (arith, nat_tests, common_steps) in
     rw (none_ahead xs k k ks d (omega arith) onward after) (distinct_ahead xs k ks d onward after)
 
-in_at : (xs : List ℕ) (k : ℕ) → k < length xs → is_in (get_or xs k no_id) xs ≡ true
-in_at [] k h = absurd (omega (arith, h))
-in_at (x ∷ xs) zero h = grind (arith, nat_tests, common_steps)
-in_at (x ∷ xs) (suc k) h = grind (arith, nat_tests, common_steps, in_at xs k)
-
 in_all : (xs : List ℕ) (ks : List ℕ) → list_all (λ k. nat_lt k (length xs)) ks ≡ true → list_all (λ a. is_in a xs) (map (λ k. get_or xs k no_id) ks) ≡ true
 in_all xs [] below = refl
 in_all xs (k ∷ ks) below =
     let inside : k < length xs = grind (arith, nat_tests, common_steps) in
     let after : list_all (λ k. nat_lt k (length xs)) ks ≡ true = grind (arith, nat_tests, common_steps) in
-    rw (in_at xs k inside) (in_all xs ks after)
+    rw (in_at xs k no_id inside) (in_all xs ks after)
 
 -- possible APIC IDs are at most the greatest
 pub possible_small : (p : Platform) (a : ℕ) → IsFit p → is_in a p.apic ≡ true → a ≤ greatest p.x2apic

@@ -12,18 +12,10 @@ ghost use Rattle.hp_model.specs.SharedBytes.{Layout};
 ghost use Rattle.hp_reloc.specs.Fits.{FitsFirst};
 ghost use Rattle.hp_reloc.specs.Relocating.{greatest};
 
-use hp_model::{Access, Answer, Label, Platform, Want};
+use hp_model::{
+    Access, Answer, CLOSED, DEFAULT_SMBASE_FIELD, FLAG, GATE, Label, NEW_SMBASE, Platform, Want,
+};
 
-/// The APIC ID that may pass, or `CLOSED`: 8 bytes.
-pub const GATE: u32 = 0x30000;
-
-pub const CLOSED: u64 = 0xffffffffffffffff;
-/// The SMBASE for whoever passes: 4 bytes.
-pub const NEW_SMBASE: u32 = 0x30008;
-/// 1 once whoever passed has stored its new SMBASE: 1 byte.
-pub const FLAG: u32 = 0x3000c;
-/// Where SMI entry at the default SMBASE saves SMBASE: 4 bytes.
-const SMBASE_FIELD: u32 = 0x3ff00;
 /// The low half of an interrupt command that is an SMI to one APIC ID.
 pub const SMI: u32 = 0x200;
 
@@ -65,15 +57,11 @@ pub fn first_want_by(x2apic: bool, label: Label, apic: u32, base: u32) -> Want
             width: 4,
         },
         Label::F3 => Access::Store {
-            addr: SMBASE_FIELD,
+            addr: DEFAULT_SMBASE_FIELD,
             width: 4,
             value: u64::from(base),
         },
-        Label::F4 => Access::Store {
-            addr: FLAG,
-            width: 1,
-            value: 1,
-        },
+        Label::F4 => Access::store_byte(FLAG, 1),
         Label::F5 => Access::Icr {
             high: destination(x2apic, apic),
             low: SMI,

@@ -8,25 +8,23 @@ ghost use Rattle.hp_model.specs.declared.accesses.Want.TheVariants as wants;
 ghost use Rattle.hp_model.specs.declared.outcomes.Step.TheVariants as steps;
 ghost use Rattle.hp_model.specs.declared.outcomes.Outcome.TheVariants as outcomes;
 ghost use Rattle.hp_model.specs.Add.{AddsAt, add_of, begun, failed, looks, saw_arrival, saw_flag, saw_pair, shut};
+ghost use Rattle.hp_model.specs.Bare.{layout_at};
 ghost use Rattle.hp_model.specs.Boot.{value_in};
 ghost use Rattle.hp_model.specs.Handlers.{Seat, next_at, want_at};
 ghost use Rattle.hp_model.specs.Monarch.{Monarch, led};
 ghost use Rattle.hp_model.specs.Platform.{IsFit, high_half, tseg as first_of_tseg};
-ghost use Rattle.hp_model.specs.SharedBytes.{Layout, gate};
+ghost use Rattle.hp_model.specs.SharedBytes.{Layout, arrived_byte as arrived_byte_of, gate, release_byte as release_byte_of, tile_in};
 ghost use Rattle.hp_reloc.specs.Relocating.{Fits, IsGoing, IsOfAdd, add_in, goes_on, greatest, label_of, outcome_of, step_of};
 
-use crate::first::{CLOSED, FLAG, GATE, NEW_SMBASE, SMI, destination};
+use crate::first::{SMI, destination};
 use crate::rows::Row;
 use crate::standing::Standing;
-use hp_model::{Access, Answer, Label, Outcome, Platform, Refusal, Step, tseg};
+use hp_model::{
+    Access, Answer, CLOSED, FLAG, GATE, Label, NEW_SMBASE, Outcome, Platform, Refusal, Step,
+    arrived_byte, release_byte, tile_at, tseg,
+};
 use std::marker::Model;
 
-/// The release bytes from the first address of TSEG.
-const RELEASE: u32 = 0x1000;
-/// The tiles from the first address of TSEG.
-const TILES: u32 = 0x20000;
-/// The size of a tile.
-const TILE: u32 = 0x10000;
 /// The low half of an interrupt command that is an INIT to one APIC ID.
 const INIT: u32 = 0x500;
 /// The low half of a SIPI to one APIC ID, which names the page of the pen, 9f.
@@ -71,24 +69,6 @@ impl Model for Reloc {
         record { tseg = r.tseg; polls = r.polls; x2apic = r.x2apic; add = a; led = led_at r.standing a } };
 
     ghost invariant = { λ r. IsSmall r.tseg r.x2apic r.apic r.slot r.attempt r.standing };
-}
-
-/// Stores one byte.
-fn store_byte(addr: u32, value: u64) -> Access
-    ensures { result ≡ accesses.Store addr 1 value }
-{
-    Access::Store {
-        addr,
-        width: 1,
-        value,
-    }
-}
-
-/// Loads one byte.
-fn load_byte(addr: u32) -> Access
-    ensures { result ≡ accesses.Load addr 1 }
-{
-    Access::Load { addr, width: 1 }
 }
 
 /// Opens the gate for an APIC ID, or closes it.
@@ -185,23 +165,23 @@ impl Reloc {
 
     /// The arrived byte of its slot.
     fn arrived(&self) -> u32
-        ensures { result ≡ self.now.tseg + self.now.add.slot }
+        ensures { result ≡ arrived_byte_of (layout_at self.now.tseg) self.now.add.slot }
     {
-        self.tseg + self.slot
+        arrived_byte(self.tseg, self.slot)
     }
 
     /// The release byte of its slot.
     fn release(&self) -> u32
-        ensures { result ≡ self.now.tseg + 0x1000 + self.now.add.slot }
+        ensures { result ≡ release_byte_of (layout_at self.now.tseg) self.now.add.slot }
     {
-        self.tseg + RELEASE + self.slot
+        release_byte(self.tseg, self.slot)
     }
 
     /// The first address of the tile of its slot.
     fn tile(&self) -> u32
-        ensures { result ≡ self.now.tseg + 0x20000 + self.now.add.slot * 0x10000 }
+        ensures { result ≡ tile_in (layout_at self.now.tseg) self.now.add.slot }
     {
-        self.tseg + TILES + self.slot * TILE
+        tile_at(self.tseg, self.slot)
     }
 
     /// An interrupt command to its APIC ID.
@@ -221,9 +201,9 @@ impl Reloc {
             self.now.led ≡ AddsAt l r.add → want_at y x r l ≡ Some (wants.Do result) }
     {
         match self.row() {
-            Row::NB => store_byte(self.release(), 0),
-            Row::N0 | Row::N10 => store_byte(self.arrived(), 0),
-            Row::N1 => store_byte(FLAG, 0),
+            Row::NB => Access::store_byte(self.release(), 0),
+            Row::N0 | Row::N10 => Access::store_byte(self.arrived(), 0),
+            Row::N1 => Access::store_byte(FLAG, 0),
             Row::N2 => Access::Store {
                 addr: NEW_SMBASE,
                 width: 4,
@@ -233,8 +213,8 @@ impl Reloc {
             Row::N4 => self.send(INIT),
             Row::N5 | Row::N6 => self.send(SIPI),
             Row::N7 => store_gate(u64::from(self.apic)),
-            Row::N8a => load_byte(FLAG),
-            Row::N8b | Row::N11 => load_byte(self.arrived()),
+            Row::N8a => Access::load_byte(FLAG),
+            Row::N8b | Row::N11 => Access::load_byte(self.arrived()),
             Row::N9 => store_gate(CLOSED),
         }
     }

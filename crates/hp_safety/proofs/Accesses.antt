@@ -3,6 +3,7 @@ use Rattle.std.proofs.Common.{ℕ, ◌≡◌, ◌≢◌, ◌+◌, ◌-◌, ◌*�
 use Rattle.std.proofs.lemmas.Bool.{and_parts, eqb-true, ltb-true}
 use Rattle.std.proofs.lemmas.Bool.Decides.{nat_tests}
 use Rattle.std.proofs.lemmas.Option.{same_Some}
+use Rattle.hp_model.proofs.Cases.{or_cases}
 use Rattle.hp_model.specs.declared.platforms.Platform.{Platform}
 use Rattle.hp_model.specs.declared.processors.Cpu.{Cpu}
 use Rattle.hp_model.specs.declared.processors.Mode.{Mode}
@@ -47,18 +48,14 @@ use Rattle.hp_safety.proofs.Keeps.{gathered, smm_present, seated, seated_left, s
 
 -- watched bytes are locked
 watched_locked : (p : Platform) (l : Locks) (x : ℕ) → Sound p → Locked p l → is_watched p x ≡ true → is_locked l x ≡ true
-watched_locked p l x sound locks g = elim (split (first_by (tseg p) p.low_memory x) (nat_le (tseg p) x && nat_lt x (tseg p + 0x201)) g) [
-  | inl f ↦ elim (split (is_guarded p x) ((nat_le 0x30000 x && nat_lt x 0x3000c) || (nat_le 0x3ff00 x && nat_lt x 0x3ff04)) f) [
+watched_locked p l x sound locks g = elim (or_cases (first_by (tseg p) p.low_memory x) (nat_le (tseg p) x && nat_lt x (tseg p + 0x201)) g) [
+  | inl f ↦ elim (or_cases (is_guarded p x) ((nat_le 0x30000 x && nat_lt x 0x3000c) || (nat_le 0x3ff00 x && nat_lt x 0x3ff04)) f) [
     | inl e ↦ guarded_locked p l x sound locks e
     | inr e ↦ default_locked p l x locks (in_area x e)
   ]
   | inr e ↦ (let top = sound.top in let room = sound.room in tseg_locked p l x sound locks (in_tseg (tseg p) p.low_memory x (omega (arith, top, room)) e))
 ]
   where
-    split : (a b : Bool) → (a || b) ≡ true → (a ≡ true) ⊎ (b ≡ true)
-    split true b e = inl refl
-    split false b e = inr e
-
     in_area : (x : ℕ) → ((nat_le 0x30000 x && nat_lt x 0x3000c) || (nat_le 0x3ff00 x && nat_lt x 0x3ff04)) ≡ true → (nat_le 0x30000 x && nat_lt x 0x50000) ≡ true
     in_area x e = grind (arith, nat_tests)
 

@@ -11,7 +11,7 @@ use Rattle.hp_model.specs.SharedBytes.{layout_of}
 use Rattle.hp_model.specs.Handlers.{runs_at, address_of_label}
 use Rattle.hp_sealed.specs.Left.{Sound}
 use Rattle.hp_sealed.specs.Sealed.{is_other_tile}
-use Rattle.hp_sealed.proofs.Labels.{index_first}
+use Rattle.hp_model.proofs.Marks.{index_first}
 use Rattle.hp_sealed.proofs.Places.{slot_of}
 use Rattle.hp_safety.proofs.Needs.{need_of, is_aloft}
 use Rattle.hp_safety.proofs.Invariant.{is_past}

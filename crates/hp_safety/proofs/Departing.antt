@@ -40,7 +40,7 @@ use Rattle.hp_sealed.proofs.Left.{pick, pick_by}
 use Rattle.hp_sealed.proofs.Stay.{Stays, stays_same, stays_sent, stays_halt, stays_set, stays_raised, at_set}
 use Rattle.hp_sealed.proofs.Outside.{stays_block}
 use Rattle.hp_model.proofs.Same.{same_access-equal}
-use Rattle.hp_sealed.proofs.Labels.{same_label as label_same}
+use Rattle.hp_model.proofs.Marks.{same_label as label_same}
 use Rattle.hp_sealed.proofs.Goes.{stepped, not_in_smm, after_boots, refused_goes}
 use Rattle.hp_sealed.proofs.HandOver.{IsBefore}
 use Rattle.hp_sealed.proofs.Starts.{sound}

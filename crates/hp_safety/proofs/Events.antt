@@ -2,6 +2,7 @@
 use Rattle.std.proofs.Common.{ℕ, ◌≡◌, ◌≢◌, ◌+◌, ◌-◌, ◌*◌, ◌%◌, ◌≤◌, ◌==◌, ◌⊎◌, inl, inr, Bool, true, false, cond, not, ◌&&◌, ◌||◌, nat_lt, List, Option, Some, None, refl, sym, ap, subst, ◌∙◌, arith}
 use Rattle.std.proofs.lemmas.Bool.{and_parts, eqb-true, ltb-true}
 use Rattle.std.proofs.lemmas.Bool.Decides.{nat_tests}
+use Rattle.hp_model.proofs.Cases.{or_cases}
 use Rattle.hp_model.specs.declared.platforms.Platform.{Platform}
 use Rattle.hp_model.specs.declared.processors.Cpu.{Cpu}
 use Rattle.hp_model.specs.declared.processors.Mode.{Mode}
@@ -131,17 +132,13 @@ reads_first p m s k l sound h here is =
     let met : FirstNeeds f Saved = subst (FirstNeeds f) is (subst (λ q. Needs f q (need_of l)) side here.cell.met) in
     let held = that_is r.slots.held (apic_of p k) met.0 in
     subst (λ a. Reads p s k (value_from (byte_at s.writes) (a + smbase_field) 4)) (sym (eqb-true b 0x30000 parts.1))
-    (elim (split (value_from (byte_at s.writes) default_smbase_field 4 == 0x30000) (value_from (byte_at s.writes) default_smbase_field 4 == held_tile p r.slots) met.1) [
+    (elim (or_cases (value_from (byte_at s.writes) default_smbase_field 4 == 0x30000) (value_from (byte_at s.writes) default_smbase_field 4 == held_tile p r.slots) met.1) [
       | inl e ↦ subst (Reads p s k) (sym (eqb-true (value_from (byte_at s.writes) default_smbase_field 4) 0x30000 e)) (record { based = default_based (k == 0) refl parts.0; slotted = inl refl })
       | inr e ↦ (let own : held_tile p r.slots ≡ tile p (place_of r.slots.bound (apic_of p k)) = rw held refl in
           subst (Reads p s k) (sym (eqb-true (value_from (byte_at s.writes) default_smbase_field 4) (held_tile p r.slots) e ∙ own))
           (record { based = tile_based (k == 0) refl parts.0 (tile p (place_of r.slots.bound (apic_of p k))) (slot_tile p (place_of r.slots.bound (apic_of p k)) (h.holding.slot (apic_of p k) held)); slotted = inr (h.holding.in_bound (apic_of p k) held, refl) }))
     ])
   where
-    split : (a b : Bool) → (a || b) ≡ true → (a ≡ true) ⊎ (b ≡ true)
-    split true b e = inl refl
-    split false b e = inr e
-
     default_based : (c : Bool) → (k == 0) ≡ c → not c ≡ true → is_based p k 0x30000 ≡ true
     default_based true z e = absurd cc
     default_based false z e = rw z refl

@@ -27,7 +27,7 @@ use Rattle.hp_sealed.specs.Sealed.{is_based, Recorded, IsAtSlot}
 use Rattle.hp_sealed.proofs.Stay.{Stays}
 use Rattle.hp_sealed.proofs.Outside.{Calm}
 use Rattle.hp_sealed.proofs.Values.{value_left}
-use Rattle.hp_sealed.proofs.Labels.{label_with-mark, same_label, index_small}
+use Rattle.hp_model.proofs.Marks.{found, same_label, index_small}
 use Rattle.hp_sealed.proofs.Places.{Base, base_based, kept_cell, guarded_field, runs_based}
 use Rattle.hp_safety.proofs.Needs.{Need, Ejecting, Nothing, Passing, Loaded, Saved, Adding, Opening, Open, Looking, Telling, need_of, is_aloft, Facts, FirstNeeds, Needs}
 use Rattle.hp_safety.proofs.Invariant.{held_tile, is_ready, may_return, facts_of, AtCell, Stands, Saves, IsLocked, IsGated, Rests, Holding, is_past, Settled, Invariant, SeatedBy, Seated}
@@ -251,7 +251,7 @@ row_here p m s k a l sound h is cell =
     let reach : is_hole s.locks true (b + (0x8000 + 4 * index_of l)) 4 ≡ false = reach_base p s.locks 4 b (0x8000 + 4 * index_of l) h.locked.registers base (omega (arith, small)) in
     let place : b + (0x8000 + 4 * index_of l) ≡ address_of_label b l = omega arith in
     let reached : is_hole s.locks true (address_of_label b l) 4 ≡ false = subst (λ x. is_hole s.locks true x 4 ≡ false) place reach in
-    rw (is, cell.here, reached, value, label_with-mark l, cell.runs, cell.due) refl
+    rw (is, cell.here, reached, value, found l, cell.runs, cell.due) refl
 
 pub no_row : (p : Platform) (s : State) (k : ℕ) (l : Label) → smm_address (at s k) ≡ None → row_at p s k ≡ Some l → ⊥
 unfolding row_at mark_at

@@ -12,7 +12,7 @@ use Rattle.hp_model.specs.Handlers.{runs_at, address_of_label}
 use Rattle.hp_model.specs.Account.{is_at}
 use Rattle.hp_sealed.specs.Left.{Sound}
 use Rattle.hp_sealed.specs.Sealed.{is_other_tile}
-use Rattle.hp_sealed.proofs.Labels.{same_label, index_small}
+use Rattle.hp_model.proofs.Marks.{same_label, index_small}
 use Rattle.hp_sealed.proofs.Places.{slot_of}
 
 -- outside SMM at none

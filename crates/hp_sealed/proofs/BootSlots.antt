@@ -2,7 +2,7 @@
 use Rattle.std.proofs.Common.{ℕ, zero, suc, ◌≡◌, ◌+◌, ◌<◌, ◌≤◌, ◌==◌, Bool, true, false, not, ◌&&◌, ◌||◌, nat_lt, List, [], ◌∷◌, length, map, get_or, refl, sym, ap, subst, ◌∙◌, arith}
 use Rattle.std.specs.Prelude.{slice_get}
 use Rattle.std.specs.List.{list_all, list_any}
-use Rattle.std.proofs.lemmas.Bool.{and_parts, ltb-true}
+use Rattle.std.proofs.lemmas.Bool.{and_parts, ltb-true, or_parts}
 use Rattle.std.proofs.lemmas.Bool.Decides.{nat_tests}
 use Rattle.std.proofs.lemmas.List.{length-map, length-replicate}
 use Rattle.hp_model.specs.declared.platforms.Platform.{Platform}
@@ -88,15 +88,11 @@ AtPlaces f ids n (b ∷ bs) = ((is_in (f b) ids ≡ true) × (place_of ids (f b)
 places_more : (f : ℕ → ℕ) (x : ℕ) (ids : List ℕ) (n : ℕ) (bs : List ℕ) → list_any (λ y. y == x) (map f bs) ≡ false → AtPlaces f ids n bs → AtPlaces f (x ∷ ids) (n + 1) bs
 places_more f x ids n [] e h = tt
 places_more f x ids n (b ∷ bs) e h =
-    let none = neither (f b == x) (list_any (λ y. y == x) (map f bs)) e in
+    let none = or_parts (f b == x) (list_any (λ y. y == x) (map f bs)) e in
     let other = turned (f b) x none.0 in
     let here = h.0.0 in
     ((rw (other, here) refl, rw other (ap (λ i. i + 1) h.0.1)), places_more f x ids (n + 1) bs none.1 h.1)
   where
-    neither : (a b : Bool) → (a || b) ≡ false → (a ≡ false) × (b ≡ false)
-    neither false b e = (refl, e)
-    neither true b e = absurd cc
-
     turned : (a b : ℕ) → (a == b) ≡ false → (b == a) ≡ false
     turned a b e = grind (arith, nat_tests)
 

@@ -17,7 +17,8 @@ use Rattle.hp_sealed.specs.Left.{Sound}
 use Rattle.hp_sealed.specs.Sealed.{is_other_tile, Holds}
 use Rattle.hp_sealed.specs.Booting.{memory_after, is_set_up}
 use Rattle.hp_sealed.proofs.Left.{left_more}
-use Rattle.hp_sealed.proofs.Labels.{same_label, index_small, mark_small, among_relocated, among_monarch}
+use Rattle.hp_model.proofs.Marks.{same_label, index_small, mark_small}
+use Rattle.hp_sealed.proofs.Labels.{among_relocated, among_monarch}
 use Rattle.hp_sealed.proofs.Values.{value_same, value_written, value_apart}
 use Rattle.hp_sealed.proofs.Places.{slot_of, kept_cell, kept_set_up, gate_set_up}
 

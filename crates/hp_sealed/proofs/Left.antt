@@ -1,6 +1,7 @@
 -- Which writes leave a byte alone: none from outside SMM covers one that is locked.
 use Rattle.std.proofs.Common.{ℕ, zero, suc, ◌≡◌, ◌+◌, ◌==◌, Bool, true, false, cond, ◌&&◌, ◌||◌, nat_lt, nat_le, List, [], ◌∷◌, refl, sym, subst, ◌∙◌, arith}
 use Rattle.std.proofs.lemmas.Bool.Decides.{nat_tests}
+use Rattle.std.proofs.lemmas.Bool.{or_parts}
 use Rattle.hp_model.specs.Memory.{Write, covers, byte_at, write_of}
 use Rattle.hp_model.specs.View.{Locks, is_locked, is_hidden, is_hole, loaded, stored, swapped}
 use Rattle.hp_model.specs.FwCfg.{FwCfg}
@@ -42,10 +43,6 @@ hidden_outside l x k = rw k (either (nat_le l.low_memory x))
     either true = refl
     either false = refl
 
-neither : (a b : Bool) → (a || b) ≡ false → (a ≡ false) × (b ≡ false)
-neither false b e = (refl, e)
-neither true b e = absurd cc
-
 not_first : (a x n : ℕ) → (x ≡ a → ⊥) → (nat_le (a + 1) x && nat_lt x (a + 1 + n)) ≡ false → (nat_le a x && nat_lt x (a + suc n)) ≡ false
 not_first a x n other rest = grind (arith, nat_tests)
 
@@ -53,7 +50,7 @@ pub outside_misses : (l : Locks) (a n x : ℕ) → is_locked l x ≡ true → is
 unfolding is_hole
 outside_misses l a zero x k e = grind (arith, nat_tests)
 outside_misses l a (suc n) x k e =
-    let parts = neither (is_hidden l false a) (is_hole l false (a + 1) n) e in
+    let parts = or_parts (is_hidden l false a) (is_hole l false (a + 1) n) e in
     not_first a x n (λ same. let hidden = hidden_outside l x k in let shown : is_hidden l false x ≡ false = subst (λ y. is_hidden l false y ≡ false) (sym same) parts.0 in absurd (let both : true ≡ false = sym hidden ∙ shown in cc))
     (outside_misses l (a + 1) n x k parts.1)
 

@@ -2,6 +2,7 @@
 use Rattle.std.proofs.Common.{ℕ, ◌≡◌, ◌+◌, ◌-◌, ◌*◌, ◌%◌, ◌<◌, ◌≤◌, ◌==◌, ◌⊎◌, inl, inr, Bool, true, false, cond, not, ◌&&◌, ◌||◌, nat_lt, nat_le, refl, sym, subst, arith}
 use Rattle.std.proofs.lemmas.Bool.{and_parts, eqb-true, ltb-true}
 use Rattle.std.proofs.lemmas.Bool.Decides.{nat_tests}
+use Rattle.hp_model.proofs.Cases.{or_cases}
 use Rattle.hp_model.specs.declared.platforms.Platform.{Platform}
 use Rattle.hp_model.specs.declared.labels.Label.{Label}
 use Rattle.hp_model.specs.Platform.{tseg, tile, count_of}
@@ -13,7 +14,7 @@ use Rattle.hp_model.specs.Handlers.{slot_at, is_tile, runs_at, address_of_label}
 use Rattle.hp_sealed.specs.Left.{Sound, Locked, is_gate, is_guarded, guarded_by, is_kept}
 use Rattle.hp_sealed.specs.Sealed.{is_other_tile, is_based}
 use Rattle.hp_sealed.specs.Booting.{is_set_up}
-use Rattle.hp_sealed.proofs.Labels.{index_small, index_first}
+use Rattle.hp_model.proofs.Marks.{index_small, index_first}
 
 pub from_size : (p : Platform) (ext : ℕ) → Sound p → (p.tseg_mib ≡ 48 → ext ≡ 0x30) → p.low_memory - tseg_size ext (tseg_enabled p.tseg_mib) * 0x100000 ≡ tseg p
 from_size p ext sound asked = by_size sound.size
@@ -46,12 +47,8 @@ tseg_locked p l x sound h g = rw (h.f_smbase, h.smram, h.esmramc, h.low_memory, 
 pub kept_guarded : (p : Platform) (x : ℕ) → is_kept p x ≡ true → is_guarded p x ≡ true
 kept_guarded p x e = (and_parts (is_guarded p x) (nat_lt (x % 0x10000) 0xfefc) e).0
 
-either : (a b : Bool) → (a || b) ≡ true → (a ≡ true) ⊎ (b ≡ true)
-either true b e = inl refl
-either false b e = inr e
-
 pub set_up_locked : (p : Platform) (l : Locks) (x : ℕ) → Sound p → Locked p l → is_set_up p x ≡ true → is_locked l x ≡ true
-set_up_locked p l x sound h g = elim (either (is_gate x) (is_kept p x) g) [
+set_up_locked p l x sound h g = elim (or_cases (is_gate x) (is_kept p x) g) [
   | inl e ↦ default_locked p l x h (in_area x e)
   | inr e ↦ guarded_locked p l x sound h (kept_guarded p x e)
 ]
@@ -113,7 +110,7 @@ base_other p b sound e = let s = slot_of p b e in base_tile p s.slot b sound s.l
 pub base_based : (p : Platform) (k b : ℕ) → Sound p → is_based p k b ≡ true → Base p b
 base_based p k b sound e = elim (split (k == 0) (b == tile p 0) ((b == 0x30000) || is_other_tile (layout_of p) b) e) [
   | inl f ↦ base_tile p 0 b sound (let s = sound.some in omega (arith, s)) (eqb-true b (tile p 0) f)
-  | inr f ↦ elim (either (b == 0x30000) (is_other_tile (layout_of p) b) f) [
+  | inr f ↦ elim (or_cases (b == 0x30000) (is_other_tile (layout_of p) b) f) [
     | inl g ↦ subst (Base p) (sym (eqb-true b 0x30000 g)) (base_default p sound)
     | inr g ↦ base_other p b sound g
   ]

@@ -1,6 +1,7 @@
 -- Memory that is alike outside locked ranges: what is loaded and stored from outside SMM, and stores that nobody there sees.
 use Rattle.std.proofs.Common.{ℕ, zero, suc, ◌≡◌, ◌+◌, ◌*◌, ◌-◌, ◌==◌, Bool, true, false, cond, ◌&&◌, ◌||◌, nat_lt, nat_le, List, ◌∷◌, refl, sym, ap, subst, ◌∙◌}
 use Rattle.std.specs.Prelude.{slice_index_or}
+use Rattle.std.proofs.lemmas.Bool.{or_parts}
 use Rattle.hp_model.specs.Memory.{Write, covers, byte_at, value_from, write_of}
 use Rattle.hp_model.specs.View.{Locks, is_locked, is_hidden, is_hole, ones, loaded, stored, swapped}
 use Rattle.hp_model.proofs.Bytes.{length-bytes_of}
@@ -45,18 +46,14 @@ store_unseen l in_smm a n v ws locked = by_hole (is_hole l in_smm a n)
         rw same refl
 
 -- what is loaded from outside SMM
-neither : (a b : Bool) → (a || b) ≡ false → (a ≡ false) × (b ≡ false)
-neither false b e = (refl, e)
-neither true b e = absurd cc
-
 free_here : (l : Locks) (x : ℕ) → is_hidden l false x ≡ false → is_locked l x ≡ false
-free_here l x e = (neither (nat_le l.low_memory x) (is_locked l x) e).1
+free_here l x e = (or_parts (nat_le l.low_memory x) (is_locked l x) e).1
 
 pub value_both : (l : Locks) (n a : ℕ) (ws vs : List Write) → AlikeBytes l ws vs → is_hole l false a n ≡ false → value_from (byte_at ws) a n ≡ value_from (byte_at vs) a n
 unfolding value_from is_hole
 value_both l zero a ws vs h e = refl
 value_both l (suc n) a ws vs h e =
-    let parts = neither (is_hidden l false a) (is_hole l false (a + 1) n) e in
+    let parts = or_parts (is_hidden l false a) (is_hole l false (a + 1) n) e in
     ap (λ (b : ℕ). b + 256 * value_from (byte_at ws) (a + 1) n) (h a (free_here l a parts.0))
     ∙ ap (λ (v : ℕ). byte_at vs a + 256 * v) (value_both l n (a + 1) ws vs h parts.1)
 

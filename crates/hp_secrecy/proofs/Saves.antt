@@ -2,6 +2,7 @@
 use Rattle.std.proofs.Common.{ℕ, ◌≡◌, ◌+◌, ◌-◌, ◌*◌, ◌%◌, ◌<◌, ◌≤◌, ◌==◌, ◌⊎◌, inl, inr, Bool, true, false, not, ◌&&◌, ◌||◌, nat_lt, nat_le, List, refl, sym, subst, arith}
 use Rattle.std.proofs.lemmas.Bool.{and_parts, eqb-true, ltb-true}
 use Rattle.std.proofs.lemmas.Bool.Decides.{nat_tests}
+use Rattle.hp_model.proofs.Cases.{or_cases}
 use Rattle.hp_model.specs.declared.platforms.Platform.{Platform}
 use Rattle.hp_model.specs.declared.processors.Cpu.{Cpu}
 use Rattle.hp_model.specs.Platform.{IsFit, count_of, tseg_fits, most_tiles, has_room, tseg, tile}
@@ -62,12 +63,8 @@ gate_locked p s h x e = in_range p s x h (in_gate x (tseg p) p.low_memory e)
     in_gate x base top e = grind (arith, nat_tests)
 
 -- an SMBASE's 64 KiB are locked
-either : (a b : Bool) → (a || b) ≡ true → (a ≡ true) ⊎ (b ≡ true)
-either true b e = inl refl
-either false b e = inr e
-
 pub based_locked : (p : Platform) (s : State) (b x : ℕ) → HasTiles p → IsShielded p s → is_base (layout_of p) b ≡ true → b ≤ x → x < b + 0x10000 → is_locked s.locks x ≡ true
-based_locked p s b x tiles h e low high = elim (either (b == 0x30000) (is_tile (layout_of p) b) e) [
+based_locked p s b x tiles h e low high = elim (or_cases (b == 0x30000) (is_tile (layout_of p) b) e) [
   | inl f ↦ (let is = eqb-true b 0x30000 f in in_range p s x h (in_default (tseg p) p.low_memory x (omega (arith, is, low)) (omega (arith, is, high))))
   | inr f ↦
       (let k = slot_at (layout_of p) b in

@@ -6,7 +6,7 @@ use Rattle.hp_model.specs.declared.accesses.Access.TheVariants.{Load, Store, Swa
 use Rattle.hp_model.specs.declared.accesses.Want.{Want}
 use Rattle.hp_model.specs.declared.accesses.Want.TheVariants as want
 use Rattle.hp_model.specs.declared.labels.Label.{Label}
-use Rattle.hp_model.specs.declared.labels.Label.TheVariants.{F1, F2, F3, F4, F5, F6, R1, R2, R3, R4, R5, R6, S0, S1, S2, S3, S4, C1, C2, C3, C4, C5, C6, NB, N0, N1, N2, N3, N4, N5, N6, N7, N8a, N8b, N9, N10, N11, E0, E1, E2, E3, E4a, E4b, E4c, E4d, E4e, E4f, E4g, E4h, T, E5, E6, E7}
+use Rattle.hp_model.specs.declared.labels.Label.TheVariants.{F1}
 use Rattle.hp_model.specs.SharedBytes.{Layout, layout_of, gate}
 use Rattle.hp_model.specs.Monarch.{Monarch}
 use Rattle.hp_model.specs.Handlers.{Seat, want_at, wanted_at}
@@ -35,58 +35,7 @@ wants_gate (Some want.Resume) = true
 
 row_wants_gate : (y : Layout) (x : Seat) (r : Monarch) (l : Label) → wants_gate (want_at y x r l) ≡ true
 row_wants_gate y x r F1 = refl
-row_wants_gate y x r F2 = refl
-row_wants_gate y x r F3 = refl
-row_wants_gate y x r F4 = refl
-row_wants_gate y x r F5 = refl
-row_wants_gate y x r F6 = refl
-row_wants_gate y x r R1 = refl
-row_wants_gate y x r R2 = refl
-row_wants_gate y x r R3 = refl
-row_wants_gate y x r R4 = refl
-row_wants_gate y x r R5 = refl
-row_wants_gate y x r R6 = refl
-row_wants_gate y x r S0 = refl
-row_wants_gate y x r S1 = refl
-row_wants_gate y x r S2 = refl
-row_wants_gate y x r S3 = refl
-row_wants_gate y x r S4 = refl
-row_wants_gate y x r C1 = refl
-row_wants_gate y x r C2 = refl
-row_wants_gate y x r C3 = refl
-row_wants_gate y x r C4 = refl
-row_wants_gate y x r C5 = refl
-row_wants_gate y x r C6 = refl
-row_wants_gate y x r NB = refl
-row_wants_gate y x r N0 = refl
-row_wants_gate y x r N1 = refl
-row_wants_gate y x r N2 = refl
-row_wants_gate y x r N3 = refl
-row_wants_gate y x r N4 = refl
-row_wants_gate y x r N5 = refl
-row_wants_gate y x r N6 = refl
-row_wants_gate y x r N7 = refl
-row_wants_gate y x r N8a = refl
-row_wants_gate y x r N8b = refl
-row_wants_gate y x r N9 = refl
-row_wants_gate y x r N10 = refl
-row_wants_gate y x r N11 = refl
-row_wants_gate y x r E0 = refl
-row_wants_gate y x r E1 = refl
-row_wants_gate y x r E2 = refl
-row_wants_gate y x r E3 = refl
-row_wants_gate y x r E4a = refl
-row_wants_gate y x r E4b = refl
-row_wants_gate y x r E4c = refl
-row_wants_gate y x r E4d = refl
-row_wants_gate y x r E4e = refl
-row_wants_gate y x r E4f = refl
-row_wants_gate y x r E4g = refl
-row_wants_gate y x r E4h = refl
-row_wants_gate y x r T = refl
-row_wants_gate y x r E5 = refl
-row_wants_gate y x r E6 = refl
-row_wants_gate y x r E7 = refl
+row_wants_gate y x r _ = refl
 
 wanted_wants_gate : (y : Layout) (x : Seat) (r : Monarch) (o : Option Label) → wants_gate (wanted_at y r x o) ≡ true
 wanted_wants_gate y x r None = refl

@@ -3,19 +3,13 @@
 ghost use Rattle.std.specs.Prelude.{◌<◌, ◌^◌, IsTrue, Some};
 ghost use Rattle.hp_model.specs.Fitting.{FitsAccess, FitsWant};
 
-use hp_model::{Access, Answer, Want};
+use hp_model::{Access, Answer, Want, holds, is_memory_width};
 
-/// Whether so many bytes hold the value.
-fn holds(width: u8, value: u64) -> bool
+/// Whether an access of this width is answered so.
+fn fits(width: u8, value: u64) -> bool
     ensures { IsTrue result → value < 256 ^ width }
 {
-    match width {
-        1 => value < 0x100,
-        2 => value < 0x1_0000,
-        4 => value < 0x1_0000_0000,
-        8 => true,
-        _ => false,
-    }
+    is_memory_width(width) && holds(width, value)
 }
 
 /// Whether the access has such an answer.
@@ -23,8 +17,8 @@ pub fn answers(access: Access, answer: Answer) -> bool
     ensures { IsTrue result → FitsAccess access answer }
 {
     match (access, answer) {
-        (Access::Load { width, .. }, Answer::Value(value)) => holds(width, value),
-        (Access::In { width, .. }, Answer::Value(value)) => holds(width, value),
+        (Access::Load { width, .. }, Answer::Value(value)) => fits(width, value),
+        (Access::In { width, .. }, Answer::Value(value)) => fits(width, value),
         (Access::Swap { .. }, Answer::Value(_)) => true,
         (Access::CfgRead { .. }, Answer::Value(value)) => value < 0x100,
         (

@@ -7,7 +7,7 @@ use Rattle.hp_model.specs.Handlers.{due_label, is_due, row_of, runs_at}
 use Rattle.hp_model.specs.Labels.{Part, First, Relocated, Monarch as Monarchs, label_with, part_of}
 use Rattle.hp_model.specs.Monarch.{Monarch}
 use Rattle.hp_model.specs.SharedBytes.{Layout}
-use Rattle.hp_image.proofs.Found.{same_label}
+use Rattle.hp_model.proofs.Marks.{same_label}
 
 -- its handler runs here, and it is due
 pub record IsDue (y : Layout) (r : Monarch) (cpu smbase : ℕ) (l : Label) : Type 0 where

@@ -2,37 +2,13 @@
 //! leaves.
 
 ghost use Rattle.std.specs.Prelude.{◌≡◌, ◌≤◌, Some};
-ghost use Rattle.hp_model.specs.declared.accesses.Access.TheVariants.{Load};
 ghost use Rattle.hp_model.specs.Boot.{value_in};
-ghost use Rattle.hp_model.specs.Handlers.{Seat, access, next_at, stays, store_byte as store_of, want_at};
+ghost use Rattle.hp_model.specs.Handlers.{Seat, next_at, stays, want_at};
 ghost use Rattle.hp_model.specs.Labels.{Relocated, part_of};
 ghost use Rattle.hp_model.specs.Monarch.{Monarch};
 ghost use Rattle.hp_model.specs.SharedBytes.{Layout};
 
-use hp_model::{Access, Answer, Label, Want};
-
-/// Where the bytes of the slots begin, from the first address of TSEG. The arrived bytes are the first of them.
-const RELEASE: u32 = 0x1000;
-
-const MAP: u32 = 0x2000;
-
-const PARKED: u32 = 0x3000;
-
-fn store_byte(addr: u32, value: u64) -> Want
-    ensures { store_of addr value ≡ Some result }
-{
-    Want::Do(Access::Store {
-        addr,
-        width: 1,
-        value,
-    })
-}
-
-fn load_byte(addr: u32) -> Want
-    ensures { access (Load addr 1) ≡ Some result }
-{
-    Want::Do(Access::Load { addr, width: 1 })
-}
+use hp_model::{Access, Answer, Label, Want, arrived_byte, map_byte, parked_byte, release_byte};
 
 /// What the processor of this slot wants at a label of the relocated handler.
 pub fn relocated_want(label: Label, tseg: u32, slot: u32) -> Want
@@ -41,15 +17,16 @@ pub fn relocated_want(label: Label, tseg: u32, slot: u32) -> Want
     requires slot { slot ≤ 0xffff }
     ensures { (y : Layout) (x : Seat) (r : Monarch) → y.tseg ≡ tseg → x.slot ≡ slot → want_at y x r label ≡ Some result }
 {
-    match label {
-        Label::R1 => store_byte(tseg + slot, 1),
-        Label::R2 => load_byte(tseg + MAP + slot),
-        Label::R3 => load_byte(tseg + RELEASE + slot),
-        Label::R4 => store_byte(tseg + slot, 0),
-        Label::R5 => Want::Resume,
-        Label::R6 => store_byte(tseg + PARKED + slot, 1),
+    let access = match label {
+        Label::R1 => Access::store_byte(arrived_byte(tseg, slot), 1),
+        Label::R2 => Access::load_byte(map_byte(tseg, slot)),
+        Label::R3 => Access::load_byte(release_byte(tseg, slot)),
+        Label::R4 => Access::store_byte(arrived_byte(tseg, slot), 0),
+        Label::R5 => return Want::Resume,
+        Label::R6 => Access::store_byte(parked_byte(tseg, slot), 1),
         _ => unreachable!(),
-    }
+    };
+    Want::Do(access)
 }
 
 /// The label where the answer leads.
