@@ -7,20 +7,20 @@ use Rattle.hp_agent.specs.declared.kinds.Voice.{Voice}
 use Rattle.hp_agent.specs.declared.kinds.Voice.TheVariants.{Script, Os, Pen, Seeded, Handed}
 
 -- an agent of this crate tells its voice, and one that was handed in what it tells
-abbrev pub tells : {A : Type 0} → (A → Option model.Voice) → Voice A → Option model.Voice
-tells handed (Script s) = Some s.voice
-tells handed (Os s) = Some s.voice
-tells handed (Pen s) = Some s.voice
-tells handed (Seeded s) = Some s.voice
-tells handed (Handed a) = handed a
+abbrev pub own_voice : {A : Type 0} → (A → Option model.Voice) → Voice A → Option model.Voice
+own_voice handed (Script s) = Some s.voice
+own_voice handed (Os s) = Some s.voice
+own_voice handed (Pen s) = Some s.voice
+own_voice handed (Seeded s) = Some s.voice
+own_voice handed (Handed a) = handed a
 
 -- a place without an agent tells a voice that only halts
-abbrev pub place_tells : {A : Type 0} → (A → Option model.Voice) → Option (Voice A) → Option model.Voice
-place_tells handed None = Some model.silent
-place_tells handed (Some v) = tells handed v
+abbrev pub place_voice : {A : Type 0} → (A → Option model.Voice) → Option (Voice A) → Option model.Voice
+place_voice handed None = Some model.silent
+place_voice handed (Some v) = own_voice handed v
 
-abbrev pub all_tell : {A : Type 0} → (A → Option model.Voice) → List (Option (Voice A)) → List (Option model.Voice)
-all_tell handed places = map (place_tells handed) places
+abbrev pub place_voices : {A : Type 0} → (A → Option model.Voice) → List (Option (Voice A)) → List (Option model.Voice)
+place_voices handed places = map (place_voice handed) places
 
 abbrev pub has_heard : {A : Type 0} → (A → Heard) → Voice A → Heard
 has_heard handed (Script s) = s.heard

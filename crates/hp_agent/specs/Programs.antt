@@ -1,12 +1,12 @@
--- Where the operating system's program stands, as the code keeps it: a place, a processor, and those found so far.
+-- Where the operating system's program stands, as the code keeps it: a point, a processor, and those found so far.
 use Rattle.std.specs.Prelude.{◌<◌, ◌≤◌, ℕ, List, ◌++◌, length, drop, vec_capacity}
 use Rattle.hp_model.specs.declared.accesses.Access.{Access}
-use Rattle.hp_model.specs.OsProgram.{OsPlace, polls, polled, scans, selected, commanded, looked, judged, acts, removes, starts, to_do}
+use Rattle.hp_model.specs.OsProgram.{OsPoint, polls, polled, scans, selected, commanded, looked, judged, acts, removes, starts, to_do}
 use Rattle.hp_model.specs.Voices.{Voice, Said, os}
 use Rattle.hp_agent.specs.declared.programs.Acting.{Acting}
 use Rattle.hp_agent.specs.declared.programs.Acting.TheVariants.{Announces, Starts, Removes}
-use Rattle.hp_agent.specs.declared.programs.Place.{Place}
-use Rattle.hp_agent.specs.declared.programs.Place.TheVariants as place
+use Rattle.hp_agent.specs.declared.programs.Point.{Point}
+use Rattle.hp_agent.specs.declared.programs.Point.TheVariants as point
 use Rattle.hp_agent.specs.declared.programs.Program.{Program}
 
 -- what is left to do: so many are done, and of the next one so many accesses
@@ -15,21 +15,21 @@ left_to_do halves inserts removals Announces = to_do halves inserts removals
 left_to_do halves inserts removals (Starts item done) = drop done (starts halves (drop item inserts)) ++ removes removals
 left_to_do halves inserts removals (Removes item done) = drop done (removes (drop item removals))
 
-abbrev pub stands_at : List ℕ → ℕ → List ℕ → List ℕ → Place → OsPlace
-stands_at halves cpu inserts removals place.Polls = polls
-stands_at halves cpu inserts removals place.Polled = polled
-stands_at halves cpu inserts removals place.Scans = scans cpu inserts removals
-stands_at halves cpu inserts removals place.Selected = selected cpu inserts removals
-stands_at halves cpu inserts removals place.Commanded = commanded cpu inserts removals
-stands_at halves cpu inserts removals place.Looked = looked cpu inserts removals
-stands_at halves cpu inserts removals place.Judged = judged cpu inserts removals
-stands_at halves cpu inserts removals (place.Acts at) = acts (left_to_do halves inserts removals at)
+abbrev pub point_at : List ℕ → ℕ → List ℕ → List ℕ → Point → OsPoint
+point_at halves cpu inserts removals point.Polls = polls
+point_at halves cpu inserts removals point.Polled = polled
+point_at halves cpu inserts removals point.Scans = scans cpu inserts removals
+point_at halves cpu inserts removals point.Selected = selected cpu inserts removals
+point_at halves cpu inserts removals point.Commanded = commanded cpu inserts removals
+point_at halves cpu inserts removals point.Looked = looked cpu inserts removals
+point_at halves cpu inserts removals point.Judged = judged cpu inserts removals
+point_at halves cpu inserts removals (point.Acts at) = acts (left_to_do halves inserts removals at)
 
-abbrev pub place_in : Program → OsPlace
-place_in p = stands_at p.halves.items p.cpu p.inserts.items p.removals.items p.place
+abbrev pub point_in : Program → OsPoint
+point_in p = point_at p.halves.items p.cpu p.inserts.items p.removals.items p.point
 
 abbrev pub voice_in : Program → Voice
-voice_in p = os p.halves.items (place_in p)
+voice_in p = os p.halves.items (point_in p)
 
 -- what it says, and where it then stands
 abbrev pub said_by : Access → Program → Said
@@ -45,21 +45,21 @@ IsStep (Starts item done) = done < 15
 IsStep (Removes item done) = done < 4
 
 -- a processor that was found is possible
-abbrev pub IsAt : Place → ℕ → ℕ → Type 0
-IsAt place.Polls cpu count = Unit {0}
-IsAt place.Polled cpu count = Unit {0}
-IsAt place.Scans cpu count = Unit {0}
-IsAt place.Selected cpu count = Unit {0}
-IsAt place.Commanded cpu count = Unit {0}
-IsAt place.Looked cpu count = Unit {0}
-IsAt place.Judged cpu count = cpu < count
-IsAt (place.Acts at) cpu count = IsStep at
+abbrev pub IsAt : Point → ℕ → ℕ → Type 0
+IsAt point.Polls cpu count = Unit {0}
+IsAt point.Polled cpu count = Unit {0}
+IsAt point.Scans cpu count = Unit {0}
+IsAt point.Selected cpu count = Unit {0}
+IsAt point.Commanded cpu count = Unit {0}
+IsAt point.Looked cpu count = Unit {0}
+IsAt point.Judged cpu count = cpu < count
+IsAt (point.Acts at) cpu count = IsStep at
 
 -- of each list there is room for all processors, and no more were found than were passed
 pub record IsSound (p : Program) : Type 0 where
   pub few : length p.halves.items ≤ 512
   pub reached : p.cpu ≤ length p.halves.items
-  pub at : IsAt p.place p.cpu (length p.halves.items)
+  pub at : IsAt p.point p.cpu (length p.halves.items)
   pub inserts : length p.inserts.items ≤ p.cpu
   pub removals : length p.removals.items ≤ p.cpu
   pub room_to_start : length p.halves.items ≤ vec_capacity p.inserts

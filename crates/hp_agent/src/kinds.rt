@@ -3,7 +3,7 @@
 ghost use Rattle.std.specs.Prelude.{◌≡◌, [], Some, IfOk};
 ghost use Rattle.hp_model.specs.Platform.{IsFit};
 ghost use Rattle.hp_model.specs.Voices.{voice_of};
-ghost use Rattle.hp_agent.specs.Kinds.{has_heard, tells};
+ghost use Rattle.hp_agent.specs.Kinds.{has_heard, own_voice};
 
 use crate::asking::Agent;
 use crate::pens::PenAgent;
@@ -24,7 +24,7 @@ pub enum Voice<A: Agent> {
 }
 
 impl<A: Agent> Agent for Voice<A> {
-    ghost voice = { λ v. tells A.voice v };
+    ghost voice = { λ v. own_voice A.voice v };
 
     ghost heard = { λ v. has_heard A.heard v };
 
@@ -46,7 +46,7 @@ pub fn voice_for<A: Agent>(
     kind: VoiceKind,
 ) -> Result<Voice<A>, NoMemory>
     requires { IsFit p.now }
-    ensures voice { IfOk result (λ v. tells A.voice v ≡ Some (voice_of p.now kind)) }
+    ensures voice { IfOk result (λ v. own_voice A.voice v ≡ Some (voice_of p.now kind)) }
     ensures heard { IfOk result (λ v. has_heard A.heard v ≡ []) }
 {
     Ok(match kind {

@@ -2,8 +2,8 @@
 
 ghost use Rattle.std.specs.Prelude.{◌≡◌, None, Some, slice_set};
 ghost use Rattle.hp_model.specs.Voices.{silent};
-ghost use Rattle.hp_agent.specs.Kinds.{all_heard, all_tell, hears, hears_at, place_heard, place_tells};
-ghost use Rattle.hp_model.specs.Following.{told_at};
+ghost use Rattle.hp_agent.specs.Kinds.{all_heard, place_voices, hears, hears_at, place_heard, place_voice};
+ghost use Rattle.hp_model.specs.Following.{voice_told};
 ghost use Rattle.hp_agent.specs.Speaking.{Speaks, asked};
 
 use crate::asking::Agent;
@@ -18,17 +18,17 @@ pub struct Agents<A: Agent> {
 }
 
 impl<A: Agent> Model for Agents<A> {
-    ghost use Rattle.hp_agent.specs.Kinds.{Places, all_heard, all_tell};
+    ghost use Rattle.hp_agent.specs.Kinds.{Places, all_heard, place_voices};
 
     ghost Value = { Places };
 
-    ghost view = { λ a. record { voices = all_tell A.voice a.places.items; heard = all_heard A.heard a.places.items } };
+    ghost view = { λ a. record { voices = place_voices A.voice a.places.items; heard = all_heard A.heard a.places.items } };
 }
 
 /// Asks a place; it answers `Halt` where it has no agent.
 #[tactic(auto, using(crate::proofs::Said::silent_halts))]
 fn ask<A: Agent>(place: &mut Option<Voice<A>>, cpu: u32, page: u32, last: Answer) -> Access
-    ensures says { Speaks (place_tells A.voice place.old) (place_tells A.voice place.new) (asked cpu page last) result }
+    ensures says { Speaks (place_voice A.voice place.old) (place_voice A.voice place.new) (asked cpu page last) result }
     ensures hears { place_heard A.heard place.new ≡ hears (place_heard A.heard place.old) (asked cpu page last) result }
 {
     match place {
@@ -40,8 +40,8 @@ fn ask<A: Agent>(place: &mut Option<Voice<A>>, cpu: u32, page: u32, last: Answer
 /// Asks the agent in a place, if it is one.
 #[tactic(auto, using(crate::proofs::Told::told_facts))]
 fn ask_at<A: Agent>(places: &mut [Option<Voice<A>>], cpu: u32, page: u32, last: Answer) -> Access
-    ensures says { Speaks (told_at (all_tell A.voice places.old) cpu) (told_at (all_tell A.voice places.new) cpu) (asked cpu page last) result }
-    ensures others { all_tell A.voice places.new ≡ slice_set (all_tell A.voice places.old) cpu (told_at (all_tell A.voice places.new) cpu) }
+    ensures says { Speaks (voice_told (place_voices A.voice places.old) cpu) (voice_told (place_voices A.voice places.new) cpu) (asked cpu page last) result }
+    ensures others { place_voices A.voice places.new ≡ slice_set (place_voices A.voice places.old) cpu (voice_told (place_voices A.voice places.new) cpu) }
     ensures hears { all_heard A.heard places.new ≡ hears_at (all_heard A.heard places.old) cpu (asked cpu page last) result }
 {
     let place = cpu as usize;
@@ -54,7 +54,7 @@ fn ask_at<A: Agent>(places: &mut [Option<Voice<A>>], cpu: u32, page: u32, last: 
 
 /// Drops the agent of a place.
 fn empty<A: Agent>(place: &mut Option<Voice<A>>)
-    ensures tells { place_tells A.voice place.new ≡ Some silent }
+    ensures tells { place_voice A.voice place.new ≡ Some silent }
     ensures heard { place_heard A.heard place.new ≡ None }
 {
     *place = None;
@@ -63,7 +63,7 @@ fn empty<A: Agent>(place: &mut Option<Voice<A>>)
 /// Drops the agent in a place, if it is one.
 #[tactic(auto, using(crate::proofs::Told::dropped_facts))]
 fn drop_at<A: Agent>(places: &mut [Option<Voice<A>>], cpu: u32)
-    ensures tells { all_tell A.voice places.new ≡ slice_set (all_tell A.voice places.old) cpu (Some silent) }
+    ensures tells { place_voices A.voice places.new ≡ slice_set (place_voices A.voice places.old) cpu (Some silent) }
     ensures heard { all_heard A.heard places.new ≡ slice_set (all_heard A.heard places.old) cpu None }
 {
     let place = cpu as usize;
@@ -75,7 +75,7 @@ fn drop_at<A: Agent>(places: &mut [Option<Voice<A>>], cpu: u32)
 impl<A: Agent> Agents<A> {
     /// An agent, or none, for each processor, in the order of their places.
     pub fn new(list: Vec<Option<Voice<A>>>) -> Agents<A>
-        ensures voices { result.voices ≡ all_tell A.voice list.items }
+        ensures voices { result.voices ≡ place_voices A.voice list.items }
         ensures heard { result.heard ≡ all_heard A.heard list.items }
     {
         Agents { places: list }
@@ -85,9 +85,9 @@ impl<A: Agent> Agents<A> {
     /// processor's access before. `Halt` where there is no agent, or no such place.
     #[tactic(auto, using(crate::proofs::Said::silent_halts))]
     pub fn next(&mut self, cpu: u32, page: u32, last: Answer) -> Access
-        ensures says { Speaks (told_at self.old.voices cpu) (told_at self.new.voices cpu) (asked cpu page last) result }
-        ensures halts { told_at self.old.voices cpu ≡ Some silent → result ≡ Access.Halt }
-        ensures others { self.new.voices ≡ slice_set self.old.voices cpu (told_at self.new.voices cpu) }
+        ensures says { Speaks (voice_told self.old.voices cpu) (voice_told self.new.voices cpu) (asked cpu page last) result }
+        ensures halts { voice_told self.old.voices cpu ≡ Some silent → result ≡ Access.Halt }
+        ensures others { self.new.voices ≡ slice_set self.old.voices cpu (voice_told self.new.voices cpu) }
         ensures hears { self.new.heard ≡ hears_at self.old.heard cpu (asked cpu page last) result }
     {
         ask_at(&mut self.places, cpu, page, last)

@@ -8,7 +8,7 @@ ghost use Rattle.hp_model.specs.OsProgram.{polls, start_of, removal_of, with_ins
 ghost use Rattle.hp_model.specs.Platform.{IsFit, high_half};
 ghost use Rattle.hp_model.specs.Voices.{doing, finding, hearing, looking, os, os_says, scanning, selecting};
 ghost use Rattle.hp_agent.specs.declared.programs.Acting.TheVariants as acting;
-ghost use Rattle.hp_agent.specs.Programs.{IsSound, IsStep, left_in, place_in, said_by, voice_in};
+ghost use Rattle.hp_agent.specs.Programs.{IsSound, IsStep, left_in, point_in, said_by, voice_in};
 
 use hp_model::{Access, Answer, NoMemory, Platform, icr_high};
 use std::alloc::Global;
@@ -55,7 +55,7 @@ pub enum Acting {
 
 /// Where the program stands.
 #[derive(Clone, Copy)]
-pub enum Place {
+pub enum Point {
     /// It reads the GPE status next.
     Polls,
     Polled,
@@ -76,7 +76,7 @@ pub enum Place {
 pub struct Program {
     /// The high half of an interrupt command to each possible processor, by place.
     pub halves: Vec<u32>,
-    pub place: Place,
+    pub point: Point,
     /// The processor from which on the next event is looked for, and the one that was found.
     pub cpu: u32,
     /// Those found that are to be started. There is room for all possible processors, here and in the next.
@@ -242,7 +242,7 @@ impl Program {
         removals.reserve(halves.len())?;
         Ok(Program {
             halves,
-            place: Place::Polls,
+            point: Point::Polls,
             cpu: 0,
             inserts,
             removals,
@@ -255,7 +255,7 @@ impl Program {
         ensures says { said_by result self.new ≡ looking self.old.halves.items }
         ensures sound { IsSound self.new }
     {
-        self.place = Place::Polled;
+        self.point = Point::Polled;
         read(GPE_STATUS, 1)
     }
 
@@ -269,7 +269,7 @@ impl Program {
     {
         let cpu = self.inserts[item];
         let access = start(cpu, high_to(self.halves.as_slice(), cpu))[done];
-        self.place = Place::Acts(after_start(item, done));
+        self.point = Point::Acts(after_start(item, done));
         access
     }
 
@@ -282,7 +282,7 @@ impl Program {
         ensures sound { IsSound self.new }
     {
         let access = removal(self.removals[item])[done];
-        self.place = Place::Acts(after_removal(item, done));
+        self.point = Point::Acts(after_removal(item, done));
         access
     }
 
@@ -307,7 +307,7 @@ impl Program {
         ensures says { said_by result self.new ≡ doing self.old.halves.items (left_in self.old acting.Announces) }
         ensures sound { IsSound self.new }
     {
-        self.place = Place::Acts(Acting::Starts { item: 0, done: 0 });
+        self.point = Point::Acts(Acting::Starts { item: 0, done: 0 });
         write(SMI_COMMAND, 1, HOT_PLUG)
     }
 
@@ -336,7 +336,7 @@ impl Program {
         ensures sound { IsSound self.new }
     {
         if status & PROCESSOR_EVENT == PROCESSOR_EVENT {
-            self.place = Place::Scans;
+            self.point = Point::Scans;
             self.cpu = 0;
             self.inserts.clear();
             self.removals.clear();
@@ -353,7 +353,7 @@ impl Program {
             ≡ selecting self.old.halves.items self.old.cpu self.old.inserts.items self.old.removals.items }
         ensures sound { IsSound self.new }
     {
-        self.place = Place::Selected;
+        self.point = Point::Selected;
         write(SELECTOR, 4, self.cpu)
     }
 
@@ -368,7 +368,7 @@ impl Program {
             return self.act(Acting::Announces);
         }
         self.cpu = cpu;
-        self.place = Place::Judged;
+        self.point = Point::Judged;
         read(STATUS, 1)
     }
 
@@ -397,7 +397,7 @@ impl Program {
     {
         join(&mut self.inserts, self.cpu, status, INSERTED);
         join(&mut self.removals, self.cpu, status, TO_REMOVE);
-        self.place = Place::Scans;
+        self.point = Point::Scans;
         self.cpu += 1;
         self.scan()
     }
@@ -405,25 +405,25 @@ impl Program {
     /// Its next access, where its last one had this answer.
     pub fn go_on(&mut self, last: Answer) -> Access
         requires { IsSound self.old }
-        ensures says { said_by result self.new ≡ os_says self.old.halves.items (place_in self.old) (value_in last) }
+        ensures says { said_by result self.new ≡ os_says self.old.halves.items (point_in self.old) (value_in last) }
         ensures sound { IsSound self.new }
     {
         let value = value_of(last);
-        match self.place {
-            Place::Polls => self.look(),
-            Place::Polled => self.hear((value & 0xff) as u8),
-            Place::Scans => self.select(),
-            Place::Selected => {
-                self.place = Place::Commanded;
+        match self.point {
+            Point::Polls => self.look(),
+            Point::Polled => self.hear((value & 0xff) as u8),
+            Point::Scans => self.select(),
+            Point::Selected => {
+                self.point = Point::Commanded;
                 write(COMMAND, 1, 0)
             }
-            Place::Commanded => {
-                self.place = Place::Looked;
+            Point::Commanded => {
+                self.point = Point::Looked;
                 read(COMMAND_DATA, 4)
             }
-            Place::Looked => self.find((value & 0xffff_ffff) as u32),
-            Place::Judged => self.judge((value & 0xff) as u8),
-            Place::Acts(at) => self.act(at),
+            Point::Looked => self.find((value & 0xffff_ffff) as u32),
+            Point::Judged => self.judge((value & 0xff) as u8),
+            Point::Acts(at) => self.act(at),
         }
     }
 }

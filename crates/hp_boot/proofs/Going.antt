@@ -14,7 +14,7 @@ use Rattle.hp_model.specs.Boot.{Stage, Boots, Refused, boot_access, stage_after}
 use Rattle.hp_model.specs.State.{State, at as state_cpu}
 use Rattle.hp_model.specs.Ports.{writes_block}
 use Rattle.hp_model.specs.Access.{is_normal, same_access, access_effect, answer_to}
-use Rattle.hp_model.specs.Firmware.{is_wanted, wanted_in, with_agreed, firmware_led}
+use Rattle.hp_model.specs.Firmware.{is_wanted, wanted_in, with_agreed, firmware_effect}
 use Rattle.hp_model.specs.Step.{After, is_enabled, effect_of, answer_of, disturbs, after, step}
 use Rattle.hp_model.specs.Schedule.{Scene, Made, made_by, act, act_all}
 use Rattle.hp_model.proofs.Same.{same_access-refl}
@@ -69,8 +69,8 @@ module _ (p : Platform) (f : Facts p) where
     after_made : (after p s (Do 0 a)).state ≡ made a s
     after_made =
         let next : Stage = stage_after p.tseg_mib (answer_of s (Do 0 a)) s.stage in
-        ap (λ (d : Bool). record (firmware_led p s s.stage (Do 0 a) (effect_of p s (Do 0 a))) { stage = next; disturbed = d }) undisturbed
-        ∙ ap (λ (t : Stage). record (firmware_led p s t (Do 0 a) (effect_of p s (Do 0 a))) { stage = next; disturbed = false }) boots
+        ap (λ (d : Bool). record (firmware_effect p s s.stage (Do 0 a) (effect_of p s (Do 0 a))) { stage = next; disturbed = d }) undisturbed
+        ∙ ap (λ (t : Stage). record (firmware_effect p s t (Do 0 a) (effect_of p s (Do 0 a))) { stage = next; disturbed = false }) boots
         ∙ ap (λ (b : Bool). record (with_agreed (access_effect p 0 b a s)) { stage = stage_after p.tseg_mib (answer_to b a s) s.stage; disturbed = false }) outside
 
     turned : (w : Scene) → w.state ≡ s → (act p w (Cpu 0)).scene.state ≡ made a s

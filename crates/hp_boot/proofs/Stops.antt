@@ -20,7 +20,7 @@ use Rattle.hp_model.specs.Cpu.{is_in_smm, address_in, smm_address}
 use Rattle.hp_model.specs.Boot.{Stage, Boots, Refused, Handed, boot_accesses, boot_access, boot_refusal, ext_count, value_in, stage_after, stage_by, fact_of}
 use Rattle.hp_model.specs.State.{State, at}
 use Rattle.hp_model.specs.Access.{answer_to}
-use Rattle.hp_model.specs.Firmware.{firmware_led}
+use Rattle.hp_model.specs.Firmware.{firmware_effect}
 use Rattle.hp_model.specs.Step.{After, effect_of, after, step}
 use Rattle.hp_model.specs.Voices.{Voice}
 use Rattle.hp_model.specs.Schedule.{Scene, Made, makes_none, both_make, made_by, entry_of, act, act_all, booted, boot_fact, boot_turns, scene_start}
@@ -144,7 +144,7 @@ module _ (p : Platform) (w : Scene) (fact : BootFact) (done supported : ℕ) (bo
 
   outside_then : IsOutside then_after.state.cpus
   outside_then =
-      subst (λ (t : Stage). IsOutside (firmware_led p w.state t (Do 0 next) (effect_of p w.state (Do 0 next))).cpus) (sym boots)
+      subst (λ (t : Stage). IsOutside (firmware_effect p w.state t (Do 0 next) (effect_of p w.state (Do 0 next))).cpus) (sym boots)
       (IsOutside-access p 0 w.state outside (is_in_smm (at w.state 0).mode) next (boot_calm p.tseg_mib supported done))
 
   entry_then : entry_of w (Do 0 next) then_after ≡ record { event = Do 0 next; at = None; answer = then_after.answer }

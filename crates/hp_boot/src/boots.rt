@@ -4,7 +4,7 @@ ghost use Rattle.std.specs.Prelude.{◌≡◌, true, ◌<◌};
 ghost use Rattle.hp_model.specs.Platform.{IsFit};
 ghost use Rattle.hp_model.specs.Boot.{boot_count, boot_start, is_booting, boot_next, boot_refusal, stage_after, stage_by};
 ghost use Rattle.hp_model.specs.Fitting.{FitsAccess};
-ghost use Rattle.hp_boot.specs.Booting.{stage_view, told_of, IsBefore, IsRead};
+ghost use Rattle.hp_boot.specs.Booting.{stage_view, boot_stage_of, IsBefore, IsRead};
 
 use crate::table::{access, ext_count};
 use hp_model::{Access, Answer, BootFact, Platform};
@@ -23,7 +23,7 @@ pub enum BootStage {
 
 /// Where a boot stands.
 #[derive(Clone, Copy)]
-enum Place {
+enum Standing {
     /// So many accesses are made, and access 21 answered these supported features; 0 before it.
     Boots { done: u8, supported: u64 },
     Refused(BootFact),
@@ -35,7 +35,7 @@ enum Place {
 pub struct Boot {
     /// The size of TSEG in MiB.
     tseg_mib: u32,
-    place: Place,
+    standing: Standing,
 }
 
 impl Model for Boot {
@@ -43,9 +43,9 @@ impl Model for Boot {
 
     ghost Value = { model.Booting };
 
-    ghost view = { λ b. record { mib = b.tseg_mib; stage = model.stage_view b.place } };
+    ghost view = { λ b. record { mib = b.tseg_mib; stage = model.stage_view b.standing } };
 
-    ghost invariant = { λ b. model.IsBefore b.tseg_mib b.place };
+    ghost invariant = { λ b. model.IsBefore b.tseg_mib b.standing };
 }
 
 /// What the value is refused for that the access after `done` accesses read.
@@ -67,7 +67,7 @@ fn refusal(mib: u32, done: u8, value: u64) -> Option<BootFact>
 }
 
 /// Where the boot stands once the access after `done` accesses read `value`.
-fn after(mib: u32, done: u8, supported: u64, value: u64) -> Place
+fn after(mib: u32, done: u8, supported: u64, value: u64) -> Standing
     requires before { done < boot_count mib }
     requires read { IsRead mib done value }
     ensures stage { stage_view result ≡ stage_by mib (boot_refusal mib done value) done supported value }
@@ -75,13 +75,13 @@ fn after(mib: u32, done: u8, supported: u64, value: u64) -> Place
 {
     let ext = ext_count(mib);
     match refusal(mib, done, value) {
-        Some(fact) => Place::Refused(fact),
-        None if done == 26 + ext => Place::Handed(supported % 8),
-        None if done == 20 + ext => Place::Boots {
+        Some(fact) => Standing::Refused(fact),
+        None if done == 26 + ext => Standing::Handed(supported % 8),
+        None if done == 20 + ext => Standing::Boots {
             done: done + 1,
             supported: value,
         },
-        None => Place::Boots {
+        None => Standing::Boots {
             done: done + 1,
             supported,
         },
@@ -96,7 +96,7 @@ impl Boot {
     {
         Boot {
             tseg_mib: p.tseg_mib,
-            place: Place::Boots {
+            standing: Standing::Boots {
                 done: 0,
                 supported: 0,
             },
@@ -108,9 +108,9 @@ impl Boot {
         requires { is_booting self.now.stage ≡ true }
         ensures { result ≡ boot_next self.now.mib self.now.stage }
     {
-        match self.place {
-            Place::Boots { done, supported } => access(self.tseg_mib, supported, done),
-            Place::Refused(_) | Place::Handed(_) => Access::Nop,
+        match self.standing {
+            Standing::Boots { done, supported } => access(self.tseg_mib, supported, done),
+            Standing::Refused(_) | Standing::Handed(_) => Access::Nop,
         }
     }
 
@@ -119,22 +119,22 @@ impl Boot {
         requires booting { is_booting self.old.stage ≡ true }
         requires fits { FitsAccess (boot_next self.old.mib self.old.stage) answer }
         ensures step { self.new ≡ record self.old { stage = stage_after self.old.mib answer self.old.stage } }
-        ensures told { result ≡ told_of self.new.stage }
+        ensures told { result ≡ boot_stage_of self.new.stage }
     {
-        if let Place::Boots { done, supported } = self.place {
-            self.place = after(self.tseg_mib, done, supported, answer.value());
+        if let Standing::Boots { done, supported } = self.standing {
+            self.standing = after(self.tseg_mib, done, supported, answer.value());
         }
         self.stage()
     }
 
     /// How the boot stands.
     pub fn stage(&self) -> BootStage
-        ensures { result ≡ told_of self.now.stage }
+        ensures { result ≡ boot_stage_of self.now.stage }
     {
-        match self.place {
-            Place::Boots { .. } => BootStage::More,
-            Place::Refused(fact) => BootStage::Refused(fact),
-            Place::Handed(requested) => BootStage::Handed(requested),
+        match self.standing {
+            Standing::Boots { .. } => BootStage::More,
+            Standing::Refused(fact) => BootStage::Refused(fact),
+            Standing::Handed(requested) => BootStage::Handed(requested),
         }
     }
 }

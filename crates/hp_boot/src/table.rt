@@ -40,10 +40,10 @@ fn cfg_write(reg: u8, value: u8) -> Access
 }
 
 /// The register block becomes modern, and command data 2 tells whether it did.
-fn block_access(place: u8) -> Access
-    ensures { result ≡ slice_index_or block_accesses place access.Nop }
+fn block_access(index: u8) -> Access
+    ensures { result ≡ slice_index_or block_accesses index access.Nop }
 {
-    match place {
+    match index {
         0 | 1 => port_write(0xcd8, 4, 0),
         2 => port_write(0xcdd, 1, 0),
         3 => port_read(0xcd8, 4),
@@ -52,10 +52,10 @@ fn block_access(place: u8) -> Access
 }
 
 /// The default area is asked for, and register 9c tells whether it can be locked.
-fn area_access(place: u8) -> Access
-    ensures { result ≡ slice_index_or area_accesses place access.Nop }
+fn area_access(index: u8) -> Access
+    ensures { result ≡ slice_index_or area_accesses index access.Nop }
 {
-    match place {
+    match index {
         0 => cfg_write(0x9c, 0xff),
         1 => Access::CfgRead { reg: 0x9c },
         _ => Access::Nop,
@@ -69,10 +69,10 @@ fn mark_store(addr: u32, label: Label) -> Access
 }
 
 /// The marks of the first handler, each in its cell, from 0x38000 on.
-fn mark_access(place: u8) -> Access
-    ensures { result ≡ slice_index_or mark_accesses place access.Nop }
+fn mark_access(index: u8) -> Access
+    ensures { result ≡ slice_index_or mark_accesses index access.Nop }
 {
-    match place {
+    match index {
         0 => mark_store(0x38000, Label::F1),
         1 => mark_store(0x38004, Label::F2),
         2 => mark_store(0x38008, Label::F3),
@@ -84,10 +84,10 @@ fn mark_access(place: u8) -> Access
 }
 
 /// The gate is closed, and the default area is locked.
-fn gate_access(place: u8) -> Access
-    ensures { result ≡ slice_index_or gate_accesses place access.Nop }
+fn gate_access(index: u8) -> Access
+    ensures { result ≡ slice_index_or gate_accesses index access.Nop }
 {
-    match place {
+    match index {
         0 => store(0x30000, 8, 0xffffffffffffffff),
         1 => cfg_write(0x9c, 0x02),
         _ => Access::Nop,
@@ -95,10 +95,10 @@ fn gate_access(place: u8) -> Access
 }
 
 /// A TSEG of 48 MiB is asked for, and register 50 tells whether there can be one.
-fn ext_access(place: u8) -> Access
-    ensures { result ≡ slice_index_or (ext_accesses 48) place access.Nop }
+fn ext_access(index: u8) -> Access
+    ensures { result ≡ slice_index_or (ext_accesses 48) index access.Nop }
 {
-    match place {
+    match index {
         0 => cfg_write(0x50, 0xff),
         1 => Access::CfgRead { reg: 0x50 },
         _ => Access::Nop,
@@ -126,10 +126,10 @@ fn esmramc(mib: u32) -> u8
 }
 
 /// TSEG is locked.
-fn lock_access(mib: u32, place: u8) -> Access
-    ensures { result ≡ slice_index_or (lock_accesses mib) place access.Nop }
+fn lock_access(mib: u32, index: u8) -> Access
+    ensures { result ≡ slice_index_or (lock_accesses mib) index access.Nop }
 {
-    match place {
+    match index {
         0 => cfg_write(0x9e, esmramc(mib)),
         1 => cfg_write(0x9d, 0x18),
         _ => Access::Nop,
@@ -139,10 +139,10 @@ fn lock_access(mib: u32, place: u8) -> Access
 /// The supported features are read, bits 0 to 2 of them are requested, and features-ok tells whether they were agreed on.
 ///
 /// Both transfers have their descriptor at 0x1000 and their 8 bytes at 0x1010.
-fn feature_access(supported: u64, place: u8) -> Access
-    ensures { result ≡ slice_index_or (feature_accesses supported) place access.Nop }
+fn feature_access(supported: u64, index: u8) -> Access
+    ensures { result ≡ slice_index_or (feature_accesses supported) index access.Nop }
 {
-    match place {
+    match index {
         0 => store(0x1000, 8, 0x080000000a002200),
         1 => store(0x1008, 8, 0x1010000000000000),
         2 | 6 => port_write(0x518, 4, 0x00100000),
@@ -173,13 +173,13 @@ fn head_access(done: u8) -> Access
 
 /// The last 12 accesses.
 #[tactic(auto, using(crate::proofs::Parts::tails))]
-fn tail_access(mib: u32, supported: u64, place: u8) -> Access
-    requires { place < 12 }
-    ensures { result ≡ slice_index_or (tail_accesses mib supported) place access.Nop }
+fn tail_access(mib: u32, supported: u64, index: u8) -> Access
+    requires { index < 12 }
+    ensures { result ≡ slice_index_or (tail_accesses mib supported) index access.Nop }
 {
-    match place {
-        0..=1 => lock_access(mib, place),
-        2..=10 => feature_access(supported, place - 2),
+    match index {
+        0..=1 => lock_access(mib, index),
+        2..=10 => feature_access(supported, index - 2),
         // SMIs are enabled: GBL_SMI_EN and APMC_EN
         _ => port_write(0x630, 4, 0x21),
     }

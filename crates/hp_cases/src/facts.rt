@@ -47,10 +47,10 @@ fn cpu_text(alloc: Global, k: u32, cpu: Cpu) -> Result<String, NoMemory> {
 }
 
 /// The mark where a processor stands, or `none`.
-fn mark_text(alloc: Global, k: u32, mark: Option<u32>) -> Result<String, NoMemory> {
+fn mark_text(alloc: Global, cpu: u32, mark: Option<u32>) -> Result<String, NoMemory> {
     match mark {
-        Some(mark) => Ok(format!(in alloc; "mark {k} {mark:08x}")?),
-        None => Ok(format!(in alloc; "mark {k} none")?),
+        Some(mark) => Ok(format!(in alloc; "mark {cpu} {mark:08x}")?),
+        None => Ok(format!(in alloc; "mark {cpu} none")?),
     }
 }
 
@@ -75,8 +75,8 @@ fn of_a_cpu(
 /// A processor in SMM goes on at an address, with a base.
 fn go(alloc: Global, machine: &mut Machine, rest: &str) -> Result<Option<String>, NoMemory> {
     match three_numbers(rest) {
-        Some((k, address, base)) if machine.enabled(&Event::Resume(k)) => {
-            machine.go(k, address, base);
+        Some((cpu, address, base)) if machine.enabled(&Event::Resume(cpu)) => {
+            machine.go(cpu, address, base);
             Ok(Some(format!(in alloc; "go {rest}")?))
         }
         _ => Ok(None),

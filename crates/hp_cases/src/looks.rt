@@ -15,9 +15,9 @@ fn is_all_ones(width: u8, value: u64) -> bool {
     }
 }
 
-/// What processor `k` finds by a load: `-` is a value of ones alone, as a hole has, `+` another one, and `!` no step.
-fn look(machine: &mut Machine, k: u32, width: u8, addr: u32) -> Result<char, NoMemory> {
-    let event = Event::Do(k, Access::Load { addr, width });
+/// What processor `cpu` finds by a load: `-` is a value of ones alone, as a hole has, `+` another one, and `!` no step.
+fn look(machine: &mut Machine, cpu: u32, width: u8, addr: u32) -> Result<char, NoMemory> {
+    let event = Event::Do(cpu, Access::Load { addr, width });
     if !machine.enabled(&event) {
         return Ok('!');
     }
@@ -32,7 +32,7 @@ pub fn reach(alloc: Global, machine: &mut Machine, rest: &str) -> Result<Option<
     let Some((numbers, letters)) = rest.rsplit_once(' ') else {
         return Ok(None);
     };
-    let Some((k, width, first)) = three_numbers(numbers) else {
+    let Some((cpu, width, first)) = three_numbers(numbers) else {
         return Ok(None);
     };
     let Ok(width) = u8::try_from(width) else {
@@ -41,7 +41,7 @@ pub fn reach(alloc: Global, machine: &mut Machine, rest: &str) -> Result<Option<
     let mut text = format!(in alloc; "reach {numbers} ")?;
     let mut addr = first;
     for _ in letters.chars() {
-        text.push(look(machine, k, width, addr)?)?;
+        text.push(look(machine, cpu, width, addr)?)?;
         addr = addr.wrapping_add(1);
     }
     Ok(Some(text))

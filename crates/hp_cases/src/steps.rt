@@ -8,8 +8,8 @@ use std::alloc::Global;
 /// The instruction address of the processor that acts, where it is in SMM.
 fn address_of(machine: &Machine, event: Event) -> Option<u32> {
     match event {
-        Event::Do(k, _) | Event::TakeSmi(k) | Event::TakeInit(k) | Event::Resume(k) => {
-            machine.address(k)
+        Event::Do(cpu, _) | Event::TakeSmi(cpu) | Event::TakeInit(cpu) | Event::Resume(cpu) => {
+            machine.address(cpu)
         }
         Event::Tell(_) => machine.address(0),
         Event::Insert(_) | Event::Remove(_) => None,

@@ -2,7 +2,7 @@
 use Rattle.std.specs.Prelude.{◌≡◌, ℕ, List, map}
 use Rattle.hp_model.specs.declared.accesses.Answer.{Answer}
 use Rattle.hp_model.specs.declared.labels.Label.{Label}
-use Rattle.hp_model.specs.Collection.{Collection, Collected, CollectsAt, CollectedAll, Report}
+use Rattle.hp_model.specs.Collection.{Collection, CollectNext, CollectsAt, CollectEnds, Report}
 use Rattle.hp_model.specs.Fitting.{FitsWant}
 use Rattle.hp_model.specs.Handlers.{Seat, want_at}
 use Rattle.hp_model.specs.Monarch.{Monarch}
@@ -15,21 +15,21 @@ use Rattle.hp_collect.specs.declared.collects.Stage.TheVariants.{More, Ended}
 
 pub record Collecting : Type 0 where
   pub count : ℕ
-  pub collected : Collected
+  pub next : CollectNext
 
 -- what it has collected so far
-abbrev pub collection_in : Collected → Collection
+abbrev pub collection_in : CollectNext → Collection
 collection_in (CollectsAt l c) = c
-collection_in (CollectedAll c) = c
+collection_in (CollectEnds c) = c
 
-abbrev pub stage_of : Collected → Stage
+abbrev pub stage_of : CollectNext → Stage
 stage_of (CollectsAt l c) = More
-stage_of (CollectedAll c) = Ended
+stage_of (CollectEnds c) = Ended
 
 -- it stands at a label
-abbrev pub IsGoing : Collected → Type 0
+abbrev pub IsGoing : CollectNext → Type 0
 IsGoing (CollectsAt l c) = Unit {0}
-IsGoing (CollectedAll c) = ⊥
+IsGoing (CollectEnds c) = ⊥
 
 -- one of a collection's labels
 pub record IsOfCollection (l : Label) : Type 0 where
@@ -37,9 +37,9 @@ pub record IsOfCollection (l : Label) : Type 0 where
   pub is : l ≡ label_of row
 
 -- the answer fits what it wants: of the monarch's record nothing but the collection matters
-abbrev pub Fits : Collected → Answer → Type 0
+abbrev pub Fits : CollectNext → Answer → Type 0
 Fits (CollectsAt l c) answer = (y : Layout) (x : Seat) (r : Monarch) → r.collection ≡ c → FitsWant (want_at y x r l) answer
-Fits (CollectedAll c) answer = ⊥
+Fits (CollectEnds c) answer = ⊥
 
 -- what the rules see of a report, and of several in their order
 abbrev pub report_of : Reported → Report

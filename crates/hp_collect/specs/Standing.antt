@@ -3,7 +3,7 @@ use Rattle.std.specs.Prelude.{◌≡◌, ◌<◌, ◌≤◌, ℕ, true, nat_lt, 
 use Rattle.std.specs.List.{list_all}
 use Rattle.hp_model.specs.declared.labels.Label.{Label}
 use Rattle.hp_model.specs.declared.labels.Label.TheVariants as label
-use Rattle.hp_model.specs.Collection.{Collection, Collected, CollectsAt, CollectedAll}
+use Rattle.hp_model.specs.Collection.{Collection, CollectNext, CollectsAt, CollectEnds}
 use Rattle.hp_collect.specs.declared.collects.Reported.{Reported}
 use Rattle.hp_collect.specs.declared.rows.Row.{Row}
 use Rattle.hp_collect.specs.declared.rows.Row.TheVariants as row
@@ -16,9 +16,9 @@ label_of row.C4 = label.C4
 label_of row.C5 = label.C5
 label_of row.C6 = label.C6
 
-abbrev pub collected_at : Option Row → Collection → Collected
-collected_at None c = CollectedAll c
-collected_at (Some row) c = CollectsAt (label_of row) c
+abbrev pub next_of : Option Row → Collection → CollectNext
+next_of None c = CollectEnds c
+next_of (Some row) c = CollectsAt (label_of row) c
 
 -- while it goes on, the processor it is at is possible; at its end it may be one past the last
 abbrev pub IsPlace : Option Row → ℕ → ℕ → Type 0

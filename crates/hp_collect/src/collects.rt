@@ -9,8 +9,8 @@ ghost use Rattle.hp_model.specs.declared.labels.Label.{Label};
 ghost use Rattle.hp_model.specs.declared.labels.Label.TheVariants.{C1};
 ghost use Rattle.hp_model.specs.Boot.{value_in};
 ghost use Rattle.hp_model.specs.Collection.{Collection, CollectsAt, collection_start, found, judged, next_processor, reported};
-ghost use Rattle.hp_model.specs.Handlers.{Seat, goes, next_at, want_at};
-ghost use Rattle.hp_model.specs.Monarch.{Monarch, collected};
+ghost use Rattle.hp_model.specs.Handlers.{Seat, by_record, next_at, want_at};
+ghost use Rattle.hp_model.specs.Monarch.{Monarch, after_collection};
 ghost use Rattle.hp_model.specs.SharedBytes.{Layout};
 ghost use Rattle.hp_collect.specs.declared.rows.Row.TheVariants as rows;
 ghost use Rattle.hp_collect.specs.Collecting.{Fits, IsGoing, IsOfCollection, collection_in, reports_of, stage_of};
@@ -75,11 +75,11 @@ impl Model for Collect {
     ghost Value = { Collecting };
 
     ghost use Rattle.hp_collect.specs.Collecting.{reports_of};
-    ghost use Rattle.hp_collect.specs.Standing.{IsSound, collected_at};
+    ghost use Rattle.hp_collect.specs.Standing.{IsSound, next_of};
 
     ghost view = { λ c. record {
       count = c.count;
-      collected = collected_at c.row (record { cpu = c.cpu; status = c.status; reports = reports_of c.reports.items });
+      next = next_of c.row (record { cpu = c.cpu; status = c.status; reports = reports_of c.reports.items });
     } };
 
     ghost invariant = { λ c. IsSound c.count c.cpu (vec_capacity c.reports) c.row c.reports.items };
@@ -108,7 +108,7 @@ impl Collect {
         requires some { 1 ≤ count }
         requires few { count ≤ 512 }
         ensures count { IfOk result (λ c. c.count ≡ count) }
-        ensures collected { IfOk result (λ c. c.collected ≡ CollectsAt C1 collection_start) }
+        ensures next { IfOk result (λ c. c.next ≡ CollectsAt C1 collection_start) }
     {
         let mut reports = Vec::new(alloc);
         reports.reserve(count as usize)?;
@@ -123,7 +123,7 @@ impl Collect {
 
     /// A collection begins anew, with no report.
     pub fn restart(&mut self)
-        ensures { self.new ≡ record self.old { collected = CollectsAt C1 collection_start } }
+        ensures { self.new ≡ record self.old { next = CollectsAt C1 collection_start } }
     {
         self.row = Some(Row::C1);
         self.cpu = 0;
@@ -133,8 +133,8 @@ impl Collect {
 
     /// Where the collection stands.
     pub fn label(&self) -> Label
-        requires { IsGoing self.now.collected }
-        ensures value { (l : Label) (c : Collection) → self.now.collected ≡ CollectsAt l c → result ≡ l }
+        requires { IsGoing self.now.next }
+        ensures value { (l : Label) (c : Collection) → self.now.next ≡ CollectsAt l c → result ≡ l }
         ensures collects { IsOfCollection result }
     {
         match self.row {
@@ -145,9 +145,9 @@ impl Collect {
 
     /// The access that is next.
     pub fn want(&self) -> Access
-        requires { IsGoing self.now.collected }
+        requires { IsGoing self.now.next }
         ensures { (y : Layout) (x : Seat) (r : Monarch) (l : Label) →
-            self.now.collected ≡ CollectsAt l r.collection → want_at y x r l ≡ Some (want.Do result) }
+            self.now.next ≡ CollectsAt l r.collection → want_at y x r l ≡ Some (want.Do result) }
     {
         match self.row {
             Some(Row::C1) => Access::Out {
@@ -171,8 +171,8 @@ impl Collect {
 
     /// The next processor, and the end past the last.
     fn go_to_next(&mut self)
-        requires { IsGoing self.old.collected }
-        ensures { self.new ≡ record self.old { collected = next_processor self.old.count (collection_in self.old.collected) } }
+        requires { IsGoing self.old.next }
+        ensures { self.new ≡ record self.old { next = next_processor self.old.count (collection_in self.old.next) } }
     {
         self.cpu += 1;
         self.row = row_at(self.cpu, self.count);
@@ -180,8 +180,8 @@ impl Collect {
 
     /// Command 0 went on to this processor.
     fn find(&mut self, cpu: u32)
-        requires { IsGoing self.old.collected }
-        ensures { self.new ≡ record self.old { collected = found self.old.count cpu (collection_in self.old.collected) } }
+        requires { IsGoing self.old.next }
+        ensures { self.new ≡ record self.old { next = found self.old.count cpu (collection_in self.old.next) } }
     {
         if cpu < self.cpu || cpu >= self.count {
             self.row = None;
@@ -193,8 +193,8 @@ impl Collect {
 
     /// The processor has this status.
     fn judge(&mut self, status: u8)
-        requires { IsGoing self.old.collected }
-        ensures { self.new ≡ record self.old { collected = judged self.old.count status (collection_in self.old.collected) } }
+        requires { IsGoing self.old.next }
+        ensures { self.new ≡ record self.old { next = judged self.old.count status (collection_in self.old.next) } }
     {
         if status & EVENTS == 0 {
             self.go_to_next();
@@ -206,8 +206,8 @@ impl Collect {
 
     /// The processor has an event, and this APIC ID.
     fn add_report(&mut self, apic: u32)
-        requires { IsGoing self.old.collected }
-        ensures { self.new ≡ record self.old { collected = reported self.old.count apic (collection_in self.old.collected) } }
+        requires { IsGoing self.old.next }
+        ensures { self.new ≡ record self.old { next = reported self.old.count apic (collection_in self.old.next) } }
     {
         let report = Reported {
             cpu: self.cpu,
@@ -221,7 +221,7 @@ impl Collect {
 
     /// Whether the collection goes on.
     pub fn stage(&self) -> Stage
-        ensures { result ≡ stage_of self.now.collected }
+        ensures { result ≡ stage_of self.now.next }
     {
         match self.row {
             Some(_) => Stage::More,
@@ -231,12 +231,12 @@ impl Collect {
 
     /// The answer to the access that was next, and where it leads.
     pub fn feed(&mut self, answer: Answer) -> Stage
-        requires { Fits self.old.collected answer }
-        ensures led { (y : Layout) (x : Seat) (r : Monarch) (l : Label) → y.count ≡ self.old.count →
-            self.old.collected ≡ CollectsAt l r.collection → next_at y x r l (value_in answer) ≡ goes x (collected y.apics self.new.collected r) }
+        requires { Fits self.old.next answer }
+        ensures next { (y : Layout) (x : Seat) (r : Monarch) (l : Label) → y.count ≡ self.old.count →
+            self.old.next ≡ CollectsAt l r.collection → next_at y x r l (value_in answer) ≡ by_record x (after_collection y.apics self.new.next r) }
         ensures count { self.new.count ≡ self.old.count }
-        ensures stage { result ≡ stage_of self.new.collected }
-        ensures collects { (l : Label) (c : Collection) → self.old.collected ≡ CollectsAt l c → IsOfCollection l }
+        ensures stage { result ≡ stage_of self.new.next }
+        ensures collects { (l : Label) (c : Collection) → self.old.next ≡ CollectsAt l c → IsOfCollection l }
     {
         let value = answer.value();
         match self.row {
@@ -253,7 +253,7 @@ impl Collect {
 
     /// The reports so far, in the order in which they were made.
     pub fn report(&self) -> &[Reported]
-        ensures value { reports_of result.now ≡ (collection_in self.now.collected).reports }
+        ensures value { reports_of result.now ≡ (collection_in self.now.next).reports }
         ensures possible { list_all (λ t. nat_lt t.cpu self.now.count) result.now ≡ true }
         ensures few { length result.now ≤ self.now.count }
     {

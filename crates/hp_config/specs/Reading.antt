@@ -65,11 +65,11 @@ abbrev pub text_reading : List ℕ → Option Reading
 text_reading text = option_map file_of (parse_document text)
 
 -- the answer tells this reading, or want of memory
-abbrev pub Tells : Reading → Result File ConfigFault → Type 0
-Tells reading (Ok file) = reading ≡ good file
-Tells reading (Err (fault.Rule rule)) = reading ≡ broken rule.0
-Tells reading (Err fault.NotToml) = ⊥
-Tells reading (Err fault.NoMemory) = Unit {0}
+abbrev pub AnswersReading : Reading → Result File ConfigFault → Type 0
+AnswersReading reading (Ok file) = reading ≡ good file
+AnswersReading reading (Err (fault.Rule rule)) = reading ≡ broken rule.0
+AnswersReading reading (Err fault.NotToml) = ⊥
+AnswersReading reading (Err fault.NoMemory) = Unit {0}
 
 -- the answer is what the text is as a platform file, or want of memory
 abbrev pub IsReadAs : List ℕ → Result File ConfigFault → Type 0

@@ -1,7 +1,7 @@
 //! A platform file is read from its text.
 
 ghost use Rattle.std.specs.Prelude.{◌≡◌, IfOk};
-ghost use Rattle.hp_config.specs.Reading.{fault_of as first_rule, file_from as file_with, judged, Tells, reading_of, file_of, IsReadAs};
+ghost use Rattle.hp_config.specs.Reading.{fault_of as first_rule, file_from as file_with, judged, AnswersReading, reading_of, file_of, IsReadAs};
 ghost use Rattle.toml.specs.View.{table_view};
 
 use crate::faults::ConfigFault;
@@ -39,7 +39,7 @@ fn file_from(alloc: Global, parts: Parts) -> Result<File, NoMemory>
 
 /// Holds the parts against the rules past the first.
 fn judge(alloc: Global, parts: Parts) -> Result<File, ConfigFault>
-    ensures { Tells (judged parts (first_rule parts)) result }
+    ensures { AnswersReading (judged parts (first_rule parts)) result }
 {
     if let Some(rule) = fault_of(&parts) {
         return Err(ConfigFault::Rule(rule));
@@ -53,7 +53,7 @@ fn judge(alloc: Global, parts: Parts) -> Result<File, ConfigFault>
 /// Reads the tree of a TOML document.
 #[tactic(auto, unfolding(crate::specs::Reading::file_of))]
 fn read_table(alloc: Global, table: &Table) -> Result<File, ConfigFault>
-    ensures { Tells (file_of (table_view table.now)) result }
+    ensures { AnswersReading (file_of (table_view table.now)) result }
 {
     match parts_of(alloc, table) {
         Ok(Some(parts)) => judge(alloc, parts),

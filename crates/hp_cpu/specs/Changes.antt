@@ -12,7 +12,7 @@ pub data Change : Type 0 where
   resumes : (smbase rip : ℕ) → Change
   takes_init : Change
   halts : Change
-  goes : (address base : ℕ) → Change
+  moves : (address base : ℕ) → Change
 
 -- the processor after it; an insert of a present processor changes nothing (own rule)
 abbrev pub changed : Change → Cpu → Cpu
@@ -23,7 +23,7 @@ changed enters c = take_smi c
 changed (resumes smbase rip) c = resumed smbase rip c
 changed takes_init c = take_init c
 changed halts c = halt c
-changed (goes address base) c = moved address base c
+changed (moves address base) c = moved address base c
 
 abbrev pub is_rsm : Change → Bool
 is_rsm inserts = false
@@ -33,7 +33,7 @@ is_rsm enters = false
 is_rsm (resumes smbase rip) = true
 is_rsm takes_init = false
 is_rsm halts = false
-is_rsm (goes address base) = false
+is_rsm (moves address base) = false
 
 abbrev pub is_hot_plug : Change → Bool
 is_hot_plug inserts = true
@@ -43,4 +43,4 @@ is_hot_plug enters = false
 is_hot_plug (resumes smbase rip) = false
 is_hot_plug takes_init = false
 is_hot_plug halts = false
-is_hot_plug (goes address base) = false
+is_hot_plug (moves address base) = false

@@ -44,115 +44,115 @@ impl Cpus {
     }
 
     /// The processor in a place, present or not.
-    pub fn get(&self, s: u32) -> Cpu
-        requires { s < length self.now }
-        ensures value { result ≡ cpu_at self.now s }
+    pub fn get(&self, cpu: u32) -> Cpu
+        requires { cpu < length self.now }
+        ensures value { result ≡ cpu_at self.now cpu }
         ensures smbase { IsSmbase result.smbase }
     {
-        let processor = &self.cpus[s as usize];
+        let processor = &self.cpus[cpu as usize];
         processor.cpu()
     }
 
     /// A host insert: an absent processor becomes present and waits for SIPI. Answers whether it was absent.
-    pub fn insert(&mut self, s: u32) -> bool
-        requires { s < length self.old }
-        ensures value { result ≡ not (cpu_at self.old s).present }
-        ensures inserted { IsTrue result → self.new ≡ slice_set self.old s inserted }
+    pub fn insert(&mut self, cpu: u32) -> bool
+        requires { cpu < length self.old }
+        ensures value { result ≡ not (cpu_at self.old cpu).present }
+        ensures inserted { IsTrue result → self.new ≡ slice_set self.old cpu inserted }
         ensures unchanged { IsFalse result → self.new ≡ self.old }
     {
-        let processor = &mut self.cpus[s as usize];
+        let processor = &mut self.cpus[cpu as usize];
         processor.insert()
     }
 
     /// An ejected processor is absent: its modes, latches and SMBASE are gone. Answers whether it was present.
-    pub fn remove(&mut self, s: u32) -> bool
-        requires { s < length self.old }
-        ensures value { result ≡ (cpu_at self.old s).present }
-        ensures removed { self.new ≡ slice_set self.old s absent }
+    pub fn remove(&mut self, cpu: u32) -> bool
+        requires { cpu < length self.old }
+        ensures value { result ≡ (cpu_at self.old cpu).present }
+        ensures removed { self.new ≡ slice_set self.old cpu absent }
     {
-        let processor = &mut self.cpus[s as usize];
+        let processor = &mut self.cpus[cpu as usize];
         processor.remove()
     }
 
     /// What an SMI, INIT or SIPI does to the processor that it hits: nothing where it is absent.
-    pub fn hit(&mut self, s: u32, kind: Kind)
-        requires { s < length self.old }
-        ensures step { self.new ≡ slice_set self.old s (hit_cpu kind (cpu_at self.old s)) }
+    pub fn hit(&mut self, cpu: u32, kind: Kind)
+        requires { cpu < length self.old }
+        ensures step { self.new ≡ slice_set self.old cpu (hit_cpu kind (cpu_at self.old cpu)) }
     {
-        let processor = &mut self.cpus[s as usize];
+        let processor = &mut self.cpus[cpu as usize];
         processor.hit(kind);
     }
 
     /// Whether the processor's next step is SMI entry.
-    pub fn can_take_smi(&self, s: u32) -> bool
-        requires { s < length self.now }
-        ensures value { result ≡ may_take_smi (cpu_at self.now s) }
+    pub fn can_take_smi(&self, cpu: u32) -> bool
+        requires { cpu < length self.now }
+        ensures value { result ≡ may_take_smi (cpu_at self.now cpu) }
     {
-        let processor = &self.cpus[s as usize];
+        let processor = &self.cpus[cpu as usize];
         processor.can_take_smi()
     }
 
     /// Whether the processor's next step is to take INIT.
-    pub fn can_take_init(&self, s: u32) -> bool
-        requires { s < length self.now }
-        ensures value { result ≡ may_take_init (cpu_at self.now s) }
+    pub fn can_take_init(&self, cpu: u32) -> bool
+        requires { cpu < length self.now }
+        ensures value { result ≡ may_take_init (cpu_at self.now cpu) }
     {
-        let processor = &self.cpus[s as usize];
+        let processor = &self.cpus[cpu as usize];
         processor.can_take_init()
     }
 
     /// SMI entry. Answers what is to be stored in the state save area, at the SMBASE that it names.
-    pub fn enter(&mut self, s: u32) -> SavePlan
-        requires place { s < length self.old }
-        requires enabled { may_take_smi (cpu_at self.old s) ≡ true }
-        ensures step { self.new ≡ slice_set self.old s (take_smi (cpu_at self.old s)) }
-        ensures plan { result ≡ plan_of (cpu_at self.old s) }
+    pub fn enter(&mut self, cpu: u32) -> SavePlan
+        requires place { cpu < length self.old }
+        requires enabled { may_take_smi (cpu_at self.old cpu) ≡ true }
+        ensures step { self.new ≡ slice_set self.old cpu (take_smi (cpu_at self.old cpu)) }
+        ensures plan { result ≡ plan_of (cpu_at self.old cpu) }
         ensures smbase { IsSmbase result.smbase }
     {
-        let processor = &mut self.cpus[s as usize];
+        let processor = &mut self.cpus[cpu as usize];
         processor.enter()
     }
 
     /// RSM of a processor in SMM, with what it has loaded from its state save area.
-    pub fn leave(&mut self, s: u32, saved: Saved)
-        requires place { s < length self.old }
-        requires present { (cpu_at self.old s).present ≡ true }
-        requires in_smm { is_in_smm (cpu_at self.old s).mode ≡ true }
-        ensures step { self.new ≡ slice_set self.old s (resumed saved.smbase saved.rip (cpu_at self.old s)) }
+    pub fn leave(&mut self, cpu: u32, saved: Saved)
+        requires place { cpu < length self.old }
+        requires present { (cpu_at self.old cpu).present ≡ true }
+        requires in_smm { is_in_smm (cpu_at self.old cpu).mode ≡ true }
+        ensures step { self.new ≡ slice_set self.old cpu (resumed saved.smbase saved.rip (cpu_at self.old cpu)) }
     {
-        let processor = &mut self.cpus[s as usize];
+        let processor = &mut self.cpus[cpu as usize];
         processor.leave(saved);
     }
 
     /// The latched INIT is taken: the processor waits for SIPI.
-    pub fn take_init(&mut self, s: u32)
-        requires place { s < length self.old }
-        requires enabled { may_take_init (cpu_at self.old s) ≡ true }
-        ensures step { self.new ≡ slice_set self.old s (take_init_cpu (cpu_at self.old s)) }
+    pub fn take_init(&mut self, cpu: u32)
+        requires place { cpu < length self.old }
+        requires enabled { may_take_init (cpu_at self.old cpu) ≡ true }
+        ensures step { self.new ≡ slice_set self.old cpu (take_init_cpu (cpu_at self.old cpu)) }
     {
-        let processor = &mut self.cpus[s as usize];
+        let processor = &mut self.cpus[cpu as usize];
         processor.take_init();
     }
 
     /// HLT of a processor that runs outside SMM.
-    pub fn halt(&mut self, s: u32)
-        requires place { s < length self.old }
-        requires present { (cpu_at self.old s).present ≡ true }
-        requires running { is_running (cpu_at self.old s).mode ≡ true }
-        ensures step { self.new ≡ slice_set self.old s (halt_cpu (cpu_at self.old s)) }
+    pub fn halt(&mut self, cpu: u32)
+        requires place { cpu < length self.old }
+        requires present { (cpu_at self.old cpu).present ≡ true }
+        requires running { is_running (cpu_at self.old cpu).mode ≡ true }
+        ensures step { self.new ≡ slice_set self.old cpu (halt_cpu (cpu_at self.old cpu)) }
     {
-        let processor = &mut self.cpus[s as usize];
+        let processor = &mut self.cpus[cpu as usize];
         processor.halt();
     }
 
     /// An instruction in SMM: the next one is at `address`, and `base` is what the first handler has loaded so far.
-    pub fn go(&mut self, s: u32, address: u32, base: u32)
-        requires place { s < length self.old }
-        requires present { (cpu_at self.old s).present ≡ true }
-        requires in_smm { is_in_smm (cpu_at self.old s).mode ≡ true }
-        ensures step { self.new ≡ slice_set self.old s (moved address base (cpu_at self.old s)) }
+    pub fn go(&mut self, cpu: u32, address: u32, base: u32)
+        requires place { cpu < length self.old }
+        requires present { (cpu_at self.old cpu).present ≡ true }
+        requires in_smm { is_in_smm (cpu_at self.old cpu).mode ≡ true }
+        ensures step { self.new ≡ slice_set self.old cpu (moved address base (cpu_at self.old cpu)) }
     {
-        let processor = &mut self.cpus[s as usize];
+        let processor = &mut self.cpus[cpu as usize];
         processor.go(address, base);
     }
 }

@@ -7,7 +7,7 @@ use Rattle.hp_model.specs.declared.outcomes.Outcome.{Outcome}
 use Rattle.hp_model.specs.declared.outcomes.Outcome.TheVariants as outcome
 use Rattle.hp_model.specs.declared.outcomes.Step.{Step}
 use Rattle.hp_model.specs.declared.outcomes.Step.TheVariants as step
-use Rattle.hp_model.specs.Eject.{Eject, EjectLed, EjectsAt, EjectEnds}
+use Rattle.hp_model.specs.Eject.{Eject, EjectNext, EjectsAt, EjectEnds}
 use Rattle.hp_model.specs.Fitting.{FitsWant}
 use Rattle.hp_model.specs.Handlers.{Seat, want_at}
 use Rattle.hp_model.specs.Monarch.{Monarch}
@@ -22,38 +22,38 @@ pub record Ejecting : Type 0 where
   pub polls : ℕ  -- how often the parked byte is looked at, at most
   pub late : Bool  -- whether SMIs may come late
   pub eject : Eject
-  pub led : EjectLed
+  pub next : EjectNext
 
 -- the eject's record after it was led
-abbrev pub eject_in : EjectLed → Eject → Eject
+abbrev pub eject_in : EjectNext → Eject → Eject
 eject_in (EjectsAt l k) j = k
 eject_in (EjectEnds o) j = j
 
 -- what is answered of it
-abbrev pub step_of : EjectLed → Step
+abbrev pub step_of : EjectNext → Step
 step_of (EjectsAt l j) = step.Go
 step_of (EjectEnds (outcome.Added cpu apic slot)) = step.Added
 step_of (EjectEnds (outcome.Ejected cpu apic slot)) = step.Ejected
 step_of (EjectEnds (outcome.Refused why)) = step.Refused why
 
 -- it stands at a label
-abbrev pub IsGoing : EjectLed → Type 0
+abbrev pub IsGoing : EjectNext → Type 0
 IsGoing (EjectsAt l j) = Unit {0}
 IsGoing (EjectEnds o) = ⊥
 
 -- the answer fits what it wants: of the layout only TSEG, and of the monarch's record only the eject matters
-abbrev pub Fits : ℕ → EjectLed → Answer → Type 0
+abbrev pub Fits : ℕ → EjectNext → Answer → Type 0
 Fits tseg (EjectsAt l j) answer = (y : Layout) (x : Seat) (r : Monarch) → y.tseg ≡ tseg → r.eject ≡ j → FitsWant (want_at y x r l) answer
 Fits tseg (EjectEnds o) answer = ⊥
 
 -- its outcome, once there is one
-abbrev pub outcome_of : EjectLed → Option Outcome
+abbrev pub outcome_of : EjectNext → Option Outcome
 outcome_of (EjectsAt l j) = None
 outcome_of (EjectEnds o) = Some o
 
 -- it is led on
-abbrev pub goes_on : EjectLed → Ejecting → Ejecting
-goes_on d r = record r { eject = eject_in d r.eject; led = d }
+abbrev pub at_next : EjectNext → Ejecting → Ejecting
+at_next d r = record r { eject = eject_in d r.eject; next = d }
 
 abbrev pub label_of : Row → Label
 label_of row.E0 = label.E0
@@ -75,9 +75,9 @@ pub record IsOfEject (l : Label) : Type 0 where
   pub is : l ≡ label_of row
 
 -- where it is, with this record
-abbrev pub led_at : Standing → Eject → EjectLed
-led_at (At row) j = EjectsAt (label_of row) j
-led_at (Ended o) j = EjectEnds o
+abbrev pub next_of : Standing → Eject → EjectNext
+next_of (At row) j = EjectsAt (label_of row) j
+next_of (Ended o) j = EjectEnds o
 
 -- no eject ends by an add
 abbrev pub is_of_eject : Standing → Bool

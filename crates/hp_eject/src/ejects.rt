@@ -10,11 +10,11 @@ ghost use Rattle.hp_model.specs.declared.outcomes.Outcome.TheVariants as outcome
 ghost use Rattle.hp_model.specs.Bare.{layout_at};
 ghost use Rattle.hp_model.specs.Boot.{value_in};
 ghost use Rattle.hp_model.specs.Eject.{Eject as AnEject, EjectEnds, EjectsAt, awaits, eject_of, gone, handed_to_block, saw_parked, saw_status};
-ghost use Rattle.hp_model.specs.Handlers.{Seat, goes, next_at, want_at};
-ghost use Rattle.hp_model.specs.Monarch.{Monarch, eject_led};
+ghost use Rattle.hp_model.specs.Handlers.{Seat, by_record, next_at, want_at};
+ghost use Rattle.hp_model.specs.Monarch.{Monarch, after_eject};
 ghost use Rattle.hp_model.specs.Platform.{IsFit, is_late, tseg as first_of_tseg};
 ghost use Rattle.hp_model.specs.SharedBytes.{Layout, arrived_byte as arrived_byte_of, map_byte as map_byte_of, parked_byte as parked_byte_of};
-ghost use Rattle.hp_eject.specs.Ejecting.{Fits, IsGoing, IsOfEject, eject_in, goes_on, label_of, outcome_of, step_of};
+ghost use Rattle.hp_eject.specs.Ejecting.{Fits, IsGoing, IsOfEject, eject_in, at_next, label_of, outcome_of, step_of};
 
 use crate::rows::Row;
 use crate::standing::Standing;
@@ -61,11 +61,11 @@ impl Model for Eject {
 
     ghost Value = { Ejecting };
 
-    ghost use Rattle.hp_eject.specs.Ejecting.{IsSmall, led_at};
+    ghost use Rattle.hp_eject.specs.Ejecting.{IsSmall, next_of};
 
     ghost view = { λ e.
         let j : Eject = record { cpu = e.cpu; apic = e.apic; slot = e.slot; polls = e.left; status = e.status } in
-        record { tseg = e.tseg; polls = e.polls; late = e.late; eject = j; led = led_at e.standing j } };
+        record { tseg = e.tseg; polls = e.polls; late = e.late; eject = j; next = next_of e.standing j } };
 
     ghost invariant = { λ e. IsSmall e.tseg e.slot e.standing };
 }
@@ -80,7 +80,7 @@ impl Eject {
         ensures polls { result.polls ≡ p.now.polls }
         ensures late { result.late ≡ is_late p.now.delivery }
         ensures eject { result.eject ≡ eject_of cpu apic slot }
-        ensures led { result.led ≡ EjectsAt E0 (eject_of cpu apic slot) }
+        ensures next { result.next ≡ EjectsAt E0 (eject_of cpu apic slot) }
     {
         Eject {
             tseg: tseg(p),
@@ -98,7 +98,7 @@ impl Eject {
     /// Another eject begins, as after `new`.
     pub fn restart(&mut self, cpu: u32, apic: u32, slot: u32)
         requires slot { slot < 512 }
-        ensures { self.new ≡ record self.old { eject = eject_of cpu apic slot; led = EjectsAt E0 (eject_of cpu apic slot) } }
+        ensures { self.new ≡ record self.old { eject = eject_of cpu apic slot; next = EjectsAt E0 (eject_of cpu apic slot) } }
     {
         self.cpu = cpu;
         self.apic = apic;
@@ -110,8 +110,8 @@ impl Eject {
 
     /// Its outcome: none while it goes on.
     pub fn outcome(&self) -> Option<Outcome>
-        ensures value { result ≡ outcome_of self.now.led }
-        ensures going { (result ≡ None) ↔ IsGoing self.now.led }
+        ensures value { result ≡ outcome_of self.now.next }
+        ensures going { (result ≡ None) ↔ IsGoing self.now.next }
     {
         match self.standing {
             Standing::At(_) => None,
@@ -121,8 +121,8 @@ impl Eject {
 
     /// Where it stands, while it goes on.
     fn row(&self) -> Row
-        requires { IsGoing self.now.led }
-        ensures { self.now.led ≡ EjectsAt (label_of result) self.now.eject }
+        requires { IsGoing self.now.next }
+        ensures { self.now.next ≡ EjectsAt (label_of result) self.now.eject }
     {
         match self.standing {
             Standing::At(row) => row,
@@ -132,8 +132,8 @@ impl Eject {
 
     /// The label where it stands, while it goes on.
     pub fn label(&self) -> Label
-        requires { IsGoing self.now.led }
-        ensures value { self.now.led ≡ EjectsAt result self.now.eject }
+        requires { IsGoing self.now.next }
+        ensures value { self.now.next ≡ EjectsAt result self.now.eject }
         ensures ejects { IsOfEject result }
     {
         self.row().label()
@@ -170,9 +170,9 @@ impl Eject {
 
     /// What it wants where it stands, while it goes on.
     pub fn want(&self) -> Access
-        requires { IsGoing self.now.led }
+        requires { IsGoing self.now.next }
         ensures { (y : Layout) (x : Seat) (r : Monarch) (l : Label) → y.tseg ≡ self.now.tseg →
-            self.now.led ≡ EjectsAt l r.eject → want_at y x r l ≡ Some (wants.Do result) }
+            self.now.next ≡ EjectsAt l r.eject → want_at y x r l ≡ Some (wants.Do result) }
     {
         match self.row() {
             Row::E0 | Row::E4e => Access::store_byte(self.parked(), 0),
@@ -199,21 +199,21 @@ impl Eject {
 
     /// On at this row.
     fn go_to(&mut self, row: Row)
-        ensures { self.new ≡ goes_on (EjectsAt (label_of row) self.old.eject) self.old }
+        ensures { self.new ≡ at_next (EjectsAt (label_of row) self.old.eject) self.old }
     {
         self.standing = Standing::At(row);
     }
 
     /// It ends without an eject.
     fn refuse(&mut self, why: Refusal)
-        ensures { self.new ≡ goes_on (EjectEnds (outcomes.Refused why)) self.old }
+        ensures { self.new ≡ at_next (EjectEnds (outcomes.Refused why)) self.old }
     {
         self.standing = Standing::Ended(Outcome::Refused(why));
     }
 
     /// The processor is ejected, and its bytes are cleared.
     fn finish(&mut self)
-        ensures { self.new ≡ goes_on (gone self.old.eject) self.old }
+        ensures { self.new ≡ at_next (gone self.old.eject) self.old }
     {
         self.standing = Standing::Ended(Outcome::Ejected {
             cpu: self.cpu,
@@ -224,7 +224,7 @@ impl Eject {
 
     /// From here on the parked byte is looked at.
     fn await_parked(&mut self)
-        ensures { self.new ≡ goes_on (awaits self.old.polls self.old.eject) self.old }
+        ensures { self.new ≡ at_next (awaits self.old.polls self.old.eject) self.old }
     {
         self.left = self.polls;
         self.go_to(Row::E2);
@@ -232,7 +232,7 @@ impl Eject {
 
     /// The parked byte was read.
     fn see_parked(&mut self, parked: u64)
-        ensures { self.new ≡ goes_on (saw_parked parked self.old.eject) self.old }
+        ensures { self.new ≡ at_next (saw_parked parked self.old.eject) self.old }
     {
         if parked == 1 {
             self.go_to(Row::E4a);
@@ -246,7 +246,7 @@ impl Eject {
 
     /// Control was written. Under late delivery another processor may have been selected then.
     fn hand_over(&mut self)
-        ensures { self.new ≡ goes_on (EjectsAt (handed_to_block self.old.late) self.old.eject) self.old }
+        ensures { self.new ≡ at_next (EjectsAt (handed_to_block self.old.late) self.old.eject) self.old }
     {
         if self.late {
             self.go_to(Row::E4f);
@@ -257,7 +257,7 @@ impl Eject {
 
     /// The status was read after that.
     fn see_status(&mut self, status: u8)
-        ensures { self.new ≡ goes_on (saw_status status self.old.eject) self.old }
+        ensures { self.new ≡ at_next (saw_status status self.old.eject) self.old }
     {
         if status & PENDING == PENDING {
             self.status = status;
@@ -269,7 +269,7 @@ impl Eject {
 
     /// What its last answer led to.
     fn step(&self) -> Step
-        ensures step { result ≡ step_of self.now.led }
+        ensures step { result ≡ step_of self.now.next }
         ensures of_eject { result ≢ steps.Added }
     {
         match self.standing {
@@ -283,14 +283,14 @@ impl Eject {
     /// The answer to what it wants, while it goes on, and where it leads: `Ejected` or `Refused` ends the eject, and `Added` never
     /// comes. A parked byte that is neither 0 nor 1 counts as 0.
     pub fn feed(&mut self, answer: Answer) -> Step
-        requires { Fits self.old.tseg self.old.led answer }
-        ensures led { (y : Layout) (x : Seat) (r : Monarch) (l : Label) → y.polls ≡ self.old.polls → y.late ≡ self.old.late →
-            self.old.led ≡ EjectsAt l r.eject → next_at y x r l (value_in answer) ≡ goes x (eject_led self.new.led r) }
-        ensures ejects { (l : Label) (j : AnEject) → self.old.led ≡ EjectsAt l j → IsOfEject l }
-        ensures same { (l : Label) (j : AnEject) → self.old.led ≡ EjectsAt l j → j ≡ self.old.eject }
-        ensures eject { self.new.eject ≡ eject_in self.new.led self.old.eject }
+        requires { Fits self.old.tseg self.old.next answer }
+        ensures next { (y : Layout) (x : Seat) (r : Monarch) (l : Label) → y.polls ≡ self.old.polls → y.late ≡ self.old.late →
+            self.old.next ≡ EjectsAt l r.eject → next_at y x r l (value_in answer) ≡ by_record x (after_eject self.new.next r) }
+        ensures ejects { (l : Label) (j : AnEject) → self.old.next ≡ EjectsAt l j → IsOfEject l }
+        ensures same { (l : Label) (j : AnEject) → self.old.next ≡ EjectsAt l j → j ≡ self.old.eject }
+        ensures eject { self.new.eject ≡ eject_in self.new.next self.old.eject }
         ensures slot { self.new.eject.slot ≡ self.old.eject.slot }
-        ensures step { result ≡ step_of self.new.led }
+        ensures step { result ≡ step_of self.new.next }
         ensures of_eject { result ≢ steps.Added }
         ensures stays { (self.new.tseg ≡ self.old.tseg) × ((self.new.polls ≡ self.old.polls) × (self.new.late ≡ self.old.late)) }
     {

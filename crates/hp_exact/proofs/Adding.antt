@@ -29,7 +29,7 @@ use Rattle.hp_model.specs.Step.{insert, request_removal, enter_smm, leave_smm, i
 use Rattle.hp_model.specs.Runs.{run_on}
 use Rattle.hp_model.specs.Transitions.{Transition, entries_of}
 use Rattle.hp_model.specs.Account.{is_at, bound}
-use Rattle.hp_model.specs.Sessions.{bounds_session, tells, ends_outcome}
+use Rattle.hp_model.specs.Sessions.{bounds_session, is_tell, ends_outcome}
 use Rattle.hp_model.specs.Outcomes.{opens}
 use Rattle.hp_sealed.specs.Left.{Sound}
 use Rattle.hp_sealed.proofs.Outside.{acts}
@@ -112,7 +112,7 @@ module _ (p : Platform) (sound : Sound p) (polled : 1 ≤ p.polls) (past : List 
       plain false false e = absurd cc
 
   -- an entry that shows nothing of it
-  unseen : (e : Entry) (vs : List Write) (home2 : ℕ → ℕ → Type 0) → ((m : Label) → part_of m ≡ Monarchs → is_at p m e ≡ false) → tells e ≡ false → bounds_session e ≡ false → is_access_of 0 e.event ≡ false → ((x : ℕ) → IsShared p x → Keeps x s.writes vs)
+  unseen : (e : Entry) (vs : List Write) (home2 : ℕ → ℕ → Type 0) → ((m : Label) → part_of m ≡ Monarchs → is_at p m e ≡ false) → is_tell e ≡ false → bounds_session e ≡ false → is_access_of 0 e.event ≡ false → ((x : ℕ) → IsShared p x → Keeps x s.writes vs)
       → (is_among r.label (N11 ∷ []) ≡ true → byte_at vs y_add ≡ 1 → (byte_at s.writes y_add ≡ 1) ⊎ IsHome p s r.add.cpu r.add.slot) → Carries home2 → Shown p (e ∷ es) vs home2 r
   unseen e vs home2 away told within made kept lands carries =
       let on : ends_outcome p e ≡ false = rw (told, within, away C1 refl, away C2 refl, away C3 refl, away C4 refl, away C5 refl, away C6 refl) refl in

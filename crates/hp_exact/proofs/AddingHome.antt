@@ -18,7 +18,7 @@ use Rattle.hp_model.specs.Boot.{value_in}
 use Rattle.hp_model.specs.Labels.{Relocated, Monarch as Monarchs, part_of}
 use Rattle.hp_model.specs.SharedBytes.{layout_of, arrived_byte, parked_byte, gate, closed, flag, default_smbase_field}
 use Rattle.hp_model.specs.SaveArea.{saved_smbase, saved_rip}
-use Rattle.hp_model.specs.Slots.{place_of}
+use Rattle.hp_model.specs.Slots.{slot_among}
 use Rattle.hp_model.specs.Account.{with_bound}
 use Rattle.hp_model.specs.Monarch.{Monarch, restarted}
 use Rattle.hp_model.specs.Handlers.{Seat, want_at, next_at, runs_at, slot_at}
@@ -162,7 +162,7 @@ in_end (x ∷ xs) a = by_head (x == a) (in_end xs a)
 
 -- whoever tells the arrival of the running add's slot is its processor, at home
 module _ (p : Platform) (sound : Sound p) (past : List Transition) (s : State) (handed : IsHanded p s) (h : Invariant p past s) (label : s.monarch.label ≡ N11) (less : s.monarch.add.slot < count_of p)
-    (old : List ℕ) (grown : s.monarch.slots.bound ≡ with_bound (Some s.monarch.add.apic) old) (is_place : s.monarch.add.slot ≡ place_of s.monarch.slots.bound s.monarch.add.apic) where
+    (old : List ℕ) (grown : s.monarch.slots.bound ≡ with_bound (Some s.monarch.add.apic) old) (is_place : s.monarch.add.slot ≡ slot_among s.monarch.slots.bound s.monarch.add.apic) where
   abbrev r : Monarch
   r = s.monarch
 
@@ -177,7 +177,7 @@ module _ (p : Platform) (sound : Sound p) (past : List Transition) (s : State) (
       elim (handed.slots.slotted k present) [
         | inl e ↦ absurd (far (tseg p) b tiled.slot sound.above tiled.is (sym base ∙ e))
         | inr at_place ↦ (
-            let own_slot : slot_at (layout_of p) b ≡ place_of r.slots.bound (apic_of p k) = slot_plain (tseg p) (place_of r.slots.bound (apic_of p k)) b (sym base ∙ at_place.1) in
+            let own_slot : slot_at (layout_of p) b ≡ slot_among r.slots.bound (apic_of p k) = slot_plain (tseg p) (slot_among r.slots.bound (apic_of p k)) b (sym base ∙ at_place.1) in
             let apics : apic_of p k ≡ r.add.apic = place_same r.slots.bound (apic_of p k) r.add.apic at_place.0 in_bound (sym own_slot ∙ (same ∙ is_place)) in
             let one : k ≡ r.add.cpu = one_cpu p k r.add.cpu sound (handed.slots.possible k present) own.less (apics ∙ sym own.apic) in
             let tile_is : (at s k).smbase ≡ tile p r.add.slot = at_place.1 ∙ ap (tile p) (sym own_slot ∙ same) in

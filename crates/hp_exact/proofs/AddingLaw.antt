@@ -13,7 +13,7 @@ use Rattle.hp_model.specs.declared.labels.Label.TheVariants.{T}
 use Rattle.hp_model.specs.Platform.{IsFit, tile}
 use Rattle.hp_model.specs.Block.{is_in}
 use Rattle.hp_model.specs.SharedBytes.{layout_of}
-use Rattle.hp_model.specs.Slots.{place_of}
+use Rattle.hp_model.specs.Slots.{slot_among}
 use Rattle.hp_model.specs.State.{State, at, start}
 use Rattle.hp_model.specs.Firmware.{same_outcome}
 use Rattle.hp_model.specs.Sessions.{is_disturbed}
@@ -55,22 +55,22 @@ eq_itself [] = refl
 eq_itself (x ∷ xs) = let i = itself x in rw i (eq_itself xs)
 
 -- places in lists
-place_last : (ids : List ℕ) (a : ℕ) → is_in a ids ≡ false → place_of (ids ++ a ∷ []) a ≡ length ids
+place_last : (ids : List ℕ) (a : ℕ) → is_in a ids ≡ false → slot_among (ids ++ a ∷ []) a ≡ length ids
 place_last [] a e = let i = itself a in rw i refl
 place_last (x ∷ xs) a e = by_head (x == a) e (λ f. place_last xs a f)
   where
-    by_head : (c : Bool) → (c || is_in a xs) ≡ false → (is_in a xs ≡ false → place_of (xs ++ a ∷ []) a ≡ length xs) → (if c then 0 else place_of (xs ++ a ∷ []) a + 1) ≡ suc (length xs)
+    by_head : (c : Bool) → (c || is_in a xs) ≡ false → (is_in a xs ≡ false → slot_among (xs ++ a ∷ []) a ≡ length xs) → (if c then 0 else slot_among (xs ++ a ∷ []) a + 1) ≡ suc (length xs)
     by_head true f more = absurd cc
     by_head false f more = let i = more f in omega (arith, i)
 
-has_its_slot : (old now : List ℕ) (apic slot : ℕ) → now ≡ with_bound (Some apic) old → slot ≡ place_of now apic → has_slot old now apic slot ≡ true
+has_its_slot : (old now : List ℕ) (apic slot : ℕ) → now ≡ with_bound (Some apic) old → slot ≡ slot_among now apic → has_slot old now apic slot ≡ true
 has_its_slot old now apic slot grown is = by_place (is_in apic old) refl grown
   where
     by_place : (b : Bool) → is_in apic old ≡ b → now ≡ (if b then old else old ++ apic ∷ []) → has_slot old now apic slot ≡ true
-    by_place true f g = let same : place_of now apic ≡ slot = sym is in let i = itself slot in rw (same, i, g, f) refl
+    by_place true f g = let same : slot_among now apic ≡ slot = sym is in let i = itself slot in rw (same, i, g, f) refl
     by_place false f g =
         let last = place_last old apic f in
-        let same : slot ≡ length old = is ∙ (ap (λ ids. place_of ids apic) g ∙ last) in
+        let same : slot ≡ length old = is ∙ (ap (λ ids. slot_among ids apic) g ∙ last) in
         let i = itself (length old) in
         rw (g, last, same, i, f, in_end old apic) refl
 

@@ -12,10 +12,10 @@ use Rattle.hp_model.specs.Block.{is_in}
 use Rattle.hp_model.specs.Labels.{Monarch as Monarchs, part_of, index_of}
 use Rattle.hp_model.specs.SharedBytes.{Layout, flag, arrived_byte}
 use Rattle.hp_model.specs.Slots.{known_from, bind}
-use Rattle.hp_model.specs.Collection.{Report, Collection, CollectsAt, CollectedAll, next_processor, found, judged, collection_start}
+use Rattle.hp_model.specs.Collection.{Report, Collection, CollectsAt, CollectEnds, next_processor, found, judged, collection_start}
 use Rattle.hp_model.specs.Add.{Add, AddsAt, Ends, looks, is_last_look, saw_flag, saw_pair, shut, saw_arrival}
 use Rattle.hp_model.specs.Eject.{EjectsAt, awaits}
-use Rattle.hp_model.specs.Monarch.{Monarch, at_label, look_at, noted, Class, Tells, Adds, Ejects, refuses, Facts as Tests, held_class, insert_class, eject_class, class, facts_of as facts_by, took, answered, taken_up, next_report, collected, led, eject_led, told}
+use Rattle.hp_model.specs.Monarch.{Monarch, at_label, look_at, noted, Decision, ToTell, ToAdd, ToEject, refuses, Facts as Tests, held_decision, insert_decision, eject_decision, decision, facts_of as facts_by, took, answered, taken_up, next_report, after_collection, after_add, after_eject, after_tell}
 use Rattle.hp_model.specs.Account.{with_bound}
 use Rattle.hp_model.specs.Handlers.{Seat, next_at}
 use Rattle.hp_sealed.proofs.Left.{pick, pick_by}
@@ -44,57 +44,57 @@ module _ (home : ℕ → ℕ → Type 0) where
   abbrev IsMere : Outcome → Type 0
   IsMere o = (polls : ℕ) (t : Trail) (old now : List ℕ) (a : Add) → Told polls t old now home a o
 
-  abbrev TellsMere : Class → Type 0
-  TellsMere (Tells o) = IsMere o
-  TellsMere Adds = Unit {0}
-  TellsMere Ejects = Unit {0}
+  abbrev TellsMere : Decision → Type 0
+  TellsMere (ToTell o) = IsMere o
+  TellsMere ToAdd = Unit {0}
+  TellsMere ToEject = Unit {0}
 
-  insert_mere : (f : Tests) (t : Report) → TellsMere (insert_class f t)
-  insert_mere f t = pick TellsMere f.known (refuses (AlreadyKnown t.cpu t.apic f.slot)) (held_class f.held t) (λ polls u old now a. tt) (by_held f.held)
+  insert_mere : (f : Tests) (t : Report) → TellsMere (insert_decision f t)
+  insert_mere f t = pick TellsMere f.known (refuses (AlreadyKnown t.cpu t.apic f.slot)) (held_decision f.held t) (λ polls u old now a. tt) (by_held f.held)
     where
-      by_held : (o : Option ℕ) → TellsMere (held_class o t)
+      by_held : (o : Option ℕ) → TellsMere (held_decision o t)
       by_held None = tt
-      by_held (Some b) = pick TellsMere (b == t.apic) Adds (refuses (GateHeld t.cpu t.apic b)) tt (λ polls u old now a. tt)
+      by_held (Some b) = pick TellsMere (b == t.apic) ToAdd (refuses (GateHeld t.cpu t.apic b)) tt (λ polls u old now a. tt)
 
-  class_mere : (f : Tests) (t : Report) → TellsMere (class f t)
-  class_mere f t =
+  decision_mere : (f : Tests) (t : Report) → TellsMere (decision f t)
+  decision_mere f t =
       pick TellsMere (not f.own) (refuses (Foreign t.cpu t.apic)) _ (λ polls u old now a. tt)
       (pick TellsMere (not (bit_and t.status 1 == 1)) (refuses (Disabled t.cpu t.status)) _ (λ polls u old now a. tt)
       (pick TellsMere (bit_and t.status 0x12 == 0x12) (refuses (Both t.cpu t.status)) _ (λ polls u old now a. tt)
-      (pick TellsMere (bit_and t.status 2 == 2) (insert_class f t) (eject_class f t) (insert_mere f t)
+      (pick TellsMere (bit_and t.status 2 == 2) (insert_decision f t) (eject_decision f t) (insert_mere f t)
       (pick TellsMere (not (bit_and f.features 4 == 4)) (refuses (NoUnplug t.cpu f.features)) _ (λ polls u old now a. tt)
       (pick TellsMere (not f.known) (refuses (NotKnown t.cpu t.apic)) _ (λ polls u old now a. tt)
-      (pick TellsMere (f.look == 0) (refuses (NotArrived t.cpu t.apic)) Ejects (λ polls u old now a. tt) tt))))))
+      (pick TellsMere (f.look == 0) (refuses (NotArrived t.cpu t.apic)) ToEject (λ polls u old now a. tt) tt))))))
 
 module _ (y : Layout) (old : List ℕ) (vs : List Write) (home : ℕ → ℕ → Type 0) where
   -- the next report
-  add_answered : (ids : List ℕ) (r : Monarch) (t : Report) (c : Class) → TellsMere home c → r.slots.bound ≡ old → AddTied y no_trail old vs home (answered c t (took r))
-  add_answered ids r t (Tells o) mere same = mere y.polls no_trail old r.slots.bound r.add
-  add_answered ids r t Adds mere same = (refl, subst (λ ids. (bind t.apic r.slots).bound ≡ with_bound (Some t.apic) ids) same (pick_by (λ s. s.bound ≡ with_bound (Some t.apic) r.slots.bound) (is_in t.apic r.slots.bound) r.slots _ (λ e. rw e refl) (λ e. rw e refl)), refl)
-  add_answered ids r t Ejects mere same = tt
+  add_answered : (ids : List ℕ) (r : Monarch) (t : Report) (c : Decision) → TellsMere home c → r.slots.bound ≡ old → AddTied y no_trail old vs home (answered c t (took r))
+  add_answered ids r t (ToTell o) mere same = mere y.polls no_trail old r.slots.bound r.add
+  add_answered ids r t ToAdd mere same = (refl, subst (λ ids. (bind t.apic r.slots).bound ≡ with_bound (Some t.apic) ids) same (pick_by (λ s. s.bound ≡ with_bound (Some t.apic) r.slots.bound) (is_in t.apic r.slots.bound) r.slots _ (λ e. rw e refl) (λ e. rw e refl)), refl)
+  add_answered ids r t ToEject mere same = tt
 
   pub add_report : (ids : List ℕ) (r : Monarch) → r.slots.bound ≡ old → AddTied y no_trail old vs home (next_report ids r)
   add_report ids r same = by_rest (drop r.taken r.collection.reports)
     where
       by_rest : (ts : List Report) → AddTied y no_trail old vs home (taken_up ids ts r)
       by_rest [] = tt
-      by_rest (t ∷ ts) = add_answered ids r t (class (facts_by ids r t) t) (class_mere home (facts_by ids r t) t) same
+      by_rest (t ∷ ts) = add_answered ids r t (decision (facts_by ids r t) t) (decision_mere home (facts_by ids r t) t) same
 
-  add_processor : (ids : List ℕ) (count : ℕ) (c : Collection) (r : Monarch) → r.slots.bound ≡ old → AddTied y no_trail old vs home (collected ids (next_processor count c) r)
+  add_processor : (ids : List ℕ) (count : ℕ) (c : Collection) (r : Monarch) → r.slots.bound ≡ old → AddTied y no_trail old vs home (after_collection ids (next_processor count c) r)
   add_processor ids count c r same =
-      pick (λ w. AddTied y no_trail old vs home (collected ids w r)) (nat_lt (c.cpu + 1) count) (CollectsAt C1 (record c { cpu = c.cpu + 1 })) (CollectedAll (record c { cpu = c.cpu + 1 })) tt
+      pick (λ w. AddTied y no_trail old vs home (after_collection ids w r)) (nat_lt (c.cpu + 1) count) (CollectsAt C1 (record c { cpu = c.cpu + 1 })) (CollectEnds (record c { cpu = c.cpu + 1 })) tt
       (add_report ids (record r { collection = record c { cpu = c.cpu + 1 } }) same)
 
-  add_found : (ids : List ℕ) (count v : ℕ) (r : Monarch) → r.slots.bound ≡ old → AddTied y no_trail old vs home (collected ids (found count v r.collection) r)
+  add_found : (ids : List ℕ) (count v : ℕ) (r : Monarch) → r.slots.bound ≡ old → AddTied y no_trail old vs home (after_collection ids (found count v r.collection) r)
   add_found ids count v r same =
-      pick (λ w. AddTied y no_trail old vs home (collected ids w r)) (nat_lt v r.collection.cpu || not (nat_lt v count)) (CollectedAll r.collection) (CollectsAt C4 (record r.collection { cpu = v }))
+      pick (λ w. AddTied y no_trail old vs home (after_collection ids w r)) (nat_lt v r.collection.cpu || not (nat_lt v count)) (CollectEnds r.collection) (CollectsAt C4 (record r.collection { cpu = v }))
       (add_report ids (record r { collection = r.collection }) same) tt
 
-  add_judged : (ids : List ℕ) (count v : ℕ) (r : Monarch) → r.slots.bound ≡ old → AddTied y no_trail old vs home (collected ids (judged count v r.collection) r)
+  add_judged : (ids : List ℕ) (count v : ℕ) (r : Monarch) → r.slots.bound ≡ old → AddTied y no_trail old vs home (after_collection ids (judged count v r.collection) r)
   add_judged ids count v r same =
-      pick (λ w. AddTied y no_trail old vs home (collected ids w r)) (bit_and v 0x12 == 0) (next_processor count r.collection) (CollectsAt C5 (record r.collection { status = v })) (add_processor ids count r.collection r same) tt
+      pick (λ w. AddTied y no_trail old vs home (after_collection ids w r)) (bit_and v 0x12 == 0) (next_processor count r.collection) (CollectsAt C5 (record r.collection { status = v })) (add_processor ids count r.collection r same) tt
 
-told_bound : (o : Outcome) (r : Monarch) → (told o r).slots.bound ≡ r.slots.bound
+told_bound : (o : Outcome) (r : Monarch) → (after_tell o r).slots.bound ≡ r.slots.bound
 told_bound (outcome.Added cpu apic slot) r = refl
 told_bound (outcome.Ejected cpu apic slot) r = refl
 told_bound (outcome.Refused why) r = refl
@@ -147,39 +147,39 @@ module _ (y : Layout) (t : Trail) (old bound : List ℕ) (ws vs : List Write) (h
   abbrev Then : Label → Monarch → Type 0
   Then l u = AddTied y (if is_ending l then no_trail else trail_after l v t) (if is_ending l then bound else old) vs home2 u
 
-  row_opens : Deeds y ws vs home home2 bound r N7 v → AddAt y t old ws home r N7 → Then N7 (led (looks N8a y.polls r.add) r)
+  row_opens : Deeds y ws vs home home2 bound r N7 v → AddAt y t old ws home r N7 → Then N7 (after_add (looks N8a y.polls r.add) r)
   row_opens d h = (record { tries = h.0.tries; few = h.0.few; grown = h.0.grown; is_place = h.0.is_place }, d.arrived_kept refl h.1, d.flag_kept h.2, refl, first_look y.polls some, refl)
 
-  row_flag : Deeds y ws vs home home2 bound r N8a v → AddAt y t old ws home r N8a → Then N8a (led (saw_flag v r.add) r)
+  row_flag : Deeds y ws vs home home2 bound r N8a v → AddAt y t old ws home r N8a → Then N8a (after_add (saw_flag v r.add) r)
   row_flag d h =
-      pick_by (λ w. Then N8a (led w r)) (v == 1) (AddsAt N9 (record r.add { seen = true })) (AddsAt N8b r.add)
+      pick_by (λ w. Then N8a (after_add w r)) (v == 1) (AddsAt N9 (record r.add { seen = true })) (AddsAt N8b r.add)
       (λ e. (h.0, d.arrived_kept refl h.1, h.3, (λ s. or_left (is_in 1 (v ∷ t.flags)) (is_in 1 t.pairs) (rw e refl)), λ s. absurd cc))
       (λ e. (h.0, d.arrived_kept refl h.1, d.flag_kept h.2, h.3, subst (Left y.polls r.add.polls) (sym h.5) h.4, let z = is_0 v (byte_at ws flag) (d.flag_read refl) h.2 e in rw z (ap (λ xs. 0 ∷ xs) (sym h.5))))
 
-  row_pair : Deeds y ws vs home home2 bound r N8b v → AddAt y t old ws home r N8b → Then N8b (led (saw_pair v r.add) (noted r.add.slot v r))
+  row_pair : Deeds y ws vs home home2 bound r N8b v → AddAt y t old ws home r N8b → Then N8b (after_add (saw_pair v r.add) (noted r.add.slot v r))
   row_pair d h =
-      pick_by (λ w. Then N8b (led w (noted r.add.slot v r))) (v == 1) (AddsAt N9 (record r.add { seen = true })) _
+      pick_by (λ w. Then N8b (after_add w (noted r.add.slot v r))) (v == 1) (AddsAt N9 (record r.add { seen = true })) _
       (λ e. (h.0, d.arrived_kept refl h.1, h.3, (λ s. or_right (is_in 1 t.flags) (is_in 1 (v ∷ t.pairs)) (rw e refl)), λ s. absurd cc))
       (λ e. let z = is_0 v (byte_at ws (arrived_byte y r.add.slot)) (d.pair_read refl) h.1 e in
-      pick_by (λ w. Then N8b (led w (noted r.add.slot v r))) (is_last_look r.add) (AddsAt N9 (record r.add { seen = false })) (looks N8a (r.add.polls - 1) r.add)
+      pick_by (λ w. Then N8b (after_add w (noted r.add.slot v r))) (is_last_look r.add) (AddsAt N9 (record r.add { seen = false })) (looks N8a (r.add.polls - 1) r.add)
       (λ last. (h.0, d.arrived_kept refl h.1, h.3, (λ s. absurd cc), λ s. (h.5 ∙ left_last y.polls r.add.polls t.pairs 0 h.4 refl last, left_last y.polls r.add.polls t.pairs v h.4 z last)))
       (λ more. (h.0, d.arrived_kept refl h.1, d.flag_kept h.2, h.3, subst (Left y.polls (r.add.polls - 1)) (sym h.5) (left_more y.polls r.add.polls t.pairs 0 h.4 refl more), ap (λ n. n ∷ t.pairs) z ∙ sym h.5)))
 
-  row_shut : Deeds y ws vs home home2 bound r N9 v → AddAt y t old ws home r N9 → Then N9 (led (shut r.add) r)
+  row_shut : Deeds y ws vs home home2 bound r N9 v → AddAt y t old ws home r N9 → Then N9 (after_add (shut r.add) r)
   row_shut d h =
-      pick_by (λ w. Then N9 (led w r)) r.add.seen (AddsAt N10 r.add) _
+      pick_by (λ w. Then N9 (after_add w r)) r.add.seen (AddsAt N10 r.add) _
       (λ e. (h.0, d.arrived_kept refl h.1, h.2, h.3 e))
-      (λ e. pick_by (λ w. Then N9 (led w r)) (nat_lt r.add.attempt 3) (AddsAt N0 (record r.add { attempt = r.add.attempt + 1 })) (Ends (outcome.Refused (NotAtGate r.add.cpu r.add.apic)))
+      (λ e. pick_by (λ w. Then N9 (after_add w r)) (nat_lt r.add.attempt 3) (AddsAt N0 (record r.add { attempt = r.add.attempt + 1 })) (Ends (outcome.Refused (NotAtGate r.add.cpu r.add.apic)))
       (λ more. again t.opened old r.slots.bound r.add.attempt r.add.apic r.add.slot h.0 more)
       (λ last. record { same_apic = refl; three = is_three t.opened r.add.attempt h.0.tries h.0.few last; flags = (h.4 e).0; pairs = (h.4 e).1 }))
 
-  row_arrival : Deeds y ws vs home home2 bound r N11 v → AddAt y t old ws home r N11 → Then N11 (led (saw_arrival v r.add) (noted r.add.slot v r))
+  row_arrival : Deeds y ws vs home home2 bound r N11 v → AddAt y t old ws home r N11 → Then N11 (after_add (saw_arrival v r.add) (noted r.add.slot v r))
   row_arrival d h =
-      pick_by (λ w. Then N11 (led w (noted r.add.slot v r))) (v == 1) (Ends (outcome.Added r.add.cpu r.add.apic r.add.slot)) _
+      pick_by (λ w. Then N11 (after_add w (noted r.add.slot v r))) (v == 1) (Ends (outcome.Added r.add.cpu r.add.apic r.add.slot)) _
       (λ e. record { same_cpu = refl; same_apic = refl; same_slot = refl; grown = h.0.grown; is_place = h.0.is_place; arrived = e; entered = h.2; there = d.stays_home refl (h.5 (sym (d.arrived_read refl) ∙ eqb-true v 1 e)) })
       (λ e. let z = is_0 v (byte_at ws (arrived_byte y r.add.slot)) (d.arrived_read refl) h.1 e in
-      pick_by (λ w. Then N11 (led w (noted r.add.slot v r))) (is_last_look r.add) _ (looks N11 (r.add.polls - 1) r.add)
-      (λ last. pick_by (λ w. Then N11 (led w (noted r.add.slot v r))) (nat_lt r.add.attempt 3) (AddsAt N0 (record r.add { attempt = r.add.attempt + 1 })) (Ends (outcome.Refused (NotCheckedIn r.add.cpu r.add.apic)))
+      pick_by (λ w. Then N11 (after_add w (noted r.add.slot v r))) (is_last_look r.add) _ (looks N11 (r.add.polls - 1) r.add)
+      (λ last. pick_by (λ w. Then N11 (after_add w (noted r.add.slot v r))) (nat_lt r.add.attempt 3) (AddsAt N0 (record r.add { attempt = r.add.attempt + 1 })) (Ends (outcome.Refused (NotCheckedIn r.add.cpu r.add.apic)))
       (λ more. again t.opened old r.slots.bound r.add.attempt r.add.apic r.add.slot h.0 more)
       (λ most. record { same_apic = refl; three = is_three t.opened r.add.attempt h.0.tries h.0.few most; seen = h.3; arrivals = left_last y.polls r.add.polls t.arrivals v h.4 z last }))
       (λ more. (h.0, d.arrived_kept refl h.1, h.2, h.3, left_more y.polls r.add.polls t.arrivals v h.4 z more, λ one. d.stays_home refl (h.5 (sym (d.looked_at refl) ∙ one)))))
@@ -218,7 +218,7 @@ module _ (y : Layout) (t : Trail) (old bound : List ℕ) (ws vs : List Write) (h
   row_add N11 mine is d h = row_arrival d h
   row_add E0 mine is d h = tt
   row_add E1 mine is d h = tt
-  row_add E2 mine is d h = pick (λ w. Then E2 (eject_led w r)) (v == 1) (EjectsAt E4a r.eject) _ tt (pick (λ w. Then E2 (eject_led w r)) (nat_le r.eject.polls 1) (EjectsAt E3 r.eject) (awaits (r.eject.polls - 1) r.eject) tt tt)
+  row_add E2 mine is d h = pick (λ w. Then E2 (after_eject w r)) (v == 1) (EjectsAt E4a r.eject) _ tt (pick (λ w. Then E2 (after_eject w r)) (nat_le r.eject.polls 1) (EjectsAt E3 r.eject) (awaits (r.eject.polls - 1) r.eject) tt tt)
   row_add E3 mine is d h = tt
   row_add E4a mine is d h = tt
   row_add E4b mine is d h = pick (λ m. Then E4b (at_label m r)) y.late E4f E4c tt tt
@@ -226,9 +226,9 @@ module _ (y : Layout) (t : Trail) (old bound : List ℕ) (ws vs : List Write) (h
   row_add E4d mine is d h = tt
   row_add E4e mine is d h = tt
   row_add E4f mine is d h = tt
-  row_add E4g mine is d h = pick (λ w. Then E4g (eject_led w r)) (bit_and v 0x10 == 0x10) (EjectsAt E4h (record r.eject { status = v })) (EjectsAt E4c r.eject) tt tt
+  row_add E4g mine is d h = pick (λ w. Then E4g (after_eject w r)) (bit_and v 0x10 == 0x10) (EjectsAt E4h (record r.eject { status = v })) (EjectsAt E4c r.eject) tt tt
   row_add E4h mine is d h = tt
-  row_add T mine is d h = add_report y bound vs home2 y.apics (told r.outcome r) (told_bound r.outcome r ∙ d.is_bound refl)
+  row_add T mine is d h = add_report y bound vs home2 y.apics (after_tell r.outcome r) (told_bound r.outcome r ∙ d.is_bound refl)
   row_add E5 mine is d h = pick (Then E5) (nat_lt 1 (length r.slots.bound)) (record r { label = E6; slot = 1 }) (at_label E7 r) tt tt
   row_add E6 mine is d h = pick (Then E6) (nat_lt (r.slot + 1) (length r.slots.bound)) (record r { label = E6; slot = r.slot + 1 }) (at_label E7 r) tt tt
   row_add E7 mine is d h = subst (AddAt y _ old vs home2 r) (sym is) tt
@@ -310,7 +310,7 @@ apic_stays y q r N10 v mine e = (adds_on y q r N10 v refl).apic
 apic_stays y q r N11 v mine e = (adds_on y q r N11 v refl).apic
 apic_stays y q r E0 v mine e = refl
 apic_stays y q r E1 v mine e = refl
-apic_stays y q r E2 v mine e = pick (λ w. (eject_led w r).add.apic ≡ r.add.apic) (v == 1) (EjectsAt E4a r.eject) _ refl (pick (λ w. (eject_led w r).add.apic ≡ r.add.apic) (nat_le r.eject.polls 1) (EjectsAt E3 r.eject) (awaits (r.eject.polls - 1) r.eject) refl refl)
+apic_stays y q r E2 v mine e = pick (λ w. (after_eject w r).add.apic ≡ r.add.apic) (v == 1) (EjectsAt E4a r.eject) _ refl (pick (λ w. (after_eject w r).add.apic ≡ r.add.apic) (nat_le r.eject.polls 1) (EjectsAt E3 r.eject) (awaits (r.eject.polls - 1) r.eject) refl refl)
 apic_stays y q r E3 v mine e = refl
 apic_stays y q r E4a v mine e = refl
 apic_stays y q r E4b v mine e = refl
@@ -318,7 +318,7 @@ apic_stays y q r E4c v mine e = refl
 apic_stays y q r E4d v mine e = refl
 apic_stays y q r E4e v mine e = refl
 apic_stays y q r E4f v mine e = refl
-apic_stays y q r E4g v mine e = pick (λ w. (eject_led w r).add.apic ≡ r.add.apic) (bit_and v 0x10 == 0x10) (EjectsAt E4h (record r.eject { status = v })) (EjectsAt E4c r.eject) refl refl
+apic_stays y q r E4g v mine e = pick (λ w. (after_eject w r).add.apic ≡ r.add.apic) (bit_and v 0x10 == 0x10) (EjectsAt E4h (record r.eject { status = v })) (EjectsAt E4c r.eject) refl refl
 apic_stays y q r E4h v mine e = refl
 apic_stays y q r E5 v mine e = pick (λ (u : Monarch). u.add.apic ≡ r.add.apic) (nat_lt 1 (length r.slots.bound)) (record r { label = E6; slot = 1 }) (at_label E7 r) refl refl
 apic_stays y q r E6 v mine e = pick (λ (u : Monarch). u.add.apic ≡ r.add.apic) (nat_lt (r.slot + 1) (length r.slots.bound)) (record r { label = E6; slot = r.slot + 1 }) (at_label E7 r) refl refl

@@ -10,7 +10,7 @@ use Rattle.hp_model.specs.Memory.{Write, byte_at}
 use Rattle.hp_model.specs.Block.{is_in}
 use Rattle.hp_model.specs.Labels.{index_of}
 use Rattle.hp_model.specs.SharedBytes.{Layout, flag, arrived_byte}
-use Rattle.hp_model.specs.Slots.{place_of}
+use Rattle.hp_model.specs.Slots.{slot_among}
 use Rattle.hp_model.specs.Add.{Add}
 use Rattle.hp_model.specs.Monarch.{Monarch}
 use Rattle.hp_model.specs.Account.{with_bound}
@@ -20,13 +20,13 @@ use Rattle.hp_exact.proofs.AddingTrail.{Trail}
 abbrev pub IsBit : List Write → ℕ → Type 0
 IsBit ws x = (byte_at ws x ≡ 0) ⊎ (byte_at ws x ≡ 1)
 
--- an add runs: so many of its attempts have opened the gate, or will have with this one, and its slot is its APIC ID's place among those that were bound
+-- an add runs: so many of its attempts have opened the gate, or will have with this one, and its slot is its APIC ID's slot among those that were bound
 -- before its entries, or the next one
 pub record Runs (opened : ℕ) (old now : List ℕ) (attempt apic slot : ℕ) : Type 0 where
   pub tries : opened ≡ attempt
   pub few : attempt ≤ 3
   pub grown : now ≡ with_bound (Some apic) old
-  pub is_place : slot ≡ place_of now apic
+  pub is_place : slot ≡ slot_among now apic
 
 abbrev pub RunsBy : ℕ → List ℕ → Monarch → Type 0
 RunsBy n old r = Runs n old r.slots.bound r.add.attempt r.add.apic r.add.slot
@@ -47,7 +47,7 @@ pub record CompleteAdd (t : Trail) (old now : List ℕ) (home : ℕ → ℕ → 
   pub same_apic : apic ≡ add.apic
   pub same_slot : slot ≡ add.slot
   pub grown : now ≡ with_bound (Some add.apic) old
-  pub is_place : add.slot ≡ place_of now add.apic
+  pub is_place : add.slot ≡ slot_among now add.apic
   pub arrived : t.arrived ≡ true
   pub entered : t.entered ≡ true
   pub there : home cpu slot
@@ -85,7 +85,7 @@ Told polls t old now home a (outcome.Refused why) = ToldNot polls t a why
 
 -- at each label, with these APIC IDs bound before the entries of the outcome, this memory, and this said of a processor that is at home in a slot
 abbrev pub AddAt : Layout → Trail → List ℕ → List Write → (ℕ → ℕ → Type 0) → Monarch → Label → Type 0
-AddAt y t old ws home r NB = (t.opened ≡ 0) × (r.slots.bound ≡ with_bound (Some r.add.apic) old) × (r.add.slot ≡ place_of r.slots.bound r.add.apic)
+AddAt y t old ws home r NB = (t.opened ≡ 0) × (r.slots.bound ≡ with_bound (Some r.add.apic) old) × (r.add.slot ≡ slot_among r.slots.bound r.add.apic)
 AddAt y t old ws home r N0 = RunsBy (t.opened + 1) old r
 AddAt y t old ws home r N1 = RunsBy (t.opened + 1) old r × IsBit ws (arrived_byte y r.add.slot)
 AddAt y t old ws home r N2 = RunsBy (t.opened + 1) old r × IsBit ws (arrived_byte y r.add.slot) × IsBit ws flag

@@ -51,17 +51,17 @@ is_modern_due (Refused fact) = false
 is_modern_due (Handed requested) = true
 
 -- the stage goes on
-abbrev pub goes_on : Stage → Bool
-goes_on (Boots done supported) = true
-goes_on (Refused fact) = false
-goes_on (Handed requested) = true
+abbrev pub may_go_on : Stage → Bool
+may_go_on (Boots done supported) = true
+may_go_on (Refused fact) = false
+may_go_on (Handed requested) = true
 
 -- before the hand-over
 pub record Begun (p : Platform) (past : List Transition) (s : State) : Type 0 where
   pub told : account p (entries_of past) ≡ account_start
   pub agrees : Agrees p s.block s.cpus
   pub modern : is_modern_due s.stage ≡ true → s.block.modern ≡ true
-  pub bytes : goes_on s.stage ≡ true → (slot : ℕ) → 1 ≤ slot → length p.boot ≤ slot → slot < 0x1000 → byte_at s.writes (release_byte (layout_of p) slot) ≡ 0
+  pub bytes : may_go_on s.stage ≡ true → (slot : ℕ) → 1 ≤ slot → length p.boot ≤ slot → slot < 0x1000 → byte_at s.writes (release_byte (layout_of p) slot) ≡ 0
 
 told_none : (p : Platform) → account p [] ≡ account_start
 unfolding since newest triples disturbed_in
@@ -237,7 +237,7 @@ begun_goes p past s t e sound booting good is h =
         let kept : LeavesLocked s t = subst (λ (u : State). LeavesLocked s u) mk.state (boot_leaves p s e.event mk.after booting mk.step) in
         (kept.left x hidden).byte ∙ h.bytes (rw step.stage refl) slot some past_it small
 
-    bytes : goes_on t.stage ≡ true → (slot : ℕ) → 1 ≤ slot → length p.boot ≤ slot → slot < 0x1000 → byte_at t.writes (release_byte (layout_of p) slot) ≡ 0
+    bytes : may_go_on t.stage ≡ true → (slot : ℕ) → 1 ≤ slot → length p.boot ≤ slot → slot < 0x1000 → byte_at t.writes (release_byte (layout_of p) slot) ≡ 0
     bytes on slot some past_it small = by_good good
       where
         by_done : (k : IsBooting p t) → (c : Bool) → nat_le k.done (17 + ext_count p.tseg_mib) ≡ c → byte_at t.writes (release_byte (layout_of p) slot) ≡ 0
@@ -250,7 +250,7 @@ begun_goes p past s t e sound booting good is h =
 
         by_good : IsGood p t → byte_at t.writes (release_byte (layout_of p) slot) ≡ 0
         by_good (inl k) = by_done k (nat_le k.done (17 + ext_count p.tseg_mib)) refl
-        by_good (inr (inl k)) = absurd (let f : goes_on (Refused k.fact) ≡ true = subst (λ g. goes_on g ≡ true) k.stage on in cc)
+        by_good (inr (inl k)) = absurd (let f : may_go_on (Refused k.fact) ≡ true = subst (λ g. may_go_on g ≡ true) k.stage on in cc)
         by_good (inr (inr k)) =
             let last = stage_last p.tseg_mib (boot_refusal p.tseg_mib step.done v) step.done step.supported v (subst (λ g. is_handed g ≡ true) stage_is k.handed) in
             left (let more = last in omega (arith, more)) slot some past_it small
@@ -286,7 +286,7 @@ hands_over p past t h handed outside =
     due (Refused fact) e = absurd cc
     due (Handed requested) e = refl
 
-    on : (g : Stage) → is_handed g ≡ true → goes_on g ≡ true
+    on : (g : Stage) → is_handed g ≡ true → may_go_on g ≡ true
     on (Boots done supported) e = absurd cc
     on (Refused fact) e = absurd cc
     on (Handed requested) e = refl

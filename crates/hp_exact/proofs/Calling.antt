@@ -22,7 +22,7 @@ use Rattle.hp_model.specs.Handlers.{Seat, Next, want_at, next_at, address_of_lab
 use Rattle.hp_model.specs.State.{State, at}
 use Rattle.hp_model.specs.Ports.{without_ejected}
 use Rattle.hp_model.specs.Access.{access_effect, stands_in_smm}
-use Rattle.hp_model.specs.Firmware.{seat, go_on}
+use Rattle.hp_model.specs.Firmware.{seat, moved_in_smm}
 use Rattle.hp_model.specs.Step.{is_after_broadcast}
 use Rattle.hp_sealed.specs.Left.{Sound}
 use Rattle.hp_sealed.proofs.Left.{pick}
@@ -35,7 +35,7 @@ use Rattle.hp_exact.proofs.Monarchs.{is_among}
 use Rattle.hp_exact.proofs.Naming.{Ids, aimed, Own, one_cpu}
 use Rattle.hp_exact.proofs.Hits.{struck, strikes, AllAlike, row_alike, keeps_acted}
 use Rattle.hp_exact.proofs.Latching.{Latches, latches_alike, latches_absent, latches_less, latches_keeps, latches_out, latches_started, latched_set}
-use Rattle.hp_exact.proofs.Invariant.{Latched, is_stood_at, is_calling}
+use Rattle.hp_exact.proofs.Invariant.{Latched, is_at_label, is_calling}
 
 -- others are called in from S2 on
 pub after_row : (y : Layout) (q : Seat) (r : Monarch) (l : Label) (v : ℕ) → part_of l ≡ Monarchs → r.label ≡ l → l ≢ S2 → is_after_broadcast (next_at y q r l v).monarch.label ≡ true → is_after_broadcast l ≡ true
@@ -65,7 +65,7 @@ latches_first p called c sound is e = absurd (none (c.smbase == 0x30000) called 
     far : (base b : ℕ) → 0x800000 ≤ base → b ≡ base + 0x20000 + 0 → (b == 0x30000) ≡ false
     far base b above is = grind (arith, nat_tests)
 
-    none : (x a : Bool) → x ≡ false → ((x && is_stood_at F6 c) || (a && false)) ≡ true → ⊥
+    none : (x a : Bool) → x ≡ false → ((x && is_at_label F6 c) || (a && false)) ≡ true → ⊥
     none true a f e = cc
     none false true f e = cc
     none false false f e = cc
@@ -145,7 +145,7 @@ pub latched_row : (p : Platform) (s : State) (l : Label) (a : Access) (v : ℕ) 
     → Latched (is_calling p s.monarch) s.cpus → (is_calling p s.monarch ≡ true → is_among l (N5 ∷ N6 ∷ []) ≡ true → Woken p s.monarch s.cpus)
     → Latched (is_calling p (next_at (layout_of p) (seat p s 0) s.monarch l v).monarch) (led_on p s 0 l v (access_effect p 0 true a s)).cpus
 latched_row p s l a v sound ids stood here wants h woken =
-    latched_set called_after u.cpus 0 (go_on (at s 0).smbase n (at u 0)) others
+    latched_set called_after u.cpus 0 (moved_in_smm (at s 0).smbase n (at u 0)) others
     (pick (Latches called_after 0) (stands_in_smm (at u 0)) (moved (address_of_label (at s 0).smbase n.label) n.base (at u 0)) (at u 0) (latches_first p called_after (moved (address_of_label (at s 0).smbase n.label) n.base (at u 0)) sound based) (latches_first p called_after (at u 0) sound based))
   where
     n : Next
@@ -186,7 +186,7 @@ latched_row p s l a v sound ids stood here wants h woken =
 -- an outcome is told
 pub latched_told : (p : Platform) (s : State) → Sound p → AtMonarch p s T → Latched (is_calling p s.monarch) s.cpus → Latched (is_calling p (next_at (layout_of p) (seat p s 0) s.monarch T 0).monarch) (led_on p s 0 T 0 s).cpus
 latched_told p s sound here h =
-    latched_set called_after s.cpus 0 (go_on (at s 0).smbase n (at s 0)) (λ j other. latches_less (is_calling p s.monarch) called_after j (at s j) less (h j))
+    latched_set called_after s.cpus 0 (moved_in_smm (at s 0).smbase n (at s 0)) (λ j other. latches_less (is_calling p s.monarch) called_after j (at s j) less (h j))
     (pick (Latches called_after 0) (stands_in_smm (at s 0)) (moved (address_of_label (at s 0).smbase n.label) n.base (at s 0)) (at s 0) (latches_first p called_after (moved (address_of_label (at s 0).smbase n.label) n.base (at s 0)) sound here.smbase) (latches_first p called_after (at s 0) sound here.smbase))
   where
     n : Next

@@ -29,7 +29,7 @@ use Rattle.hp_model.specs.Step.{insert, request_removal, enter_smm, leave_smm, i
 use Rattle.hp_model.specs.Runs.{run_on}
 use Rattle.hp_model.specs.Transitions.{Transition, entries_of}
 use Rattle.hp_model.specs.Account.{is_at}
-use Rattle.hp_model.specs.Sessions.{bounds_session, tells, ends_outcome}
+use Rattle.hp_model.specs.Sessions.{bounds_session, is_tell, ends_outcome}
 use Rattle.hp_model.specs.Outcomes.{own_of, values_at}
 use Rattle.hp_model.proofs.AtEach.{made}
 use Rattle.hp_sealed.specs.Left.{Sound}
@@ -98,7 +98,7 @@ module _ (p : Platform) (fit : Sound p) (past : List Transition) (s : State) (st
   Follows e t = Owns p t.disturbed t.monarch → Now e t
 
   -- steps of others, and of the host
-  same_said : (e : Entry) (t : State) → ((m : Label) → part_of m ≡ Monarchs → is_at p m e ≡ false) → tells e ≡ false → bounds_session e ≡ false → t.monarch ≡ s.monarch → (t.disturbed ≡ false → s.disturbed ≡ false)
+  same_said : (e : Entry) (t : State) → ((m : Label) → part_of m ≡ Monarchs → is_at p m e ≡ false) → is_tell e ≡ false → bounds_session e ≡ false → t.monarch ≡ s.monarch → (t.disturbed ≡ false → s.disturbed ≡ false)
       → (is_among s.monarch.label ejecting ≡ true → IsBit p s.writes s.monarch.eject.slot → IsBit p t.writes s.monarch.eject.slot) → Now e t
   same_said e t unseen silent within same quiet bit =
       let own = ap entries_of (own_more p (made s e t) past (elsewhere p e unseen silent within)) in

@@ -14,7 +14,7 @@ use Rattle.hp_model.specs.Cpu.{smm_address}
 use Rattle.hp_model.specs.Boot.{is_handed}
 use Rattle.hp_model.specs.Labels.{Part, First, Relocated, Monarch as Monarchs, part_of, mark_of}
 use Rattle.hp_model.specs.SharedBytes.{layout_of}
-use Rattle.hp_model.specs.Handlers.{runs_at, is_due}
+use Rattle.hp_model.specs.Handlers.{runs_at, is_current}
 use Rattle.hp_model.specs.State.{State, at, start}
 use Rattle.hp_model.specs.Step.{is_after_broadcast}
 use Rattle.hp_model.specs.Runs.{run_on}
@@ -25,7 +25,7 @@ use Rattle.hp_model.proofs.AtEach.{made}
 use Rattle.hp_sealed.specs.Left.{Sound}
 use Rattle.hp_model.proofs.Marks.{same_label as one_label}
 use Rattle.hp_safety.proofs.Needs.{Nothing, Ejecting, need_of, MonarchNeeds, Needs}
-use Rattle.hp_safety.proofs.Invariant.{Stands, AtCell, facts_of}
+use Rattle.hp_safety.proofs.Invariant.{IsAtCell, AtCell, facts_of}
 use Rattle.hp_safety.proofs.Runs.{IsHanded}
 use Rattle.hp_exact.proofs.Stood.{stood}
 use Rattle.hp_exact.proofs.Monarchs.{is_among, ejecting}
@@ -71,14 +71,14 @@ eject_slot p s h mine = by_address (smm_address (at s 0)) refl
     by_part l First is runs a c = absurd cc
     by_part l Relocated is runs a c = absurd cc
     by_part l Monarchs is runs a c =
-        let due = subst (λ q. is_due s.monarch q l ≡ true) is c.due in
+        let due = subst (λ q. is_current s.monarch q l ≡ true) is c.current in
         let met = c.met in
         of_monarch l is (subst (λ q. Needs (facts_of p s.monarch s.writes (apic_of p 0) (at s 0).base) q (need_of l)) is met) (one_label l s.monarch.label (eqb-true (mark_of l) (mark_of s.monarch.label) due))
 
     by_address : (o : Option ℕ) → smm_address (at s 0) ≡ o → s.monarch.eject.slot < count_of p
     by_address None is = absurd (let both : Nothing ≡ Ejecting = sym (h.rests is) ∙ needs.1 in cc)
     by_address (Some a) is =
-        let c : Stands p s.monarch s.writes 0 (at s 0).smbase (at s 0).base (Some a) = subst (Stands p s.monarch s.writes 0 (at s 0).smbase (at s 0).base) is (h.stand.each 0) in
+        let c : IsAtCell p s.monarch s.writes 0 (at s 0).smbase (at s 0).base (Some a) = subst (IsAtCell p s.monarch s.writes 0 (at s 0).smbase (at s 0).base) is (h.stand.each 0) in
         by_part c.0 (part_of c.0) refl c.1.runs a c.1
 
 -- every state of a run

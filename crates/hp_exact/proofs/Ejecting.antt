@@ -19,10 +19,10 @@ use Rattle.hp_model.specs.Block.{is_in}
 use Rattle.hp_model.specs.Labels.{Monarch as Monarchs, part_of}
 use Rattle.hp_model.specs.SharedBytes.{layout_of, parked_byte}
 use Rattle.hp_model.specs.Slots.{known_from}
-use Rattle.hp_model.specs.Collection.{Report, Collection, Collected, CollectsAt, CollectedAll, collection_start, next_processor}
-use Rattle.hp_model.specs.Add.{Led, Ends, failed, is_last_look}
+use Rattle.hp_model.specs.Collection.{Report, Collection, CollectNext, CollectsAt, CollectEnds, collection_start, next_processor}
+use Rattle.hp_model.specs.Add.{AddNext, Ends, failed, is_last_look}
 use Rattle.hp_model.specs.Eject.{EjectsAt}
-use Rattle.hp_model.specs.Monarch.{Monarch, Facts, Class, Tells, Adds, Ejects, is_own, class, held_class, facts_of, at_label, look_at, noted, took, answered, taken_up, next_report, collected, told, led, eject_led}
+use Rattle.hp_model.specs.Monarch.{Monarch, Facts, Decision, ToTell, ToAdd, ToEject, is_own, decision, held_decision, facts_of, at_label, look_at, noted, took, answered, taken_up, next_report, after_collection, after_tell, after_add, after_eject}
 use Rattle.hp_model.specs.Handlers.{Seat, next_at}
 use Rattle.hp_model.specs.Outcomes.{values_at, reads_zeros, is_still_pending}
 use Rattle.hp_sealed.proofs.Left.{pick, pick_by}
@@ -94,37 +94,37 @@ SaidAt p own d ws r _ = Unit {0}
 abbrev pub Owns : Platform → Bool → Monarch → Type 0
 Owns p d r = is_among r.label (T ∷ []) ≡ true → d ≡ false → list_all (is_own p.apic) r.collection.reports ≡ true
 
--- what a class tells
-abbrev judges : (Outcome → Bool) → Class → Bool
-judges f (Tells o) = f o
-judges f Adds = true
-judges f Ejects = true
+-- what a decision tells
+abbrev judges : (Outcome → Bool) → Decision → Bool
+judges f (ToTell o) = f o
+judges f ToAdd = true
+judges f ToEject = true
 
-class_shows : (p : Platform) (own : List Entry) (f : Facts) (t : Report) → judges (shows_reads p own) (class f t) ≡ true
-class_shows p own f t =
-    let g = λ (c : Class). judges (shows_reads p own) c ≡ true in
+decision_shows : (p : Platform) (own : List Entry) (f : Facts) (t : Report) → judges (shows_reads p own) (decision f t) ≡ true
+decision_shows p own f t =
+    let g = λ (c : Decision). judges (shows_reads p own) c ≡ true in
     pick g (not f.own) _ _ refl
     (pick g (not (bit_and t.status 1 == 1)) _ _ refl
     (pick g (bit_and t.status 0x12 == 0x12) _ _ refl
     (pick g (bit_and t.status 2 == 2) _ _ (pick g f.known _ _ refl (by_held f.held))
     (pick g (not (bit_and f.features 4 == 4)) _ _ refl (pick g (not f.known) _ _ refl (pick g (f.look == 0) _ _ refl refl))))))
   where
-    by_held : (o : Option ℕ) → judges (shows_reads p own) (held_class o t) ≡ true
+    by_held : (o : Option ℕ) → judges (shows_reads p own) (held_decision o t) ≡ true
     by_held None = refl
-    by_held (Some a) = pick (λ (c : Class). judges (shows_reads p own) c ≡ true) (a == t.apic) _ _ refl refl
+    by_held (Some a) = pick (λ (c : Decision). judges (shows_reads p own) c ≡ true) (a == t.apic) _ _ refl refl
 
-class_may : (f : Facts) (t : Report) → f.own ≡ true → judges may_tell (class f t) ≡ true
-class_may f t own =
-    let g = λ (c : Class). judges may_tell c ≡ true in
+decision_may : (f : Facts) (t : Report) → f.own ≡ true → judges may_tell (decision f t) ≡ true
+decision_may f t own =
+    let g = λ (c : Decision). judges may_tell c ≡ true in
     pick_by g (not f.own) _ _ (λ e. absurd (let n : not f.own ≡ false = rw own refl in let both : true ≡ false = sym e ∙ n in cc))
     (λ _. pick g (not (bit_and t.status 1 == 1)) _ _ refl
     (pick g (bit_and t.status 0x12 == 0x12) _ _ refl
     (pick g (bit_and t.status 2 == 2) _ _ (pick g f.known _ _ refl (by_held f.held))
     (pick g (not (bit_and f.features 4 == 4)) _ _ refl (pick g (not f.known) _ _ refl (pick g (f.look == 0) _ _ refl refl))))))
   where
-    by_held : (o : Option ℕ) → judges may_tell (held_class o t) ≡ true
+    by_held : (o : Option ℕ) → judges may_tell (held_decision o t) ≡ true
     by_held None = refl
-    by_held (Some a) = pick (λ (c : Class). judges may_tell c ≡ true) (a == t.apic) _ _ refl refl
+    by_held (Some a) = pick (λ (c : Decision). judges may_tell c ≡ true) (a == t.apic) _ _ refl refl
 
 same_list : (xs ys : List ℕ) → xs ≡ ys → bytes_eq xs ys ≡ true
 same_list xs ys e = (bytes_eq-Decides xs ys).1 e
@@ -144,26 +144,26 @@ module _ (p : Platform) (own : List Entry) (d : Bool) (ws : List Write) where
       first_own : (t : Report) (ts : List Report) → drop r.taken r.collection.reports ≡ t ∷ ts → list_all (is_own p.apic) r.collection.reports ≡ true → is_own p.apic t ≡ true
       first_own t ts is all = (and_parts (is_own p.apic t) (list_all (is_own p.apic) ts) (subst (λ xs. list_all (is_own p.apic) xs ≡ true) is (all_drop (is_own p.apic) r.taken r.collection.reports all))).0
 
-      by_class : (t : Report) (ts : List Report) (c : Class) → drop r.taken r.collection.reports ≡ t ∷ ts → class (facts_of p.apic r t) t ≡ c → Then (answered c t (took r))
-      by_class t ts (Tells o) is judged = λ owns. (
-        subst (λ c. judges (shows_reads p own) c ≡ true) judged (class_shows p own (facts_of p.apic r t) t),
-        λ quiet. subst (λ c. judges may_tell c ≡ true) judged (class_may (facts_of p.apic r t) t (first_own t ts is (owns refl quiet))),
+      by_decision : (t : Report) (ts : List Report) (c : Decision) → drop r.taken r.collection.reports ≡ t ∷ ts → decision (facts_of p.apic r t) t ≡ c → Then (answered c t (took r))
+      by_decision t ts (ToTell o) is judged = λ owns. (
+        subst (λ c. judges (shows_reads p own) c ≡ true) judged (decision_shows p own (facts_of p.apic r t) t),
+        λ quiet. subst (λ c. judges may_tell c ≡ true) judged (decision_may (facts_of p.apic r t) t (first_own t ts is (owns refl quiet))),
       )
-      by_class t ts Adds is judged = λ owns. tt
-      by_class t ts Ejects is judged = λ owns. none
+      by_decision t ts ToAdd is judged = λ owns. tt
+      by_decision t ts ToEject is judged = λ owns. none
 
       by_reports : (xs : List Report) → drop r.taken r.collection.reports ≡ xs → Then (taken_up p.apic xs r)
       by_reports [] is = λ owns. tt
-      by_reports (t ∷ ts) is = by_class t ts (class (facts_of p.apic r t) t) is refl
+      by_reports (t ∷ ts) is = by_decision t ts (decision (facts_of p.apic r t) t) is refl
 
-  abbrev Led2 : Monarch → Collected → Type 0
-  Led2 r w = Then (collected p.apic w r)
+  abbrev Led2 : Monarch → CollectNext → Type 0
+  Led2 r w = Then (after_collection p.apic w r)
 
   said_processor : (n : ℕ) (r : Monarch) (c : Collection) → values_at p E2 own ≡ [] → Led2 r (next_processor n c)
-  said_processor n r c none = pick (Led2 r) (nat_lt (c.cpu + 1) n) (CollectsAt C1 (record c { cpu = c.cpu + 1 })) (CollectedAll (record c { cpu = c.cpu + 1 })) (λ owns. tt) (said_next (record r { collection = record c { cpu = c.cpu + 1 } }) none)
+  said_processor n r c none = pick (Led2 r) (nat_lt (c.cpu + 1) n) (CollectsAt C1 (record c { cpu = c.cpu + 1 })) (CollectEnds (record c { cpu = c.cpu + 1 })) (λ owns. tt) (said_next (record r { collection = record c { cpu = c.cpu + 1 } }) none)
 
-  abbrev Leads : Monarch → List ℕ → Led → Type 0
-  Leads r last w = Then (led w (record r { last = last }))
+  abbrev Leads : Monarch → List ℕ → AddNext → Type 0
+  Leads r last w = Then (after_add w (record r { last = last }))
 
   said_failed : (r : Monarch) (last : List ℕ) (why : Refusal) → shows_reads_of p own why ≡ true → may_refuse why ≡ true → Leads r last (failed (Refused why) r.add)
   said_failed r last why shows may = pick (Leads r last) (nat_lt r.add.attempt 3) _ (Ends (Refused why)) (λ owns. tt) (λ owns. (shows, λ quiet. may))
@@ -189,12 +189,12 @@ module _ (p : Platform) (own own2 : List Entry) (d d2 : Bool) (ws ws2 : List Wri
   here l is = subst (SaidAt p own d ws r) is before
 
   -- a look at the parked byte
-  looks_once : (h : Looked p own r.eject.polls) → Says p own own2 d2 ws ws2 r E2 v → IsBit p ws r.eject.slot → (b : Bool) → (v == 1) ≡ b → v ≤ 1 → Now (eject_led (if v == 1 then EjectsAt E4a r.eject else if nat_le r.eject.polls 1 then EjectsAt E3 r.eject else EjectsAt E2 (record r.eject { polls = r.eject.polls - 1 })) r)
+  looks_once : (h : Looked p own r.eject.polls) → Says p own own2 d2 ws ws2 r E2 v → IsBit p ws r.eject.slot → (b : Bool) → (v == 1) ≡ b → v ≤ 1 → Now (after_eject (if v == 1 then EjectsAt E4a r.eject else if nat_le r.eject.polls 1 then EjectsAt E3 r.eject else EjectsAt E2 (record r.eject { polls = r.eject.polls - 1 })) r)
   looks_once h says bit true is small = rw is (λ owns. tt)
   looks_once h says bit false is small =
       let zero_v : v ≡ 0 = zero_of v is small in
       let read : values_at p E2 own2 ≡ replicate (suc h.looks) 0 = says.reads refl ∙ (ap (λ n. n ∷ values_at p E2 own) zero_v ∙ ap (λ xs. 0 ∷ xs) h.zeros) in
-      rw is (pick_by (λ w. Now (eject_led w r)) (nat_le r.eject.polls 1) (EjectsAt E3 r.eject) (EjectsAt E2 (record r.eject { polls = r.eject.polls - 1 }))
+      rw is (pick_by (λ w. Now (after_eject w r)) (nat_le r.eject.polls 1) (EjectsAt E3 r.eject) (EjectsAt E2 (record r.eject { polls = r.eject.polls - 1 }))
       (λ last owns. read ∙ ap (λ n. replicate n 0) (last_of h.looks r.eject.polls p.polls h.all h.some last))
       (λ more owns. (record { looks = suc h.looks; zeros = read; all = more_of h.looks r.eject.polls p.polls h.all more; some = some_of r.eject.polls more }, let k = says.still refl in omega (arith, k, bit))))
     where
@@ -234,26 +234,26 @@ module _ (p : Platform) (own own2 : List Entry) (d d2 : Bool) (ws ws2 : List Wri
   said_row S2 mine is says = said_look p own2 d2 ws2 p.polls (known_from r.slots 1) r
   said_row S3 mine is says = pick Now ((v == 1) || nat_le r.polls 1) _ _ (said_look p own2 d2 ws2 p.polls (known_from r.slots (r.slot + 1)) (noted r.slot v r)) (λ owns. subst (λ m. SaidAt p own2 d2 ws2 (record r { polls = r.polls - 1; last = (noted r.slot v r).last }) m) (sym is) tt)
   said_row S4 mine is says = pick Now (v == 4) (record r { label = C1; collection = collection_start; taken = 0 }) (at_label E5 r) (λ owns. tt) (λ owns. tt)
-  said_row C3 mine is says = pick (λ w. Now (collected p.apic w r)) (nat_lt v r.collection.cpu || not (nat_lt v (count_of p))) (CollectedAll r.collection) (CollectsAt C4 (record r.collection { cpu = v })) (said_next p own2 d2 ws2 (record r { collection = r.collection }) (says.anew refl)) (λ owns. tt)
-  said_row C4 mine is says = pick (λ w. Now (collected p.apic w r)) (bit_and v 0x12 == 0) (next_processor (count_of p) r.collection) (CollectsAt C5 (record r.collection { status = v })) (said_processor p own2 d2 ws2 (count_of p) r r.collection (says.anew refl)) (λ owns. tt)
+  said_row C3 mine is says = pick (λ w. Now (after_collection p.apic w r)) (nat_lt v r.collection.cpu || not (nat_lt v (count_of p))) (CollectEnds r.collection) (CollectsAt C4 (record r.collection { cpu = v })) (said_next p own2 d2 ws2 (record r { collection = r.collection }) (says.anew refl)) (λ owns. tt)
+  said_row C4 mine is says = pick (λ w. Now (after_collection p.apic w r)) (bit_and v 0x12 == 0) (next_processor (count_of p) r.collection) (CollectsAt C5 (record r.collection { status = v })) (said_processor p own2 d2 ws2 (count_of p) r r.collection (says.anew refl)) (λ owns. tt)
   said_row C6 mine is says = said_processor p own2 d2 ws2 (count_of p) r (record r.collection { reports = r.collection.reports ++ record { cpu = r.collection.cpu; status = r.collection.status; apic = v } ∷ [] }) (says.anew refl)
-  said_row N8a mine is says = pick (λ w. Now (led w r)) (v == 1) _ _ (λ owns. tt) (λ owns. tt)
-  said_row N8b mine is says = pick (λ w. Now (led w (noted r.add.slot v r))) (v == 1) _ _ (λ owns. tt) (pick (λ w. Now (led w (noted r.add.slot v r))) (is_last_look r.add) _ _ (λ owns. tt) (λ owns. tt))
-  said_row N9 mine is says = pick (λ w. Now (led w r)) r.add.seen _ _ (λ owns. tt) (said_failed p own2 d2 ws2 r r.last (NotAtGate r.add.cpu r.add.apic) refl refl)
-  said_row N11 mine is says = pick (λ w. Now (led w (noted r.add.slot v r))) (v == 1) _ _ (λ owns. (refl, λ quiet. refl)) (pick (λ w. Now (led w (noted r.add.slot v r))) (is_last_look r.add) _ _ (said_failed p own2 d2 ws2 r (noted r.add.slot v r).last (NotCheckedIn r.add.cpu r.add.apic) refl refl) (λ owns. tt))
+  said_row N8a mine is says = pick (λ w. Now (after_add w r)) (v == 1) _ _ (λ owns. tt) (λ owns. tt)
+  said_row N8b mine is says = pick (λ w. Now (after_add w (noted r.add.slot v r))) (v == 1) _ _ (λ owns. tt) (pick (λ w. Now (after_add w (noted r.add.slot v r))) (is_last_look r.add) _ _ (λ owns. tt) (λ owns. tt))
+  said_row N9 mine is says = pick (λ w. Now (after_add w r)) r.add.seen _ _ (λ owns. tt) (said_failed p own2 d2 ws2 r r.last (NotAtGate r.add.cpu r.add.apic) refl refl)
+  said_row N11 mine is says = pick (λ w. Now (after_add w (noted r.add.slot v r))) (v == 1) _ _ (λ owns. (refl, λ quiet. refl)) (pick (λ w. Now (after_add w (noted r.add.slot v r))) (is_last_look r.add) _ _ (said_failed p own2 d2 ws2 r (noted r.add.slot v r).last (NotCheckedIn r.add.cpu r.add.apic) refl refl) (λ owns. tt))
   said_row E0 mine is says = λ owns. (says.same refl ∙ here E0 is, let z = says.zeroed refl in omega (arith, z))
   said_row E1 mine is says = λ owns. (record { looks = 0; zeros = says.same refl ∙ (here E1 is).0; all = omega arith; some = polled }, let k = says.still refl in let b = (here E1 is).1 in omega (arith, k, b))
   said_row E2 mine is says = let h = here E2 is in looks_once h.0 says h.1 (v == 1) refl (says.bit refl h.1)
   said_row E3 mine is says = λ owns. (let e = says.same refl ∙ here E3 is in same_list _ _ e, λ quiet. refl)
   said_row E4b mine is says = pick (λ m. Now (at_label m r)) (is_late p.delivery) E4f E4c (λ owns. tt) (λ owns. tt)
   said_row E4e mine is says = λ owns. (refl, λ quiet. refl)
-  said_row E4g mine is says = pick_by (λ w. Now (eject_led w r)) (bit_and v 0x10 == 0x10) (EjectsAt E4h (record r.eject { status = v })) (EjectsAt E4c r.eject) (λ one owns. seen v (values_at p E4g own2) true (says.sees refl) one) (λ _ owns. tt)
+  said_row E4g mine is says = pick_by (λ w. Now (after_eject w r)) (bit_and v 0x10 == 0x10) (EjectsAt E4h (record r.eject { status = v })) (EjectsAt E4c r.eject) (λ one owns. seen v (values_at p E4g own2) true (says.sees refl) one) (λ _ owns. tt)
   said_row E4h mine is says = λ owns. (let h = here E4h is in let e = says.waits refl in subst (λ xs. (is_in r.eject.status xs && (bit_and r.eject.status 0x10 == 0x10)) ≡ true) (sym e) h, λ quiet. absurd (says.never refl quiet))
   said_row T mine is says = by_told r.outcome
     where
-      by_told : (o : Outcome) → Now (next_report p.apic (told o r))
-      by_told (Added cpu apic slot) = said_next p own2 d2 ws2 (told (Added cpu apic slot) r) (says.anew refl)
-      by_told (Ejected cpu apic slot) = said_next p own2 d2 ws2 (told (Ejected cpu apic slot) r) (says.anew refl)
+      by_told : (o : Outcome) → Now (next_report p.apic (after_tell o r))
+      by_told (Added cpu apic slot) = said_next p own2 d2 ws2 (after_tell (Added cpu apic slot) r) (says.anew refl)
+      by_told (Ejected cpu apic slot) = said_next p own2 d2 ws2 (after_tell (Ejected cpu apic slot) r) (says.anew refl)
       by_told (Refused why) = said_next p own2 d2 ws2 r (says.anew refl)
   said_row E5 mine is says = pick Now (nat_lt 1 (length r.slots.bound)) (record r { label = E6; slot = 1 }) (at_label E7 r) (λ owns. tt) (λ owns. tt)
   said_row E6 mine is says = pick Now (nat_lt (r.slot + 1) (length r.slots.bound)) (record r { label = E6; slot = r.slot + 1 }) (at_label E7 r) (λ owns. tt) (λ owns. tt)

@@ -9,7 +9,7 @@ use Rattle.hp_model.specs.declared.entries.Entry.{Entry}
 use Rattle.hp_model.specs.Platform.{IsFit}
 use Rattle.hp_model.specs.Block.{is_in}
 use Rattle.hp_model.specs.Boot.{is_handed}
-use Rattle.hp_model.specs.Slots.{place_of}
+use Rattle.hp_model.specs.Slots.{slot_among}
 use Rattle.hp_model.specs.State.{State, start}
 use Rattle.hp_model.specs.Firmware.{same_outcome}
 use Rattle.hp_model.specs.Events.{outcome_in}
@@ -74,8 +74,8 @@ goes p fits past s t e h is = record { refusing = next; knows = knows_on p fits 
 eject_by : (p : Platform) (past : List Transition) (s : State) (d : Bool) → is_disturbed p (entries_of past) ≡ d → s.monarch.slots.bound ≡ bound p (entries_of past) → (o u : Outcome) → Gone p (own_of p past) d s.monarch o → shows_reads p (entries_of (own_of p past)) o ≡ true → (d ≡ false → may_tell o ≡ true) → eject_shows_in p (telling p past s u) o ≡ true
 eject_by p past s d is same (Added cpu apic slot) u gone shows may = refl
 eject_by p past s d is same (Ejected cpu apic slot) u gone shows may =
-    and_from (is_in apic (bound p (entries_of past)) && (place_of (bound p (entries_of past)) apic == slot)) (is_disturbed p (entries_of past) || is_only (is_eject_of p cpu slot) (departures p (own_of p past)))
-    (subst (λ ids. (is_in apic ids && (place_of ids apic == slot)) ≡ true) same gone.0) (by_flag d is gone.1)
+    and_from (is_in apic (bound p (entries_of past)) && (slot_among (bound p (entries_of past)) apic == slot)) (is_disturbed p (entries_of past) || is_only (is_eject_of p cpu slot) (departures p (own_of p past)))
+    (subst (λ ids. (is_in apic ids && (slot_among ids apic == slot)) ≡ true) same gone.0) (by_flag d is gone.1)
   where
     by_flag : (b : Bool) → is_disturbed p (entries_of past) ≡ b → (b ≡ false → is_only (is_eject_of p cpu slot) (departures p (own_of p past)) ≡ true) → (is_disturbed p (entries_of past) || is_only (is_eject_of p cpu slot) (departures p (own_of p past))) ≡ true
     by_flag true f alone = rw f refl

@@ -7,7 +7,7 @@ use Rattle.hp_model.specs.declared.processors.Cpu.{Cpu}
 use Rattle.hp_model.specs.Cpu.{cpu_at, may_take_init, is_running, is_outside, is_in_smm, address_in, smm_address, moved}
 use Rattle.hp_model.specs.Handlers.{Next, address_of_label}
 use Rattle.hp_model.specs.Access.{stands_in_smm}
-use Rattle.hp_model.specs.Firmware.{go_on}
+use Rattle.hp_model.specs.Firmware.{moved_in_smm}
 use Rattle.hp_sealed.proofs.Left.{pick}
 use Rattle.hp_exact.proofs.Hits.{Alike}
 
@@ -60,7 +60,7 @@ init_outside c may =
     let b = and_parts (not c.smi) (c.init && is_outside c.mode) a.1 in
     none_outside c (outside_in c.mode (and_parts c.init (is_outside c.mode) b.1).1)
 
-pub present_go : (smbase : ℕ) (n : Next) (c : Cpu) → (go_on smbase n c).present ≡ c.present
+pub present_go : (smbase : ℕ) (n : Next) (c : Cpu) → (moved_in_smm smbase n c).present ≡ c.present
 present_go smbase n c = pick (λ (d : Cpu). d.present ≡ c.present) (stands_in_smm c) (moved (address_of_label smbase n.label) n.base c) c refl refl
 
 -- the new item is at the first place

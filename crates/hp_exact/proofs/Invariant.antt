@@ -55,17 +55,17 @@ abbrev pub Released : Platform → Monarch → List Write → Type 0
 Released p r ws = (slot : ℕ) → 1 ≤ slot → slot < 0x1000 → is_kept_in r slot ≡ true → byte_at ws (release_byte (layout_of p) slot) ≡ 0
 
 -- who must have its SMI latch set: at F6 everybody; and while others are called in each other processor outside SMM, if it doesn't wait, and at R4 and R5
-abbrev pub is_stood_at : Label → Cpu → Bool
-is_stood_at l c = same_address (smm_address c) (Some (address_of_label c.smbase l))
+abbrev pub is_at_label : Label → Cpu → Bool
+is_at_label l c = same_address (smm_address c) (Some (address_of_label c.smbase l))
 
 abbrev pub is_default : Cpu → Bool
 is_default c = c.smbase == 0x30000
 
 abbrev pub is_leaving : Cpu → Bool
-is_leaving c = (c.present && is_outside c.mode) || (not (is_default c) && (is_stood_at R4 c || is_stood_at R5 c))
+is_leaving c = (c.present && is_outside c.mode) || (not (is_default c) && (is_at_label R4 c || is_at_label R5 c))
 
 abbrev pub must_latch : Bool → ℕ → Cpu → Bool
-must_latch called k c = (is_default c && is_stood_at F6 c) || (called && (not (k == 0) && is_leaving c))
+must_latch called k c = (is_default c && is_at_label F6 c) || (called && (not (k == 0) && is_leaving c))
 
 abbrev pub Latched : Bool → List Cpu → Type 0
 Latched called cs = (k : ℕ) → must_latch called k (cpu_at cs k) ≡ true → (cpu_at cs k).smi ≡ true

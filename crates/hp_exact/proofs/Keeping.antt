@@ -18,7 +18,7 @@ use Rattle.hp_model.specs.SharedBytes.{layout_of}
 use Rattle.hp_model.specs.Handlers.{Next, want_at, next_at, address_of_label}
 use Rattle.hp_model.specs.State.{State, at}
 use Rattle.hp_model.specs.Access.{access_effect, answer_to}
-use Rattle.hp_model.specs.Firmware.{seat, go_on, same_outcome}
+use Rattle.hp_model.specs.Firmware.{seat, moved_in_smm, same_outcome}
 use Rattle.hp_model.specs.Step.{is_after_broadcast}
 use Rattle.hp_model.specs.Runs.{run_on}
 use Rattle.hp_model.specs.Transitions.{Transition, entries_of}
@@ -52,13 +52,13 @@ module _ (p : Platform) (sound : Sound p) (ids : Ids p) (past : List Transition)
   Follows e t = Invariant p (made s e t ∷ past) t
 
   -- a row of the monarch's: its SMI handler goes on in SMM
-  still_in : (cs : List Cpu) (smbase : ℕ) (n : Next) (a : ℕ) → smm_address (cpu_at cs 0) ≡ Some a → smm_address (cpu_at (slice_set cs 0 (go_on smbase n (cpu_at cs 0))) 0) ≡ None → ⊥
+  still_in : (cs : List Cpu) (smbase : ℕ) (n : Next) (a : ℕ) → smm_address (cpu_at cs 0) ≡ Some a → smm_address (cpu_at (slice_set cs 0 (moved_in_smm smbase n (cpu_at cs 0))) 0) ≡ None → ⊥
   still_in cs smbase n a is gone =
       let there = smm_present (cpu_at cs 0) a is in
       let stands = stands_of (cpu_at cs 0) a is in
-      let here : go_on smbase n (cpu_at cs 0) ≡ moved (address_of_label smbase n.label) n.base (cpu_at cs 0) = rw stands refl in
+      let here : moved_in_smm smbase n (cpu_at cs 0) ≡ moved (address_of_label smbase n.label) n.base (cpu_at cs 0) = rw stands refl in
       let now : smm_address (moved (address_of_label smbase n.label) n.base (cpu_at cs 0)) ≡ Some (address_of_label smbase n.label) = rw there refl in
-      let both : None ≡ Some (address_of_label smbase n.label) = sym gone ∙ (ap smm_address (set_first cs (go_on smbase n (cpu_at cs 0)) there ∙ here) ∙ now) in
+      let both : None ≡ Some (address_of_label smbase n.label) = sym gone ∙ (ap smm_address (set_first cs (moved_in_smm smbase n (cpu_at cs 0)) there ∙ here) ∙ now) in
       cc
 
   calm_row : (l : Label) (v : ℕ) → AtMonarch p s l → is_calling p (next_at (layout_of p) (seat p s 0) s.monarch l v).monarch ≡ true → (not (same_label l S2) && s.disturbed) ≡ false
@@ -111,7 +111,7 @@ module _ (p : Platform) (sound : Sound p) (ids : Ids p) (past : List Transition)
       n = next_at (layout_of p) (seat p s 0) s.monarch l v
 
       d : Cpu
-      d = go_on (at s 0).smbase n (at u 0)
+      d = moved_in_smm (at s 0).smbase n (at u 0)
 
       t : State
       t = ends (led_on p s 0 l v u) g (not (same_label l S2) && s.disturbed)
@@ -186,7 +186,7 @@ module _ (p : Platform) (sound : Sound p) (ids : Ids p) (past : List Transition)
       n = next_at (layout_of p) (seat p s 0) s.monarch T 0
 
       d : Cpu
-      d = go_on (at s 0).smbase n (at s 0)
+      d = moved_in_smm (at s 0).smbase n (at s 0)
 
       t : State
       t = ends (led_on p s 0 T 0 s) g s.disturbed

@@ -22,7 +22,7 @@ use Rattle.hp_model.specs.Handlers.{Next, want_at, next_at, address_of_label}
 use Rattle.hp_model.specs.State.{State, at, set_cpu}
 use Rattle.hp_model.specs.Ports.{writes_block}
 use Rattle.hp_model.specs.Access.{stands_in_smm, access_effect, answer_to}
-use Rattle.hp_model.specs.Firmware.{seat, go_on, with_session}
+use Rattle.hp_model.specs.Firmware.{seat, moved_in_smm, with_session}
 use Rattle.hp_model.specs.Step.{insert, request_removal, enter_smm, leave_smm, is_after_broadcast}
 use Rattle.hp_model.specs.Transitions.{Transition, entries_of}
 use Rattle.hp_model.specs.Account.{is_at}
@@ -218,7 +218,7 @@ module _ (p : Platform) (sound : Sound p) (ids : Ids p) (past : List Transition)
       n = next_at (layout_of p) (seat p s k) s.monarch l (value_in (answer_to true a s))
 
       d : Cpu
-      d = go_on (at s k).smbase n (at u k)
+      d = moved_in_smm (at s k).smbase n (at u k)
 
       t : State
       t = ends (led_on p s k l (value_in (answer_to true a s)) u) g s.disturbed

@@ -12,7 +12,7 @@ use Rattle.hp_model.specs.Labels.{index_of}
 use Rattle.hp_model.specs.Handlers.{address_of_label}
 use Rattle.hp_sealed.proofs.Starts.{set_all}
 use Rattle.hp_exact.proofs.Hits.{Alike, Keeps}
-use Rattle.hp_exact.proofs.Invariant.{is_stood_at, is_default, is_leaving, must_latch, Latched}
+use Rattle.hp_exact.proofs.Invariant.{is_at_label, is_default, is_leaving, must_latch, Latched}
 
 -- one processor's share
 abbrev pub Latches : Bool → ℕ → Cpu → Type 0
@@ -34,15 +34,15 @@ latches_absent called k e = absurd (let n : must_latch called k absent ≡ false
 
 -- no more is asked where nobody is called in
 pub latches_less : (called fewer : Bool) (k : ℕ) (c : Cpu) → (fewer ≡ true → called ≡ true) → Latches called k c → Latches fewer k c
-latches_less called fewer k c less h e = h (more (is_default c && is_stood_at F6 c) called fewer (not (k == 0) && is_leaving c) less e)
+latches_less called fewer k c less h e = h (more (is_default c && is_at_label F6 c) called fewer (not (k == 0) && is_leaving c) less e)
   where
     more : (x a b y : Bool) → (b ≡ true → a ≡ true) → (x || (b && y)) ≡ true → (x || (a && y)) ≡ true
     more true a b y less e = refl
     more false a true y less e = rw (less refl) e
     more false a false y less e = absurd cc
 
-must_uncalled : (k : ℕ) (c : Cpu) → must_latch false k c ≡ (is_default c && is_stood_at F6 c)
-must_uncalled k c = either (is_default c && is_stood_at F6 c)
+must_uncalled : (k : ℕ) (c : Cpu) → must_latch false k c ≡ (is_default c && is_at_label F6 c)
+must_uncalled k c = either (is_default c && is_at_label F6 c)
   where
     either : (x : Bool) → (x || false) ≡ x
     either true = refl
@@ -81,7 +81,7 @@ latches_out called k c is h e = by_tests called (k == 0) c.present (is_outside c
 
 -- whoever must, if it is outside SMM while others are called in
 pub must_leave : (k : ℕ) (c : Cpu) → k ≢ 0 → c.present ≡ true → is_outside c.mode ≡ true → must_latch true k c ≡ true
-must_leave k c other present outside = plain (is_default c && is_stood_at F6 c) (k == 0) c.present (is_outside c.mode) (not (is_default c) && (is_stood_at R4 c || is_stood_at R5 c)) (is_other k other) present outside
+must_leave k c other present outside = plain (is_default c && is_at_label F6 c) (k == 0) c.present (is_outside c.mode) (not (is_default c) && (is_at_label R4 c || is_at_label R5 c)) (is_other k other) present outside
   where
     is_other : (k : ℕ) → k ≢ 0 → (k == 0) ≡ false
     is_other k n = grind (arith, nat_tests)

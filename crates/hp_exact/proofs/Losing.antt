@@ -12,8 +12,8 @@ use Rattle.hp_model.specs.Block.{Block, slot_at}
 use Rattle.hp_model.specs.Labels.{Monarch as Monarchs, part_of}
 use Rattle.hp_model.specs.SharedBytes.{layout_of}
 use Rattle.hp_model.specs.Slots.{known_from}
-use Rattle.hp_model.specs.Collection.{Report, Collection, Collected, CollectsAt, CollectedAll, collection_start, next_processor}
-use Rattle.hp_model.specs.Monarch.{Monarch, at_label, look_at, noted, tells, adds, ejects, took, next_report, collected, told, eject_led, is_own, facts_of}
+use Rattle.hp_model.specs.Collection.{Report, Collection, CollectNext, CollectsAt, CollectEnds, collection_start, next_processor}
+use Rattle.hp_model.specs.Monarch.{Monarch, at_label, look_at, noted, at_tell, adds, ejects, took, next_report, after_collection, after_tell, after_eject, is_own, facts_of}
 use Rattle.hp_model.specs.Eject.{EjectsAt}
 use Rattle.hp_model.specs.Handlers.{Seat, next_at}
 use Rattle.hp_model.specs.Step.{is_after_broadcast}
@@ -21,7 +21,7 @@ use Rattle.hp_model.specs.Transitions.{Transition}
 use Rattle.hp_model.specs.Outcomes.{departures, is_none}
 use Rattle.hp_sealed.proofs.Left.{pick, pick_by}
 use Rattle.hp_exact.specs.Refusals.{is_blaming}
-use Rattle.hp_exact.proofs.Monarchs.{is_among, adding, ejecting, AddsOn, adds_on, next_by_class, class_tame}
+use Rattle.hp_exact.proofs.Monarchs.{is_among, adding, ejecting, AddsOn, adds_on, next_by_decision, decision_tame}
 use Rattle.hp_exact.proofs.Stages.{adding_alone}
 use Rattle.hp_exact.proofs.Naming.{own_is}
 use Rattle.hp_exact.proofs.Reporting.{no_more, told_same}
@@ -47,9 +47,9 @@ module _ (p : Platform) (own : List Transition) (b : Block) (cs : List Cpu) wher
 
   -- the next report
   losses_next : (r : Monarch) → list_all (is_there cs) (drop r.taken r.collection.reports) ≡ true → list_all (is_own p.apic) (drop r.taken r.collection.reports) ≡ true → is_none (departures p own) ≡ true → Now (next_report p.apic r)
-  losses_next r there own_ids none = next_by_class Now p.apic r
+  losses_next r there own_ids none = next_by_decision Now p.apic r
       (λ _. losses_plain (at_label E5 r) refl refl refl refl (λ e. absurd cc) (λ e. absurd cc))
-      (λ t ts is o judged. losses_plain (tells o (took r)) refl refl refl refl (λ e. none) (λ e. class_tame (facts_of p.apic r t) t o (and_parts (is_own p.apic t) (list_all (is_own p.apic) ts) (subst (λ xs. list_all (is_own p.apic) xs ≡ true) is own_ids)).0 judged))
+      (λ t ts is o judged. losses_plain (at_tell o (took r)) refl refl refl refl (λ e. none) (λ e. decision_tame (facts_of p.apic r t) t o (and_parts (is_own p.apic t) (list_all (is_own p.apic) ts) (subst (λ xs. list_all (is_own p.apic) xs ≡ true) is own_ids)).0 judged))
       (λ t ts _ passed. losses_plain (adds t (took r)) refl refl refl refl (λ e. none) (λ e. absurd cc))
       (λ t ts is passed. losses_wait (ejects t (took r)) refl refl refl (present_of t (and_parts (is_there cs t) (list_all (is_there cs) ts) (subst (λ xs. list_all (is_there cs) xs ≡ true) is there)).0 passed.there) (own_is p t passed.own).other none refl)
     where
@@ -60,11 +60,11 @@ module _ (p : Platform) (own : List Transition) (b : Block) (cs : List Cpu) wher
           plain true y e f = f
           plain false y e f = absurd cc
 
-  abbrev Led : Monarch → Collected → Type 0
-  Led r w = Now (collected p.apic w r)
+  abbrev Led : Monarch → CollectNext → Type 0
+  Led r w = Now (after_collection p.apic w r)
 
   losses_processor : (n : ℕ) (r : Monarch) (c : Collection) → list_all (is_there cs) (drop r.taken c.reports) ≡ true → list_all (is_own p.apic) (drop r.taken c.reports) ≡ true → is_none (departures p own) ≡ true → Led r (next_processor n c)
-  losses_processor n r c there own_ids none = pick (Led r) (nat_lt (c.cpu + 1) n) (CollectsAt C1 (record c { cpu = c.cpu + 1 })) (CollectedAll (record c { cpu = c.cpu + 1 }))
+  losses_processor n r c there own_ids none = pick (Led r) (nat_lt (c.cpu + 1) n) (CollectsAt C1 (record c { cpu = c.cpu + 1 })) (CollectEnds (record c { cpu = c.cpu + 1 }))
       (losses_plain (record r { label = C1; collection = record c { cpu = c.cpu + 1 } }) refl refl refl refl (λ e. absurd cc) (λ e. absurd cc))
       (losses_next (record r { collection = record c { cpu = c.cpu + 1 } }) there own_ids none)
 
@@ -118,11 +118,11 @@ module _ (p : Platform) (own own2 : List Transition) (b b2 : Block) (cs cs2 : Li
   losses_row C2 mine is deeds after = losses_plain p own2 b2 cs2 (at_label C3 r) refl refl refl refl (λ e. absurd cc) (λ e. absurd cc)
   losses_row C3 mine is deeds after =
       let c = r.collection in
-      pick (λ w. Then (collected p.apic w r)) (nat_lt v c.cpu || not (nat_lt v (count_of p))) (CollectedAll c) (CollectsAt C4 (record c { cpu = v }))
+      pick (λ w. Then (after_collection p.apic w r)) (nat_lt v c.cpu || not (nat_lt v (count_of p))) (CollectEnds c) (CollectsAt C4 (record c { cpu = v }))
       (losses_next p own2 b2 cs2 (record r { collection = c }) (deeds.there refl) (deeds.owned refl) (deeds.anew refl)) (losses_plain p own2 b2 cs2 (record r { label = C4; collection = record c { cpu = v } }) refl refl refl refl (λ e. absurd cc) (λ e. absurd cc))
   losses_row C4 mine is deeds after =
       let c = r.collection in
-      pick (λ w. Then (collected p.apic w r)) (bit_and v 0x12 == 0) (next_processor (count_of p) c) (CollectsAt C5 (record c { status = v }))
+      pick (λ w. Then (after_collection p.apic w r)) (bit_and v 0x12 == 0) (next_processor (count_of p) c) (CollectsAt C5 (record c { status = v }))
       (losses_processor p own2 b2 cs2 (count_of p) r c (deeds.there refl) (deeds.owned refl) (deeds.anew refl)) (losses_plain p own2 b2 cs2 (record r { label = C5; collection = record c { status = v } }) refl refl refl refl (λ e. absurd cc) (λ e. absurd cc))
   losses_row C5 mine is deeds after = losses_plain p own2 b2 cs2 (at_label C6 r) refl refl refl refl (λ e. absurd cc) (λ e. absurd cc)
   losses_row C6 mine is deeds after =
@@ -145,8 +145,8 @@ module _ (p : Platform) (own own2 : List Transition) (b b2 : Block) (cs cs2 : Li
   losses_row E0 mine is deeds after = losses_wait p own2 b2 cs2 (at_label E1 r) refl refl refl (deeds.present refl) ((before (rw is refl)).other (rw is refl)) (deeds.waits refl ((before (rw is refl)).kept (rw is refl))) refl
   losses_row E1 mine is deeds after = losses_wait p own2 b2 cs2 ((next_at (layout_of p) q r E1 v).monarch) refl refl refl (deeds.present refl) ((before (rw is refl)).other (rw is refl)) (deeds.waits refl ((before (rw is refl)).kept (rw is refl))) refl
   losses_row E2 mine is deeds after =
-      pick (λ w. Then (eject_led w r)) (v == 1) (EjectsAt E4a r.eject) _ (losses_wait p own2 b2 cs2 (record r { label = E4a; eject = r.eject }) refl refl refl (deeds.present refl) ((before (rw is refl)).other (rw is refl)) (deeds.waits refl ((before (rw is refl)).kept (rw is refl))) refl)
-      (pick (λ w. Then (eject_led w r)) (nat_le r.eject.polls 1) (EjectsAt E3 r.eject) (EjectsAt E2 (record r.eject { polls = r.eject.polls - 1 })) (losses_wait p own2 b2 cs2 (record r { label = E3; eject = r.eject }) refl refl refl (deeds.present refl) ((before (rw is refl)).other (rw is refl)) (deeds.waits refl ((before (rw is refl)).kept (rw is refl))) refl) (losses_wait p own2 b2 cs2 (record r { label = E2; eject = record r.eject { polls = r.eject.polls - 1 } }) refl refl refl (deeds.present refl) ((before (rw is refl)).other (rw is refl)) (deeds.waits refl ((before (rw is refl)).kept (rw is refl))) refl))
+      pick (λ w. Then (after_eject w r)) (v == 1) (EjectsAt E4a r.eject) _ (losses_wait p own2 b2 cs2 (record r { label = E4a; eject = r.eject }) refl refl refl (deeds.present refl) ((before (rw is refl)).other (rw is refl)) (deeds.waits refl ((before (rw is refl)).kept (rw is refl))) refl)
+      (pick (λ w. Then (after_eject w r)) (nat_le r.eject.polls 1) (EjectsAt E3 r.eject) (EjectsAt E2 (record r.eject { polls = r.eject.polls - 1 })) (losses_wait p own2 b2 cs2 (record r { label = E3; eject = r.eject }) refl refl refl (deeds.present refl) ((before (rw is refl)).other (rw is refl)) (deeds.waits refl ((before (rw is refl)).kept (rw is refl))) refl) (losses_wait p own2 b2 cs2 (record r { label = E2; eject = record r.eject { polls = r.eject.polls - 1 } }) refl refl refl (deeds.present refl) ((before (rw is refl)).other (rw is refl)) (deeds.waits refl ((before (rw is refl)).kept (rw is refl))) refl))
   losses_row E3 mine is deeds after = losses_plain p own2 b2 cs2 ((next_at (layout_of p) q r E3 v).monarch) refl refl refl refl (λ e. deeds.waits refl ((before (rw is refl)).kept (rw is refl))) (λ e. refl)
   losses_row E4a mine is deeds after = losses_wait p own2 b2 cs2 (at_label E4b r) refl refl refl (deeds.present refl) ((before (rw is refl)).other (rw is refl)) (deeds.waits refl ((before (rw is refl)).kept (rw is refl))) refl
   losses_row E4b mine is deeds after =
@@ -160,12 +160,12 @@ module _ (p : Platform) (own own2 : List Transition) (b b2 : Block) (cs cs2 : Li
       let looks = deeds.looks refl in
       record { waits = λ e. absurd cc; other = λ e. absurd cc; cleared = λ e. looks.1; looked = λ e. looks.0; never = refl; kept = λ e. absurd cc; tame = λ e. absurd cc }
   losses_row E4g mine is deeds after =
-      pick_by (λ w. Then (eject_led w r)) (bit_and v 0x10 == 0x10) (EjectsAt E4h (record r.eject { status = v })) (EjectsAt E4c r.eject)
+      pick_by (λ w. Then (after_eject w r)) (bit_and v 0x10 == 0x10) (EjectsAt E4h (record r.eject { status = v })) (EjectsAt E4c r.eject)
       (λ e. no_more _ (deeds.sees refl) e) (λ _. losses_plain p own2 b2 cs2 (record r { label = E4c; eject = r.eject }) refl refl refl refl (λ e. absurd cc) (λ e. absurd cc))
   losses_row E4h mine is deeds after = no_more _ (before (rw is refl)).never (rw is refl)
   losses_row T mine is deeds after =
       let same = told_same r.outcome r in
-      losses_next p own2 b2 cs2 (told r.outcome r) (rw (same.0, same.1) (deeds.there refl)) (rw (same.0, same.1) (deeds.owned refl)) (deeds.anew refl)
+      losses_next p own2 b2 cs2 (after_tell r.outcome r) (rw (same.0, same.1) (deeds.there refl)) (rw (same.0, same.1) (deeds.owned refl)) (deeds.anew refl)
   losses_row E5 mine is deeds after = pick (λ (t : Monarch). is_after_broadcast t.label ≡ true → Then t) (nat_lt 1 (length r.slots.bound)) (record r { label = E6; slot = 1 }) (at_label E7 r) (λ e. absurd cc) (λ e. absurd cc) after
   losses_row E6 mine is deeds after = pick (λ (t : Monarch). is_after_broadcast t.label ≡ true → Then t) (nat_lt (r.slot + 1) (length r.slots.bound)) (record r { label = E6; slot = r.slot + 1 }) (at_label E7 r) (λ e. absurd cc) (λ e. absurd cc) after
   losses_row E7 mine is deeds after = absurd (let f : is_after_broadcast E7 ≡ true = subst (λ m. is_after_broadcast m ≡ true) is after in cc)

@@ -22,7 +22,7 @@ use Rattle.hp_model.specs.Handlers.{Next, want_at, next_at}
 use Rattle.hp_model.specs.State.{State, at, set_cpu}
 use Rattle.hp_model.specs.Ports.{writes_block}
 use Rattle.hp_model.specs.Access.{access_effect, answer_to}
-use Rattle.hp_model.specs.Firmware.{seat, go_on, with_session, same_outcome}
+use Rattle.hp_model.specs.Firmware.{seat, moved_in_smm, with_session, same_outcome}
 use Rattle.hp_model.specs.Step.{insert, request_removal, enter_smm, leave_smm, is_after_broadcast}
 use Rattle.hp_model.specs.Runs.{run_on}
 use Rattle.hp_model.specs.Transitions.{Transition, entries_of}
@@ -155,7 +155,7 @@ module _ (p : Platform) (fit : Sound p) (ids : Ids p) (past : List Transition) (
       n = next_at (layout_of p) (seat p s k) s.monarch l (value_in (answer_to true a s))
 
       d : Cpu
-      d = go_on (at s k).smbase n (at u k)
+      d = moved_in_smm (at s k).smbase n (at u k)
 
       t : State
       t = ends (led_on p s k l (value_in (answer_to true a s)) u) g s.disturbed
@@ -216,7 +216,7 @@ module _ (p : Platform) (fit : Sound p) (ids : Ids p) (past : List Transition) (
       n = next_at (layout_of p) (seat p s 0) s.monarch l v
 
       d : Cpu
-      d = go_on (at s 0).smbase n (at u 0)
+      d = moved_in_smm (at s 0).smbase n (at u 0)
 
       t : State
       t = ends (led_on p s 0 l v u) g (not (same_label l S2) && s.disturbed)
@@ -324,7 +324,7 @@ module _ (p : Platform) (fit : Sound p) (ids : Ids p) (past : List Transition) (
       n = next_at (layout_of p) (seat p s 0) s.monarch T 0
 
       d : Cpu
-      d = go_on (at s 0).smbase n (at s 0)
+      d = moved_in_smm (at s 0).smbase n (at s 0)
 
       t : State
       t = ends (led_on p s 0 T 0 s) g s.disturbed

@@ -9,9 +9,9 @@ use Rattle.hp_model.specs.declared.outcomes.Refusal.TheVariants.{Foreign, Disabl
 use Rattle.hp_model.specs.Labels.{Monarch as Monarchs, part_of, same_label}
 use Rattle.hp_model.specs.SharedBytes.{Layout}
 use Rattle.hp_model.specs.Collection.{Report}
-use Rattle.hp_model.specs.Add.{Led, AddsAt, Ends, failed, is_last_look}
-use Rattle.hp_model.specs.Eject.{EjectLed, EjectsAt, EjectEnds}
-use Rattle.hp_model.specs.Monarch.{Monarch, Class, Tells, Adds, Ejects, refuses, class, facts_of, at_label, tells, adds, ejects, took, answered, taken_up, next_report, led, eject_led, held_class, insert_class, eject_class, Facts}
+use Rattle.hp_model.specs.Add.{AddNext, AddsAt, Ends, failed, is_last_look}
+use Rattle.hp_model.specs.Eject.{EjectNext, EjectsAt, EjectEnds}
+use Rattle.hp_model.specs.Monarch.{Monarch, Decision, ToTell, ToAdd, ToEject, refuses, decision, facts_of, at_label, at_tell, adds, ejects, took, answered, taken_up, next_report, after_add, after_eject, held_decision, insert_decision, eject_decision, Facts}
 use Rattle.hp_model.specs.Handlers.{Seat, next_at}
 use Rattle.hp_exact.specs.Refusals.{is_blaming}
 use Rattle.hp_sealed.proofs.Left.{pick, pick_by}
@@ -54,14 +54,14 @@ pub record AddsOn (r t : Monarch) : Type 0 where
   pub label : is_among t.label (T ∷ adding) ≡ true
   pub told : is_among t.label (T ∷ []) ≡ true → is_blaming t.outcome ≡ false
 
-adds_at : (r : Monarch) (last : List ℕ) (l : Label) (attempt polls : ℕ) (seen : Bool) → is_among l (T ∷ adding) ≡ true → is_among l (T ∷ []) ≡ false → AddsOn r (led (AddsAt l (record r.add { attempt = attempt; polls = polls; seen = seen })) (record r { last = last }))
+adds_at : (r : Monarch) (last : List ℕ) (l : Label) (attempt polls : ℕ) (seen : Bool) → is_among l (T ∷ adding) ≡ true → is_among l (T ∷ []) ≡ false → AddsOn r (after_add (AddsAt l (record r.add { attempt = attempt; polls = polls; seen = seen })) (record r { last = last }))
 adds_at r last l attempt polls seen is other = record { slots = refl; collection = refl; taken = refl; eject = refl; cpu = refl; apic = refl; place = refl; label = is; told = λ e. absurd (let both : false ≡ true = sym other ∙ e in cc) }
 
-adds_told : (r : Monarch) (last : List ℕ) (o : Outcome) → is_blaming o ≡ false → AddsOn r (led (Ends o) (record r { last = last }))
+adds_told : (r : Monarch) (last : List ℕ) (o : Outcome) → is_blaming o ≡ false → AddsOn r (after_add (Ends o) (record r { last = last }))
 adds_told r last o tame = record { slots = refl; collection = refl; taken = refl; eject = refl; cpu = refl; apic = refl; place = refl; label = refl; told = λ e. tame }
 
-abbrev LedOn : Monarch → List ℕ → Led → Type 0
-LedOn r last w = AddsOn r (led w (record r { last = last }))
+abbrev LedOn : Monarch → List ℕ → AddNext → Type 0
+LedOn r last w = AddsOn r (after_add w (record r { last = last }))
 
 adds_failed : (r : Monarch) (last : List ℕ) (o : Outcome) → is_blaming o ≡ false → LedOn r last (failed o r.add)
 adds_failed r last o tame = pick (LedOn r last) (nat_lt r.add.attempt 3) _ (Ends o) (adds_at r last N0 _ _ _ refl refl) (adds_told r last o tame)
@@ -94,14 +94,14 @@ pub record EjectsOn (r t : Monarch) : Type 0 where
   pub place : t.eject.slot ≡ r.eject.slot
   pub label : is_among t.label (T ∷ ejecting) ≡ true
 
-ejects_at : (r : Monarch) (l : Label) (polls status : ℕ) → is_among l (T ∷ ejecting) ≡ true → EjectsOn r (eject_led (EjectsAt l (record r.eject { polls = polls; status = status })) r)
+ejects_at : (r : Monarch) (l : Label) (polls status : ℕ) → is_among l (T ∷ ejecting) ≡ true → EjectsOn r (after_eject (EjectsAt l (record r.eject { polls = polls; status = status })) r)
 ejects_at r l polls status is = record { slots = refl; collection = refl; taken = refl; add = refl; cpu = refl; place = refl; label = is }
 
-ejects_told : (r : Monarch) (o : Outcome) → EjectsOn r (eject_led (EjectEnds o) r)
+ejects_told : (r : Monarch) (o : Outcome) → EjectsOn r (after_eject (EjectEnds o) r)
 ejects_told r o = record { slots = refl; collection = refl; taken = refl; add = refl; cpu = refl; place = refl; label = refl }
 
-abbrev EjectLedOn : Monarch → EjectLed → Type 0
-EjectLedOn r w = EjectsOn r (eject_led w r)
+abbrev EjectLedOn : Monarch → EjectNext → Type 0
+EjectLedOn r w = EjectsOn r (after_eject w r)
 
 -- at each label of an eject
 pub ejects_on : (y : Layout) (x : Seat) (r : Monarch) (l : Label) (v : ℕ) → is_among l ejecting ≡ true → EjectsOn r (next_at y x r l v).monarch
@@ -124,64 +124,64 @@ pub record Passed (apics : List ℕ) (r : Monarch) (t : Report) : Type 0 where
   pub own : (facts_of apics r t).own ≡ true
   pub there : (bit_and t.status 1 == 1) ≡ true
 
-class_passes : (apics : List ℕ) (r : Monarch) (t : Report) (c : Class) → ((o : Outcome) → c ≡ Tells o → ⊥) → class (facts_of apics r t) t ≡ c → Passed apics r t
-class_passes apics r t c untold is = by_tests (facts_of apics r t).own (bit_and t.status 1 == 1) refl refl is
+decision_passes : (apics : List ℕ) (r : Monarch) (t : Report) (c : Decision) → ((o : Outcome) → c ≡ ToTell o → ⊥) → decision (facts_of apics r t) t ≡ c → Passed apics r t
+decision_passes apics r t c untold is = by_tests (facts_of apics r t).own (bit_and t.status 1 == 1) refl refl is
   where
-    by_tests : (a b : Bool) → (facts_of apics r t).own ≡ a → (bit_and t.status 1 == 1) ≡ b → class (facts_of apics r t) t ≡ c → Passed apics r t
+    by_tests : (a b : Bool) → (facts_of apics r t).own ≡ a → (bit_and t.status 1 == 1) ≡ b → decision (facts_of apics r t) t ≡ c → Passed apics r t
     by_tests true true own there is = record { own = own; there = there }
-    by_tests false b own there is = absurd (let shown : class (facts_of apics r t) t ≡ refuses (Foreign t.cpu t.apic) = rw own refl in untold (Refused (Foreign t.cpu t.apic)) (sym is ∙ shown))
-    by_tests true false own there is = absurd (let shown : class (facts_of apics r t) t ≡ refuses (Disabled t.cpu t.status) = rw (own, there) refl in untold (Refused (Disabled t.cpu t.status)) (sym is ∙ shown))
+    by_tests false b own there is = absurd (let shown : decision (facts_of apics r t) t ≡ refuses (Foreign t.cpu t.apic) = rw own refl in untold (Refused (Foreign t.cpu t.apic)) (sym is ∙ shown))
+    by_tests true false own there is = absurd (let shown : decision (facts_of apics r t) t ≡ refuses (Disabled t.cpu t.status) = rw (own, there) refl in untold (Refused (Disabled t.cpu t.status)) (sym is ∙ shown))
 
 -- what becomes of the next report: none is left, or it is the first of those that are
 module _ (P : Monarch → Type 0) (apics : List ℕ) (r : Monarch)
     (none : drop r.taken r.collection.reports ≡ [] → P (at_label E5 r))
-    (telling : (t : Report) (ts : List Report) → drop r.taken r.collection.reports ≡ t ∷ ts → (o : Outcome) → class (facts_of apics r t) t ≡ Tells o → P (tells o (took r)))
+    (telling : (t : Report) (ts : List Report) → drop r.taken r.collection.reports ≡ t ∷ ts → (o : Outcome) → decision (facts_of apics r t) t ≡ ToTell o → P (at_tell o (took r)))
     (begins : (t : Report) (ts : List Report) → drop r.taken r.collection.reports ≡ t ∷ ts → Passed apics r t → P (adds t (took r)))
     (hands : (t : Report) (ts : List Report) → drop r.taken r.collection.reports ≡ t ∷ ts → Passed apics r t → P (ejects t (took r))) where
-  pub next_by_class : P (next_report apics r)
-  next_by_class = by_reports (drop r.taken r.collection.reports) refl
+  pub next_by_decision : P (next_report apics r)
+  next_by_decision = by_reports (drop r.taken r.collection.reports) refl
     where
-      by_class : (t : Report) (ts : List Report) (c : Class) → drop r.taken r.collection.reports ≡ t ∷ ts → class (facts_of apics r t) t ≡ c → P (answered c t (took r))
-      by_class t ts (Tells o) is judged = telling t ts is o judged
-      by_class t ts Adds is judged = begins t ts is (class_passes apics r t Adds (λ o e. cc) judged)
-      by_class t ts Ejects is judged = hands t ts is (class_passes apics r t Ejects (λ o e. cc) judged)
+      by_decision : (t : Report) (ts : List Report) (c : Decision) → drop r.taken r.collection.reports ≡ t ∷ ts → decision (facts_of apics r t) t ≡ c → P (answered c t (took r))
+      by_decision t ts (ToTell o) is judged = telling t ts is o judged
+      by_decision t ts ToAdd is judged = begins t ts is (decision_passes apics r t ToAdd (λ o e. cc) judged)
+      by_decision t ts ToEject is judged = hands t ts is (decision_passes apics r t ToEject (λ o e. cc) judged)
 
       by_reports : (xs : List Report) → drop r.taken r.collection.reports ≡ xs → P (taken_up apics xs r)
       by_reports [] is = none is
-      by_reports (t ∷ ts) is = by_class t ts (class (facts_of apics r t) t) is refl
+      by_reports (t ∷ ts) is = by_decision t ts (decision (facts_of apics r t) t) is refl
 
 -- where it doesn't matter what is told
 module _ (P : Monarch → Type 0) (apics : List ℕ) (r : Monarch)
     (none : drop r.taken r.collection.reports ≡ [] → P (at_label E5 r))
-    (telling : (t : Report) (ts : List Report) → drop r.taken r.collection.reports ≡ t ∷ ts → (o : Outcome) → P (tells o (took r)))
+    (telling : (t : Report) (ts : List Report) → drop r.taken r.collection.reports ≡ t ∷ ts → (o : Outcome) → P (at_tell o (took r)))
     (begins : (t : Report) (ts : List Report) → drop r.taken r.collection.reports ≡ t ∷ ts → Passed apics r t → P (adds t (took r)))
     (hands : (t : Report) (ts : List Report) → drop r.taken r.collection.reports ≡ t ∷ ts → Passed apics r t → P (ejects t (took r))) where
   pub next_by : P (next_report apics r)
-  next_by = next_by_class P apics r none (λ t ts is o judged. telling t ts is o) begins hands
+  next_by = next_by_decision P apics r none (λ t ts is o judged. telling t ts is o) begins hands
 
--- what the class of a report of its own processor tells blames nobody
-abbrev told_of : Class → Outcome
-told_of (Tells o) = o
-told_of Adds = Added 0 0 0
-told_of Ejects = Added 0 0 0
+-- what the decision on a report of its own processor tells blames nobody
+abbrev told_of : Decision → Outcome
+told_of (ToTell o) = o
+told_of ToAdd = Added 0 0 0
+told_of ToEject = Added 0 0 0
 
-abbrev Tame : Outcome → Class → Type 0
-Tame o c = c ≡ Tells o → is_blaming o ≡ false
+abbrev Tame : Outcome → Decision → Type 0
+Tame o c = c ≡ ToTell o → is_blaming o ≡ false
 
-tame_told : (o w : Outcome) → is_blaming w ≡ false → Tame o (Tells w)
+tame_told : (o w : Outcome) → is_blaming w ≡ false → Tame o (ToTell w)
 tame_told o w tame e = subst (λ x. is_blaming x ≡ false) (ap told_of e) tame
 
-tame_held : (o : Outcome) (h : Option ℕ) (t : Report) → Tame o (held_class h t)
+tame_held : (o : Outcome) (h : Option ℕ) (t : Report) → Tame o (held_decision h t)
 tame_held o None t = λ e. absurd cc
-tame_held o (Some held) t = pick (Tame o) (held == t.apic) Adds (refuses (GateHeld t.cpu t.apic held)) (λ e. absurd cc) (tame_told o (Refused (GateHeld t.cpu t.apic held)) refl)
+tame_held o (Some held) t = pick (Tame o) (held == t.apic) ToAdd (refuses (GateHeld t.cpu t.apic held)) (λ e. absurd cc) (tame_told o (Refused (GateHeld t.cpu t.apic held)) refl)
 
-pub class_tame : (f : Facts) (t : Report) (o : Outcome) → f.own ≡ true → class f t ≡ Tells o → is_blaming o ≡ false
-class_tame f t o own =
+pub decision_tame : (f : Facts) (t : Report) (o : Outcome) → f.own ≡ true → decision f t ≡ ToTell o → is_blaming o ≡ false
+decision_tame f t o own =
     pick_by (Tame o) (not f.own) (refuses (Foreign t.cpu t.apic)) _ (λ e. absurd (let no_it : not f.own ≡ false = rw own refl in let both : true ≡ false = sym e ∙ no_it in cc))
     (λ _. pick (Tame o) (not (bit_and t.status 1 == 1)) (refuses (Disabled t.cpu t.status)) _ (tame_told o (Refused (Disabled t.cpu t.status)) refl)
     (pick (Tame o) (bit_and t.status 0x12 == 0x12) (refuses (Both t.cpu t.status)) _ (tame_told o (Refused (Both t.cpu t.status)) refl)
-    (pick (Tame o) (bit_and t.status 2 == 2) (insert_class f t) (eject_class f t)
-    (pick (Tame o) f.known (refuses (AlreadyKnown t.cpu t.apic f.slot)) (held_class f.held t) (tame_told o (Refused (AlreadyKnown t.cpu t.apic f.slot)) refl) (tame_held o f.held t))
+    (pick (Tame o) (bit_and t.status 2 == 2) (insert_decision f t) (eject_decision f t)
+    (pick (Tame o) f.known (refuses (AlreadyKnown t.cpu t.apic f.slot)) (held_decision f.held t) (tame_told o (Refused (AlreadyKnown t.cpu t.apic f.slot)) refl) (tame_held o f.held t))
     (pick (Tame o) (not (bit_and f.features 4 == 4)) (refuses (NoUnplug t.cpu f.features)) _ (tame_told o (Refused (NoUnplug t.cpu f.features)) refl)
     (pick (Tame o) (not f.known) (refuses (NotKnown t.cpu t.apic)) _ (tame_told o (Refused (NotKnown t.cpu t.apic)) refl)
-    (pick (Tame o) (f.look == 0) (refuses (NotArrived t.cpu t.apic)) Ejects (tame_told o (Refused (NotArrived t.cpu t.apic)) refl) (λ e. absurd cc)))))))
+    (pick (Tame o) (f.look == 0) (refuses (NotArrived t.cpu t.apic)) ToEject (tame_told o (Refused (NotArrived t.cpu t.apic)) refl) (λ e. absurd cc)))))))

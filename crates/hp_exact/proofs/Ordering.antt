@@ -10,8 +10,8 @@ use Rattle.hp_model.specs.declared.outcomes.Outcome.TheVariants.{Added, Ejected,
 use Rattle.hp_model.specs.Labels.{Monarch as Monarchs, part_of}
 use Rattle.hp_model.specs.SharedBytes.{Layout}
 use Rattle.hp_model.specs.Slots.{known_from}
-use Rattle.hp_model.specs.Collection.{Report, Collection, Collected, CollectsAt, CollectedAll, collection_start, next_processor, found, judged, reported}
-use Rattle.hp_model.specs.Monarch.{Monarch, at_label, first_slot, next_slot, look_at, noted, tells, adds, ejects, took, next_report, collected, told, restarted}
+use Rattle.hp_model.specs.Collection.{Report, Collection, CollectNext, CollectsAt, CollectEnds, collection_start, next_processor, found, judged, reported}
+use Rattle.hp_model.specs.Monarch.{Monarch, at_label, first_slot, next_slot, look_at, noted, at_tell, adds, ejects, took, next_report, after_collection, after_tell, restarted}
 use Rattle.hp_model.specs.Handlers.{Seat, next_at}
 use Rattle.hp_model.specs.Exact.{rises}
 use Rattle.hp_sealed.proofs.Left.{pick, pick_by}
@@ -68,11 +68,11 @@ ordered_look n polls None r h = plain n (look_at polls None r) refl refl (record
 pub ordered_next : (n : ℕ) (apics : List ℕ) (r : Monarch) → Core r → Ordered n (next_report apics r)
 ordered_next n apics r h = next_by (Ordered n) apics r
     (λ _. plain n (at_label E5 r) refl refl (record { rising = h.rising }))
-    (λ t ts _ o. plain n (tells o (took r)) refl refl (record { rising = h.rising }))
+    (λ t ts _ o. plain n (at_tell o (took r)) refl refl (record { rising = h.rising }))
     (λ t ts _ _. plain n (adds t (took r)) refl refl (record { rising = h.rising }))
     (λ t ts _ _. plain n (ejects t (took r)) refl refl (record { rising = h.rising }))
 
-pub core_told : (o : Outcome) (r : Monarch) → Core r → Core (told o r)
+pub core_told : (o : Outcome) (r : Monarch) → Core r → Core (after_tell o r)
 core_told (Added cpu apic slot) r h = record { rising = h.rising }
 core_told (Ejected cpu apic slot) r h = record { rising = h.rising }
 core_told (Refused why) r h = record { rising = h.rising }
@@ -84,8 +84,8 @@ more_below a b less ts h = all_more (λ t. nat_lt t.cpu a) (λ t. nat_lt t.cpu b
     one : (c : ℕ) → nat_lt c a ≡ true → nat_lt c b ≡ true
     one c e = grind (arith, nat_tests)
 
-abbrev Led : ℕ → List ℕ → Monarch → Collected → Type 0
-Led n apics r w = Ordered n (collected apics w r)
+abbrev Led : ℕ → List ℕ → Monarch → CollectNext → Type 0
+Led n apics r w = Ordered n (after_collection apics w r)
 
 -- a collection whose reports rise, all below a place
 record Rises (c : Collection) : Type 0 where
@@ -100,7 +100,7 @@ ordered_processor n apics r c h = pick_by (Led n apics r) (nat_lt (c.cpu + 1) n)
 ordered_found : (n : ℕ) (apics : List ℕ) (r : Monarch) (v : ℕ) → Ordered n r → is_among r.label collecting ≡ true → Led n apics r (found n v r.collection)
 ordered_found n apics r v h is =
     let c = r.collection in
-    pick_by (Led n apics r) (nat_lt v c.cpu || not (nat_lt v n)) (CollectedAll c) (CollectsAt C4 (record c { cpu = v }))
+    pick_by (Led n apics r) (nat_lt v c.cpu || not (nat_lt v n)) (CollectEnds c) (CollectsAt C4 (record c { cpu = v }))
     (λ e. ordered_next n apics (record r { collection = c }) (record { rising = h.rising }))
     (λ e. collects_at n r C4 (record c { cpu = v }) refl h.rising (more_below c.cpu v (no_less c.cpu v n e) c.reports (h.below is)) (less v c.cpu n e))
   where
@@ -183,7 +183,7 @@ ordered_row y x r E4e v some mine is h = ordered_ejects y.count r (next_at y x r
 ordered_row y x r E4f v some mine is h = ordered_ejects y.count r (next_at y x r E4f v).monarch h (ejects_on y x r E4f v refl)
 ordered_row y x r E4g v some mine is h = ordered_ejects y.count r (next_at y x r E4g v).monarch h (ejects_on y x r E4g v refl)
 ordered_row y x r E4h v some mine is h = ordered_ejects y.count r (next_at y x r E4h v).monarch h (ejects_on y x r E4h v refl)
-ordered_row y x r T v some mine is h = ordered_next y.count y.apics (told r.outcome r) (core_told r.outcome r (core y.count r h))
+ordered_row y x r T v some mine is h = ordered_next y.count y.apics (after_tell r.outcome r) (core_told r.outcome r (core y.count r h))
 ordered_row y x r E5 v some mine is h = ordered_first y.count r E6 E7 refl refl refl (core y.count r h)
 ordered_row y x r E6 v some mine is h = ordered_slot y.count r E6 E7 refl refl refl (core y.count r h)
 ordered_row y x r E7 v some mine is h = h

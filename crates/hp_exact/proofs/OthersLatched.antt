@@ -25,7 +25,7 @@ use Rattle.hp_model.specs.Monarch.{restarted}
 use Rattle.hp_model.specs.Handlers.{Next, want_at, next_at, runs_at, slot_at, is_tile, address_of_label}
 use Rattle.hp_model.specs.State.{State, at, set_cpu}
 use Rattle.hp_model.specs.Access.{answer_to, access_effect, stands_in_smm}
-use Rattle.hp_model.specs.Firmware.{seat, go_on, with_session}
+use Rattle.hp_model.specs.Firmware.{seat, moved_in_smm, with_session}
 use Rattle.hp_model.specs.Step.{enter_smm, leave_smm, is_after_broadcast}
 use Rattle.hp_sealed.specs.Left.{Sound}
 use Rattle.hp_sealed.specs.Sealed.{is_other_tile}
@@ -39,7 +39,7 @@ use Rattle.hp_exact.proofs.Naming.{Ids, aimed}
 use Rattle.hp_exact.proofs.Hits.{Alike, strikes, AllAlike, row_alike, keeps_acted}
 use Rattle.hp_exact.proofs.Latching.{Latches, latches_alike, latches_less, latches_keeps, latches_out, must_moved, latched_set}
 use Rattle.hp_exact.proofs.Releasing.{kept_called, slot_small}
-use Rattle.hp_exact.proofs.Invariant.{Latched, Released, must_latch, is_default, is_stood_at, is_calling}
+use Rattle.hp_exact.proofs.Invariant.{Latched, Released, must_latch, is_default, is_at_label, is_calling}
 
 -- where another processor's row leads it: to a label where it needs no SMI latch, or it has that set
 abbrev Needs : Bool → ℕ → ℕ → Cpu → Label → Type 0
@@ -105,22 +105,22 @@ at_tile p k b sound e = let t = slot_of p b (and_parts (not (k == 0)) (is_other_
     far base b slot above is = grind (arith, nat_tests)
 
 -- whoever stands at a label
-stood_at : (c : Cpu) (l : Label) → smm_address c ≡ Some (address_of_label c.smbase l) → is_stood_at l c ≡ true
+stood_at : (c : Cpu) (l : Label) → smm_address c ≡ Some (address_of_label c.smbase l) → is_at_label l c ≡ true
 stood_at c l is = rw is (same (address_of_label c.smbase l))
   where
     same : (n : ℕ) → (n == n) ≡ true
     same n = grind (arith, nat_tests)
 
 -- at R4 and R5, and at F6
-leaving_latched : (called : Bool) (k : ℕ) (c : Cpu) (l : Label) → (l ≡ R4) ⊎ (l ≡ R5) → k ≢ 0 → (c.smbase == 0x30000) ≡ false → is_stood_at l c ≡ true → called ≡ true → Latches called k c → c.smi ≡ true
-leaving_latched called k c l where_is other far here called_in h = h (plain (is_default c && is_stood_at F6 c) called (k == 0) (c.present && is_outside c.mode) (c.smbase == 0x30000) (is_stood_at R4 c) (is_stood_at R5 c) called_in (is_other k other) far (either where_is))
+leaving_latched : (called : Bool) (k : ℕ) (c : Cpu) (l : Label) → (l ≡ R4) ⊎ (l ≡ R5) → k ≢ 0 → (c.smbase == 0x30000) ≡ false → is_at_label l c ≡ true → called ≡ true → Latches called k c → c.smi ≡ true
+leaving_latched called k c l where_is other far here called_in h = h (plain (is_default c && is_at_label F6 c) called (k == 0) (c.present && is_outside c.mode) (c.smbase == 0x30000) (is_at_label R4 c) (is_at_label R5 c) called_in (is_other k other) far (either where_is))
   where
     is_other : (k : ℕ) → k ≢ 0 → (k == 0) ≡ false
     is_other k n = grind (arith, nat_tests)
 
-    either : (l ≡ R4) ⊎ (l ≡ R5) → (is_stood_at R4 c ≡ true) ⊎ (is_stood_at R5 c ≡ true)
-    either (inl e) = inl (subst (λ m. is_stood_at m c ≡ true) e here)
-    either (inr e) = inr (subst (λ m. is_stood_at m c ≡ true) e here)
+    either : (l ≡ R4) ⊎ (l ≡ R5) → (is_at_label R4 c ≡ true) ⊎ (is_at_label R5 c ≡ true)
+    either (inl e) = inl (subst (λ m. is_at_label m c ≡ true) e here)
+    either (inr e) = inr (subst (λ m. is_at_label m c ≡ true) e here)
 
     plain : (x a z y d f g : Bool) → a ≡ true → z ≡ false → d ≡ false → (f ≡ true) ⊎ (g ≡ true) → (x || (a && (not z && (y || (not d && (f || g)))))) ≡ true
     plain true a z y d f g i j m n = refl
@@ -129,7 +129,7 @@ leaving_latched called k c l where_is other far here called_in h = h (plain (is_
     plain false a z false d true g i j m (inr n) = rw (i, j, m) refl
     plain false a z false d false g i j m (inr n) = rw (i, j, m, n) refl
 
-flying_latched : (called : Bool) (k : ℕ) (c : Cpu) → (c.smbase == 0x30000) ≡ true → is_stood_at F6 c ≡ true → Latches called k c → c.smi ≡ true
+flying_latched : (called : Bool) (k : ℕ) (c : Cpu) → (c.smbase == 0x30000) ≡ true → is_at_label F6 c ≡ true → Latches called k c → c.smi ≡ true
 flying_latched called k c default here h = h (rw (default, here) refl)
 
 -- a release byte that is 0 isn't read as 1
@@ -149,7 +149,7 @@ pub latched_other : (p : Platform) (s : State) (k : ℕ) (l : Label) (a : Access
     → Latched (is_calling p s.monarch) s.cpus → Released p s.monarch s.writes
     → Latched (is_calling p s.monarch) (led_on p s k l (value_in (answer_to true a s)) (access_effect p k true a s)).cpus
 latched_other p s k l a sound ids stood here wants h released =
-    latched_set called u.cpus k (go_on (at s k).smbase n (at u k)) (λ j other. latches_alike called j (at s j) (at u j) (alike j) (h j))
+    latched_set called u.cpus k (moved_in_smm (at s k).smbase n (at u k)) (λ j other. latches_alike called j (at s j) (at u j) (alike j) (h j))
     (pick_by (Latches called k) (stands_in_smm (at u k)) (moved (address_of_label (at s k).smbase n.label) n.base (at u k)) (at u k)
     (λ stands e. led (sym (must_moved called k (at u k) (at s k).smbase n.base n.label (and_parts (at u k).present (is_in_smm (at u k).mode) stands).0 (alike k).smbase) ∙ e))
     (λ _. latches_alike called k (at s k) (at u k) (alike k) (h k)))
@@ -264,7 +264,7 @@ latched_returns p s k l sound here where_is h =
     latched : is_calling p s.monarch ≡ true → (l ≡ F6) ⊎ (l ≡ R5) → (at s k).smi ≡ true
     latched c (inl e) =
         flying_latched (is_calling p s.monarch) k (at s k) (at_default p k (at s k).smbase (subst (λ q. runs_at (layout_of p) q k (at s k).smbase ≡ true) (ap part_of e) here.runs))
-        (subst (λ m. is_stood_at m (at s k) ≡ true) e (stood_at (at s k) l here.place)) (h k)
+        (subst (λ m. is_at_label m (at s k) ≡ true) e (stood_at (at s k) l here.place)) (h k)
     latched c (inr e) = leaving_latched (is_calling p s.monarch) k (at s k) l (inr e) here.other (at_tile p k (at s k).smbase sound (subst (λ q. runs_at (layout_of p) q k (at s k).smbase ≡ true) (ap part_of e) here.runs)) (stood_at (at s k) l here.place) c (h k)
 
 pub latched_rests : (called : Bool) (s : State) → called ≡ false → Latched called s.cpus → Latched called (leave_smm 0 s).cpus

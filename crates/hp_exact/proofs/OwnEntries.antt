@@ -13,7 +13,7 @@ use Rattle.hp_model.specs.State.{State}
 use Rattle.hp_model.specs.Firmware.{seat}
 use Rattle.hp_model.specs.Transitions.{Transition, since}
 use Rattle.hp_model.specs.Account.{is_at}
-use Rattle.hp_model.specs.Sessions.{bounds_session, tells, ends_outcome}
+use Rattle.hp_model.specs.Sessions.{bounds_session, is_tell, ends_outcome}
 use Rattle.hp_exact.proofs.Monarchs.{is_among, adding, ejecting}
 use Rattle.hp_model.specs.Outcomes.{own_of, values_at}
 use Rattle.std.specs.List.{list_any}
@@ -29,14 +29,14 @@ unfolding since
 own_none p x past is = subst (λ b. (elim b as (λ _. List Transition) [ true ↦ [] | false ↦ x ∷ since (λ y. ends_outcome p y.entry) past ]) ≡ []) (sym is) refl
 
 -- an entry elsewhere is none of the collection's
-pub elsewhere : (p : Platform) (e : Entry) → ((m : Label) → part_of m ≡ Monarchs → is_at p m e ≡ false) → tells e ≡ false → bounds_session e ≡ false → ends_outcome p e ≡ false
+pub elsewhere : (p : Platform) (e : Entry) → ((m : Label) → part_of m ≡ Monarchs → is_at p m e ≡ false) → is_tell e ≡ false → bounds_session e ≡ false → ends_outcome p e ≡ false
 elsewhere p e unseen silent within = rw (silent, unseen C1 refl, unseen C2 refl, unseen C3 refl, unseen C4 refl, unseen C5 refl, unseen C6 refl, within) refl
 
 -- and one of the monarch's is by its label
 abbrev pub is_collects : Label → Bool
 is_collects l = list_any (λ m. index_of l == index_of m) (C1 ∷ C2 ∷ C3 ∷ C4 ∷ C5 ∷ C6 ∷ [])
 
-pub by_label : (p : Platform) (e : Entry) (l : Label) → ((m : Label) → part_of m ≡ Monarchs → is_at p m e ≡ (index_of l == index_of m)) → tells e ≡ false → bounds_session e ≡ false → ends_outcome p e ≡ (is_collects l || false)
+pub by_label : (p : Platform) (e : Entry) (l : Label) → ((m : Label) → part_of m ≡ Monarchs → is_at p m e ≡ (index_of l == index_of m)) → is_tell e ≡ false → bounds_session e ≡ false → ends_outcome p e ≡ (is_collects l || false)
 by_label p e l seen silent within = rw (silent, seen C1 refl, seen C2 refl, seen C3 refl, seen C4 refl, seen C5 refl, seen C6 refl, within) refl
 
 pub adding_goes : (l : Label) → is_among l adding ≡ true → (is_collects l || false) ≡ false

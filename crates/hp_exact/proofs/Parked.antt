@@ -20,7 +20,7 @@ use Rattle.hp_sealed.proofs.Left.{pick}
 use Rattle.hp_exact.proofs.Monarchs.{is_among, ejecting}
 use Rattle.hp_exact.proofs.Hits.{Alike}
 use Rattle.hp_exact.proofs.Losses.{pending}
-use Rattle.hp_exact.proofs.EjectTie.{looping, Parked, Seated, Waits, Alone, Gone, PartsAt}
+use Rattle.hp_exact.proofs.EjectTie.{looping, Parked, IsBoundEject, Waits, Alone, Gone, PartsAt}
 
 -- a parked processor
 pub parked_stays : (p : Platform) (slot : ℕ) (c d : Cpu) → d.present ≡ c.present → d.smbase ≡ c.smbase → smm_address d ≡ smm_address c → Parked p slot c → Parked p slot d
@@ -93,7 +93,7 @@ module _ (p : Platform) (own own2 : List Transition) (d d2 : Bool) (cs cs2 : Lis
   waits_same still byte h calm one = elim (byte calm one) [ inl was ↦ still calm (h (quiet calm) was) | inr is ↦ is ]
 
   pub parts_same : (l : Label) → (is_among l (E1 ∷ E2 ∷ E4a ∷ E4b ∷ []) ≡ true → d2 ≡ false → Parked p r.eject.slot (cpu_at cs r.eject.cpu) → Is)
-      → (is_among l (E1 ∷ E2 ∷ []) ≡ true → d2 ≡ false → Seated p r → byte_at ws2 (parked_byte (layout_of p) r.eject.slot) ≡ 1 → Was ⊎ Is) → PartsAt p own d cs ws r l → PartsAt p own2 d2 cs2 ws2 r l
+      → (is_among l (E1 ∷ E2 ∷ []) ≡ true → d2 ≡ false → IsBoundEject p r → byte_at ws2 (parked_byte (layout_of p) r.eject.slot) ≡ 1 → Was ⊎ Is) → PartsAt p own d cs ws r l → PartsAt p own2 d2 cs2 ws2 r l
   parts_same E0 still byte q = q
   parts_same E1 still byte q = (q.0, waits_same (still refl) (λ calm. byte refl calm q.0) q.1)
   parts_same E2 still byte q = (q.0, waits_same (still refl) (λ calm. byte refl calm q.0) q.1)

@@ -17,18 +17,18 @@ use Rattle.hp_model.specs.Cpu.{absent, inserted, cpu_at, is_outside, is_in_smm, 
 use Rattle.hp_model.specs.Boot.{Stage, value_in}
 use Rattle.hp_model.specs.Labels.{Part, First, Relocated, Monarch as Monarchs, part_of}
 use Rattle.hp_model.specs.SharedBytes.{layout_of, tile_in, parked_byte}
-use Rattle.hp_model.specs.Slots.{place_of}
+use Rattle.hp_model.specs.Slots.{slot_among}
 use Rattle.hp_model.specs.SaveArea.{saved_smbase, saved_rip}
 use Rattle.hp_model.specs.Monarch.{Monarch, restarted}
 use Rattle.hp_model.specs.Handlers.{Next, want_at, next_at, runs_at, is_tile, address_of_label, slot_at as slot_of_tile}
 use Rattle.hp_model.specs.State.{State, at, set_cpu}
 use Rattle.hp_model.specs.Ports.{writes_block}
 use Rattle.hp_model.specs.Access.{access_effect, answer_to, stands_in_smm}
-use Rattle.hp_model.specs.Firmware.{seat, go_on, with_session}
+use Rattle.hp_model.specs.Firmware.{seat, moved_in_smm, with_session}
 use Rattle.hp_model.specs.Step.{insert, request_removal, enter_smm, leave_smm, is_after_broadcast}
 use Rattle.hp_model.specs.Transitions.{Transition}
 use Rattle.hp_model.specs.Account.{is_at}
-use Rattle.hp_model.specs.Sessions.{bounds_session, tells}
+use Rattle.hp_model.specs.Sessions.{bounds_session, is_tell}
 use Rattle.hp_model.specs.Outcomes.{own_of, departures}
 use Rattle.hp_model.proofs.AtEach.{made}
 use Rattle.hp_sealed.specs.Left.{Sound}
@@ -52,7 +52,7 @@ use Rattle.hp_exact.proofs.Losses.{Losses}
 use Rattle.hp_exact.proofs.Invariant.{Invariant}
 use Rattle.hp_exact.proofs.ParkedByte.{marks_other, left_outside, left_entering}
 use Rattle.hp_exact.proofs.OwnEntries.{own_more, elsewhere}
-use Rattle.hp_exact.proofs.EjectTie.{looping, Parked, Seated, PartsAt}
+use Rattle.hp_exact.proofs.EjectTie.{looping, Parked, IsBoundEject, PartsAt}
 use Rattle.hp_exact.proofs.Departures.{departures_same}
 use Rattle.hp_safety.proofs.Entering.{may_outside}
 use Rattle.hp_exact.proofs.Parked.{early_rows, loops_next, loops_relocated, parked_alike, parked_inside, parked_stays, parts_fresh, parts_same, waiting_rows}
@@ -87,10 +87,10 @@ module _ (p : Platform) (fit : Sound p) (ids : Ids p) (past : List Transition) (
   x = parked_byte (layout_of p) slot
 
   -- steps of others, and of the host
-  same_parts : (e : Entry) (t : State) → ((m : Label) → part_of m ≡ Monarchs → is_at p m e ≡ false) → tells e ≡ false → bounds_session e ≡ false → t.monarch ≡ s.monarch → (t.disturbed ≡ false → s.disturbed ≡ false)
+  same_parts : (e : Entry) (t : State) → ((m : Label) → part_of m ≡ Monarchs → is_at p m e ≡ false) → is_tell e ≡ false → bounds_session e ≡ false → t.monarch ≡ s.monarch → (t.disturbed ≡ false → s.disturbed ≡ false)
       → (t.disturbed ≡ false → (k : ℕ) → (at s k).present ≡ true → (at t k).present ≡ true)
       → (is_among s.monarch.label (E1 ∷ E2 ∷ E4a ∷ E4b ∷ []) ≡ true → t.disturbed ≡ false → Parked p slot (at s c) → Parked p slot (at t c))
-      → (is_among s.monarch.label (E1 ∷ E2 ∷ []) ≡ true → t.disturbed ≡ false → Seated p s.monarch → byte_at t.writes x ≡ 1 → (byte_at s.writes x ≡ 1) ⊎ Parked p slot (at t c)) → Now e t
+      → (is_among s.monarch.label (E1 ∷ E2 ∷ []) ≡ true → t.disturbed ≡ false → IsBoundEject p s.monarch → byte_at t.writes x ≡ 1 → (byte_at s.writes x ≡ 1) ⊎ Parked p slot (at t c)) → Now e t
   same_parts e t unseen silent within same quiet stays still byte =
       let own = own_more p (made s e t) past (elsewhere p e unseen silent within) in
       subst (λ r. PartsAt p (own_of p (made s e t ∷ past)) t.disturbed t.cpus t.writes r r.label) (sym same)
@@ -109,10 +109,10 @@ module _ (p : Platform) (fit : Sound p) (ids : Ids p) (past : List Transition) (
       same_parts (entry_by s (Insert k)) (ends (insert k s) g s.disturbed) (λ m part. at_none p m (entry_by s (Insert k)) refl) refl refl refl (λ e. e)
       (λ calm j e. at_set (λ c d. c.present ≡ true → d.present ≡ true) s.cpus k inserted (λ _ f. f) (λ f. refl) j e)
       (λ there calm parked. set_aside k inserted (λ z. let f : (at s k).present ≡ true = subst (λ i. (at s i).present ≡ true) z parked.present in let both : true ≡ false = sym f ∙ gone in cc) parked)
-      (λ there calm seated one. inl one)
+      (λ there calm eject_bound one. inl one)
 
   pub removes : (k : ℕ) (g : Stage) → Follows (entry_by s (Remove k)) (ends (request_removal k s) g s.disturbed)
-  removes k g placed = same_parts (entry_by s (Remove k)) (ends (request_removal k s) g s.disturbed) (λ m part. at_none p m (entry_by s (Remove k)) refl) refl refl refl (λ e. e) (λ calm j e. e) (λ there calm parked. parked) (λ there calm seated one. inl one)
+  removes k g placed = same_parts (entry_by s (Remove k)) (ends (request_removal k s) g s.disturbed) (λ m part. at_none p m (entry_by s (Remove k)) refl) refl refl refl (λ e. e) (λ calm j e. e) (λ there calm parked. parked) (λ there calm eject_bound one. inl one)
 
   pub outside : (k : ℕ) (a : Access) (g : Stage) → is_free (is_late p.delivery) (at s k) ≡ true → is_in_smm (at s k).mode ≡ false
       → Follows (record { event = Do k a; answer = answer_to false a s; at = smm_address (at s k) }) (ends (access_effect p k false a s) g (s.disturbed || (writes_block a && is_after_broadcast s.monarch.label)))
@@ -139,12 +139,12 @@ module _ (p : Platform) (fit : Sound p) (ids : Ids p) (past : List Transition) (
           same_parts e t (λ m part. at_none p m e (none_outside (at s k) out)) refl refl same (λ calm. (still_clear s.disturbed (writes_block a) (is_after_broadcast s.monarch.label) f calm).0)
           (λ calm j there. present_kept p k false a s j (still_clear s.disturbed (writes_block a) (is_after_broadcast s.monarch.label) f calm).1 ∙ there)
           (λ there calm. parked_on (still_clear s.disturbed (writes_block a) (is_after_broadcast s.monarch.label) f calm).1)
-          (λ there calm seated one. inl (sym (left_outside p s slot fit standing (small (waiting_rows s.monarch.label (early_rows s.monarch.label there)).1) k a) ∙ one))
+          (λ there calm eject_bound one. inl (sym (left_outside p s slot fit standing (small (waiting_rows s.monarch.label (early_rows s.monarch.label there)).1) k a) ∙ one))
 
   pub inits : (k : ℕ) (g : Stage) → may_take_init (at s k) ≡ true → Follows (entry_by s (TakeInit k)) (ends (set_cpu k (take_init (at s k)) s) g s.disturbed)
   inits k g may placed =
       same_parts (entry_by s (TakeInit k)) (ends (set_cpu k (take_init (at s k)) s) g s.disturbed) (λ m part. at_none p m (entry_by s (TakeInit k)) out) refl refl refl (λ e. e)
-      (λ calm. present_set p fit ids past s standing h k (take_init (at s k)) refl) (λ there calm parked. set_aside k (take_init (at s k)) (aside_of k out parked) parked) (λ there calm seated one. inl one)
+      (λ calm. present_set p fit ids past s standing h k (take_init (at s k)) refl) (λ there calm parked. set_aside k (take_init (at s k)) (aside_of k out parked) parked) (λ there calm eject_bound one. inl one)
     where
       out : smm_address (at s k) ≡ None
       out = init_outside (at s k) may
@@ -174,7 +174,7 @@ module _ (p : Platform) (fit : Sound p) (ids : Ids p) (past : List Transition) (
       comes is placed =
           same_parts e (to false) (λ m part. at_none p m e out) refl (let z = is in rw z refl) refl (λ f. f)
           (λ calm. present_set p fit ids past s standing h k (take_smi (at s k)) refl) (λ mine calm parked. set_aside k (take_smi (at s k)) (aside_of k out parked) parked)
-          (λ mine calm seated one. inl (sym (left_entering p s slot fit standing (small (waiting_rows s.monarch.label (early_rows s.monarch.label mine)).1) k there.0) ∙ one))
+          (λ mine calm eject_bound one. inl (sym (left_entering p s slot fit standing (small (waiting_rows s.monarch.label (early_rows s.monarch.label mine)).1) k there.0) ∙ one))
 
       by_first : (b : Bool) → (k == 0) ≡ b → Follows e (ends (with_session k (enter_smm k s)) g s.disturbed)
       by_first true is = subst (λ b. Follows e (to b)) (sym is) begins
@@ -208,7 +208,7 @@ module _ (p : Platform) (fit : Sound p) (ids : Ids p) (past : List Transition) (
   returns k l g here where_is placed =
       same_parts (entry_by s (Resume k)) (ends (leave_smm k s) g s.disturbed) (λ m part. at_other p l m (entry_by s (Resume k)) k (at s k).smbase fit here.runs here.part here.place part) refl (is_other k here.other) refl (λ e. e)
       (λ calm. present_set p fit ids past s standing h k d refl)
-      (λ there calm parked. set_aside k d (λ z. leaves where_is (loops_of k l here (subst (λ i. Parked p slot (at s i)) z parked))) parked) (λ there calm seated one. inl one)
+      (λ there calm parked. set_aside k d (λ z. leaves where_is (loops_of k l here (subst (λ i. Parked p slot (at s i)) z parked))) parked) (λ there calm eject_bound one. inl one)
     where
       d : Cpu
       d = resumed (saved_smbase s.locks s.writes (at s k)) (saved_rip s.locks s.writes (at s k)) (at s k)
@@ -224,7 +224,7 @@ module _ (p : Platform) (fit : Sound p) (ids : Ids p) (past : List Transition) (
       same_parts e t (λ m part. at_other p l m e k (at s k).smbase fit here.runs here.part here.place part) refl refl (next_other (layout_of p) (seat p s k) s.monarch l v here.part) (λ f. f)
       (λ calm j f. at_set (λ c d. d.present ≡ c.present) u.cpus k d (λ _. refl) (present_go (at s k).smbase n (at u k)) j ∙ (present_kept p k true a s j unwritten ∙ f))
       (λ there calm parked. by_same (c == k) refl there parked)
-      (λ there calm seated one. by_marks there seated one (marks_other p s slot fit standing (small (waiting_rows s.monarch.label (early_rows s.monarch.label there)).1) k l a here wants))
+      (λ there calm eject_bound one. by_marks there eject_bound one (marks_other p s slot fit standing (small (waiting_rows s.monarch.label (early_rows s.monarch.label there)).1) k l a here wants))
     where
       v : ℕ
       v = value_in (answer_to true a s)
@@ -239,7 +239,7 @@ module _ (p : Platform) (fit : Sound p) (ids : Ids p) (past : List Transition) (
       n = next_at (layout_of p) (seat p s k) s.monarch l v
 
       d : Cpu
-      d = go_on (at s k).smbase n (at u k)
+      d = moved_in_smm (at s k).smbase n (at u k)
 
       t : State
       t = ends (led_on p s k l v u) g s.disturbed
@@ -309,8 +309,8 @@ module _ (p : Platform) (fit : Sound p) (ids : Ids p) (past : List Transition) (
       by_same false is there parked = subst (Parked p slot) (sym (get_or-set_other u.cpus k c d absent (unlike c k is))) (parked_alike p slot (at s c) (at u c) (alike c) parked)
 
       -- who stores at R6 for this slot is the eject's processor
-      parks : Seated p s.monarch → l ≡ R6 → (seat p s k).slot ≡ slot → Parked p slot (cpu_at t.cpus c)
-      parks seated is same =
+      parks : IsBoundEject p s.monarch → l ≡ R6 → (seat p s k).slot ≡ slot → Parked p slot (cpu_at t.cpus c)
+      parks eject_bound is same =
           let q = tile_slot (ap part_of is) in
           let base : (at s k).smbase ≡ tile p slot = subst (λ i. (at s k).smbase ≡ tile p i) same q.2 in
           let next : is_among n.label looping ≡ true = subst (λ m. is_among (next_at (layout_of p) (seat p s k) s.monarch m v).label looping ≡ true) (sym is) refl in
@@ -319,12 +319,12 @@ module _ (p : Platform) (fit : Sound p) (ids : Ids p) (past : List Transition) (
           by_place : (at s k).smbase ≡ tile p slot → IsAtSlot p s.monarch.slots.bound (apic_of p k) (at s k).smbase → k ≡ c
           by_place base (inl low) = absurd (above slot (sym base ∙ low))
           by_place base (inr both) =
-              let place : place_of s.monarch.slots.bound (apic_of p k) ≡ place_of s.monarch.slots.bound s.monarch.eject.apic = same_tile (place_of s.monarch.slots.bound (apic_of p k)) slot (sym both.1 ∙ base) ∙ sym seated.place in
-              let one = place_same s.monarch.slots.bound (apic_of p k) s.monarch.eject.apic both.0 seated.bound place in
-              one_cpu p k c fit (standing.possible k stood.0) seated.less (one ∙ sym seated.own)
+              let place : slot_among s.monarch.slots.bound (apic_of p k) ≡ slot_among s.monarch.slots.bound s.monarch.eject.apic = same_tile (slot_among s.monarch.slots.bound (apic_of p k)) slot (sym both.1 ∙ base) ∙ sym eject_bound.place in
+              let one = place_same s.monarch.slots.bound (apic_of p k) s.monarch.eject.apic both.0 eject_bound.bound place in
+              one_cpu p k c fit (standing.possible k stood.0) eject_bound.less (one ∙ sym eject_bound.own)
 
-      by_marks : is_among s.monarch.label (E1 ∷ E2 ∷ []) ≡ true → Seated p s.monarch → byte_at u.writes x ≡ 1 → ((byte_at u.writes x ≡ byte_at s.writes x) ⊎ (byte_at u.writes x ≡ 0)) ⊎ ((l ≡ R6) × ((seat p s k).slot ≡ slot) × (byte_at u.writes x ≤ 1))
+      by_marks : is_among s.monarch.label (E1 ∷ E2 ∷ []) ≡ true → IsBoundEject p s.monarch → byte_at u.writes x ≡ 1 → ((byte_at u.writes x ≡ byte_at s.writes x) ⊎ (byte_at u.writes x ≡ 0)) ⊎ ((l ≡ R6) × ((seat p s k).slot ≡ slot) × (byte_at u.writes x ≤ 1))
           → (byte_at s.writes x ≡ 1) ⊎ Parked p slot (cpu_at t.cpus c)
-      by_marks there seated one (inl (inl same)) = inl (sym same ∙ one)
-      by_marks there seated one (inl (inr none)) = absurd (let both : 0 ≡ 1 = sym none ∙ one in cc)
-      by_marks there seated one (inr m) = inr (parks seated m.0 m.1)
+      by_marks there eject_bound one (inl (inl same)) = inl (sym same ∙ one)
+      by_marks there eject_bound one (inl (inr none)) = absurd (let both : 0 ≡ 1 = sym none ∙ one in cc)
+      by_marks there eject_bound one (inr m) = inr (parks eject_bound m.0 m.1)

@@ -20,7 +20,7 @@ use Rattle.hp_model.specs.SharedBytes.{layout_of, parked_byte}
 use Rattle.hp_model.specs.Handlers.{Next, want_at, next_at, address_of_label}
 use Rattle.hp_model.specs.State.{State, at}
 use Rattle.hp_model.specs.Access.{access_effect, answer_to}
-use Rattle.hp_model.specs.Firmware.{seat, go_on, same_outcome}
+use Rattle.hp_model.specs.Firmware.{seat, moved_in_smm, same_outcome}
 use Rattle.hp_model.specs.Step.{is_after_broadcast}
 use Rattle.hp_model.specs.Runs.{run_on}
 use Rattle.hp_model.specs.Transitions.{Transition, has_left, left_in}
@@ -46,7 +46,7 @@ use Rattle.hp_exact.proofs.Invariant.{Invariant}
 use Rattle.hp_exact.proofs.ParkedByte.{loads_parked, cleared, map_leaves}
 use Rattle.hp_exact.proofs.OwnEntries.{ejecting_goes, own_more, is_collects, by_label}
 use Rattle.hp_exact.proofs.Parting.{Does, parts_row}
-use Rattle.hp_exact.proofs.EjectTie.{Parked, Seated, PartsAt}
+use Rattle.hp_exact.proofs.EjectTie.{Parked, IsBoundEject, PartsAt}
 use Rattle.hp_exact.proofs.Departures.{departures_same, filter_one, none_is, stays_there}
 use Rattle.hp_exact.proofs.EjectedSlots.{eject_gone}
 use Rattle.hp_exact.proofs.Parked.{late_rows, parked_alike, still_rows, waiting_rows}
@@ -91,7 +91,7 @@ module _ (p : Platform) (fit : Sound p) (ids : Ids p) (past : List Transition) (
       n = next_at (layout_of p) (seat p s 0) s.monarch l v
 
       d : Cpu
-      d = go_on (at s 0).smbase n (at u 0)
+      d = moved_in_smm (at s 0).smbase n (at u 0)
 
       t : State
       t = ends (led_on p s 0 l v u) g (not (same_label l S2) && s.disturbed)
@@ -136,7 +136,7 @@ module _ (p : Platform) (fit : Sound p) (ids : Ids p) (past : List Transition) (
         same = λ f. by_two l refl f;
         sees = λ is one. sym (at_want p s (λ a. value_in (answer_to true a s) ≡ byte_at s.writes x) l E2 a is wants (loads_parked p s slot fit standing (tight (rw is refl)))) ∙ one;
         on = λ f calm. let r = late_rows l f in ap (departures p) (more r.0) ∙ departures_same p (made s e t) (own_of p past) (stays r.1);
-        leaves = λ is calm seated parked. gone is calm seated parked;
+        leaves = λ is calm eject_bound parked. gone is calm eject_bound parked;
         quiet = λ f calm. calm_before (not_s2 (λ m. is_among m (E1 ∷ E2 ∷ E4a ∷ E4b ∷ E4c ∷ E4d ∷ E4e ∷ E4f ∷ E4g ∷ [])) f refl) calm;
       }
         where
@@ -145,8 +145,8 @@ module _ (p : Platform) (fit : Sound p) (ids : Ids p) (past : List Transition) (
           by_two E2 is f = at_want p s (λ a. byte_at (access_effect p 0 true a s).writes x ≡ byte_at s.writes x) l E2 a is wants refl
           by_two _ is f = absurd cc
 
-          gone : l ≡ E4b → t.disturbed ≡ false → Seated p s.monarch → Parked p slot (at s c) → is_only (is_eject_of p c slot) (departures p (own_of p (made s e t ∷ past))) ≡ true
-          gone is calm seated parked = subst (λ ds. is_only (is_eject_of p c slot) ds ≡ true) (sym deps) shown
+          gone : l ≡ E4b → t.disturbed ≡ false → IsBoundEject p s.monarch → Parked p slot (at s c) → is_only (is_eject_of p c slot) (departures p (own_of p (made s e t ∷ past))) ≡ true
+          gone is calm eject_bound parked = subst (λ ds. is_only (is_eject_of p c slot) ds ≡ true) (sym deps) shown
             where
               mine : is_among l (E1 ∷ E2 ∷ E4a ∷ E4b ∷ []) ≡ true
               mine = rw is refl
@@ -164,7 +164,7 @@ module _ (p : Platform) (fit : Sound p) (ids : Ids p) (past : List Transition) (
               removed =
                   let other = other_cpu mine calm in
                   let slots = h.agrees.slots in
-                  let less = seated.less in
+                  let less = eject_bound.less in
                   let pick_less : s.block.selector < length s.block.slots = omega (arith, slots, less, chosen) in
                   let enabled : (slot_at s.block s.block.selector).enabled ≡ true = ap (λ k. (slot_at s.block k).enabled) chosen ∙ (h.agrees.enabled c ∙ parked.present) in
                   let ejected = eject_gone s.block h.modern pick_less (λ z. other (sym chosen ∙ z)) enabled in
@@ -178,7 +178,7 @@ module _ (p : Platform) (fit : Sound p) (ids : Ids p) (past : List Transition) (
               leaves = let there = parked.present in let off = removed in rw (there, off) refl
 
               left : left_in p (made s e t) ≡ c ∷ []
-              left = filter_one (has_left (made s e t)) c kept leaves (count_of p) seated.less
+              left = filter_one (has_left (made s e t)) c kept leaves (count_of p) eject_bound.less
 
               none : departures p (own_of p past) ≡ []
               none = none_is (departures p (own_of p past)) (lose.kept (rw (here.label ∙ is) refl))

@@ -15,11 +15,11 @@ use Rattle.hp_model.specs.Cpu.{cpu_at}
 use Rattle.hp_model.specs.Block.{is_in}
 use Rattle.hp_model.specs.Labels.{Monarch as Monarchs, part_of}
 use Rattle.hp_model.specs.SharedBytes.{layout_of, parked_byte}
-use Rattle.hp_model.specs.Slots.{place_of, known_from}
-use Rattle.hp_model.specs.Collection.{Report, Collection, Collected, CollectsAt, CollectedAll, collection_start, next_processor}
-use Rattle.hp_model.specs.Add.{Led, Ends, failed, is_last_look}
+use Rattle.hp_model.specs.Slots.{slot_among, known_from}
+use Rattle.hp_model.specs.Collection.{Report, Collection, CollectNext, CollectsAt, CollectEnds, collection_start, next_processor}
+use Rattle.hp_model.specs.Add.{AddNext, Ends, failed, is_last_look}
 use Rattle.hp_model.specs.Eject.{EjectsAt}
-use Rattle.hp_model.specs.Monarch.{Monarch, Facts, Class, Tells, Adds, Ejects, class, held_class, facts_of, at_label, look_at, noted, ejects, took, answered, taken_up, next_report, collected, told, led, eject_led}
+use Rattle.hp_model.specs.Monarch.{Monarch, Facts, Decision, ToTell, ToAdd, ToEject, decision, held_decision, facts_of, at_label, look_at, noted, ejects, took, answered, taken_up, next_report, after_collection, after_tell, after_add, after_eject}
 use Rattle.hp_model.specs.Handlers.{Seat, next_at}
 use Rattle.hp_model.specs.Transitions.{Transition}
 use Rattle.hp_model.specs.Outcomes.{departures, is_eject_of, is_only}
@@ -28,18 +28,18 @@ use Rattle.hp_sealed.proofs.Left.{pick, pick_by}
 use Rattle.hp_safety.proofs.FactRows.{known_out}
 use Rattle.hp_exact.proofs.Monarchs.{is_among}
 use Rattle.hp_exact.proofs.Naming.{own_is}
-use Rattle.hp_exact.proofs.EjectTie.{Alone, Parked, PartsAt, Seated, Waits}
+use Rattle.hp_exact.proofs.EjectTie.{Alone, Parked, PartsAt, IsBoundEject, Waits}
 
--- a class begins an eject of a processor's own report, of a known APIC ID, and tells refusals alone
-abbrev Begins : Facts → Class → Type 0
-Begins f (Tells (Added cpu apic slot)) = ⊥
-Begins f (Tells (Ejected cpu apic slot)) = ⊥
-Begins f (Tells (Refused why)) = Unit {0}
-Begins f Adds = Unit {0}
-Begins f Ejects = (f.own ≡ true) × (f.known ≡ true)
+-- a decision begins an eject of a processor's own report, of a known APIC ID, and tells refusals alone
+abbrev Begins : Facts → Decision → Type 0
+Begins f (ToTell (Added cpu apic slot)) = ⊥
+Begins f (ToTell (Ejected cpu apic slot)) = ⊥
+Begins f (ToTell (Refused why)) = Unit {0}
+Begins f ToAdd = Unit {0}
+Begins f ToEject = (f.own ≡ true) × (f.known ≡ true)
 
-class_begins : (f : Facts) (t : Report) → Begins f (class f t)
-class_begins f t =
+decision_begins : (f : Facts) (t : Report) → Begins f (decision f t)
+decision_begins f t =
     let g = Begins f in
     pick_by g (not f.own) _ _ (λ _. tt)
     (λ own. pick g (not (bit_and t.status 1 == 1)) _ _ tt
@@ -51,7 +51,7 @@ class_begins f t =
     holds true e = refl
     holds false e = absurd cc
 
-    by_held : (o : Option ℕ) → Begins f (held_class o t)
+    by_held : (o : Option ℕ) → Begins f (held_decision o t)
     by_held None = tt
     by_held (Some a) = pick (Begins f) (a == t.apic) _ _ tt tt
 
@@ -67,32 +67,32 @@ module _ (p : Platform) (own : List Transition) (d : Bool) (cs : List Cpu) (ws :
   parts_next : (r : Monarch) → Then (next_report p.apic r)
   parts_next r = by_reports (drop r.taken r.collection.reports)
     where
-      seated : (t : Report) → (facts_of p.apic r t).own ≡ true → (facts_of p.apic r t).known ≡ true → Placed p r.slots → Seated p (ejects t (took r))
-      seated t own known placed = let o = own_is p t own in record { own = o.apic; less = o.less; bound = by_test (is_in t.apic r.slots.bound) refl; place = refl }
+      eject_bound : (t : Report) → (facts_of p.apic r t).own ≡ true → (facts_of p.apic r t).known ≡ true → Placed p r.slots → IsBoundEject p (ejects t (took r))
+      eject_bound t own known placed = let o = own_is p t own in record { own = o.apic; less = o.less; bound = by_test (is_in t.apic r.slots.bound) refl; place = refl }
         where
           by_test : (b : Bool) → is_in t.apic r.slots.bound ≡ b → is_in t.apic r.slots.bound ≡ true
           by_test true is = is
           by_test false is = absurd (let none = known_out p r.slots t.apic placed is in let both : true ≡ false = sym known ∙ none in cc)
 
-      by_class : (t : Report) (c : Class) → Begins (facts_of p.apic r t) c → Then (answered c t (took r))
-      by_class t (Tells (Added cpu apic slot)) h = absurd h
-      by_class t (Tells (Ejected cpu apic slot)) h = absurd h
-      by_class t (Tells (Refused why)) h = λ placed. tt
-      by_class t Adds h = λ placed. tt
-      by_class t Ejects h = seated t h.0 h.1
+      by_decision : (t : Report) (c : Decision) → Begins (facts_of p.apic r t) c → Then (answered c t (took r))
+      by_decision t (ToTell (Added cpu apic slot)) h = absurd h
+      by_decision t (ToTell (Ejected cpu apic slot)) h = absurd h
+      by_decision t (ToTell (Refused why)) h = λ placed. tt
+      by_decision t ToAdd h = λ placed. tt
+      by_decision t ToEject h = eject_bound t h.0 h.1
 
       by_reports : (xs : List Report) → Then (taken_up p.apic xs r)
       by_reports [] = λ placed. tt
-      by_reports (t ∷ ts) = by_class t (class (facts_of p.apic r t) t) (class_begins (facts_of p.apic r t) t)
+      by_reports (t ∷ ts) = by_decision t (decision (facts_of p.apic r t) t) (decision_begins (facts_of p.apic r t) t)
 
-  abbrev Collects : Monarch → Collected → Type 0
-  Collects r w = Then (collected p.apic w r)
+  abbrev Collects : Monarch → CollectNext → Type 0
+  Collects r w = Then (after_collection p.apic w r)
 
   parts_processor : (n : ℕ) (r : Monarch) (c : Collection) → Collects r (next_processor n c)
-  parts_processor n r c = pick (Collects r) (nat_lt (c.cpu + 1) n) (CollectsAt C1 (record c { cpu = c.cpu + 1 })) (CollectedAll (record c { cpu = c.cpu + 1 })) (λ placed. tt) (parts_next (record r { collection = record c { cpu = c.cpu + 1 } }))
+  parts_processor n r c = pick (Collects r) (nat_lt (c.cpu + 1) n) (CollectsAt C1 (record c { cpu = c.cpu + 1 })) (CollectEnds (record c { cpu = c.cpu + 1 })) (λ placed. tt) (parts_next (record r { collection = record c { cpu = c.cpu + 1 } }))
 
-  abbrev Leads : Monarch → List ℕ → Led → Type 0
-  Leads r last w = Then (led w (record r { last = last }))
+  abbrev Leads : Monarch → List ℕ → AddNext → Type 0
+  Leads r last w = Then (after_add w (record r { last = last }))
 
   parts_failed : (r : Monarch) (last : List ℕ) (why : Refusal) → Leads r last (failed (Refused why) r.add)
   parts_failed r last why = pick (Leads r last) (nat_lt r.add.attempt 3) _ (Ends (Refused why)) (λ placed. tt) (λ placed. tt)
@@ -104,7 +104,7 @@ pub record Does (p : Platform) (own own2 : List Transition) (d d2 : Bool) (cs cs
   pub same : is_among l (E1 ∷ E2 ∷ []) ≡ true → byte_at ws2 (parked_byte (layout_of p) r.eject.slot) ≡ byte_at ws (parked_byte (layout_of p) r.eject.slot)
   pub sees : l ≡ E2 → v ≡ 1 → byte_at ws (parked_byte (layout_of p) r.eject.slot) ≡ 1
   pub on : is_among l (E4c ∷ E4d ∷ E4e ∷ E4f ∷ E4g ∷ []) ≡ true → d2 ≡ false → departures p own2 ≡ departures p own
-  pub leaves : l ≡ E4b → d2 ≡ false → Seated p r → Parked p r.eject.slot (cpu_at cs r.eject.cpu) → is_only (is_eject_of p r.eject.cpu r.eject.slot) (departures p own2) ≡ true
+  pub leaves : l ≡ E4b → d2 ≡ false → IsBoundEject p r → Parked p r.eject.slot (cpu_at cs r.eject.cpu) → is_only (is_eject_of p r.eject.cpu r.eject.slot) (departures p own2) ≡ true
   pub quiet : is_among l (E1 ∷ E2 ∷ E4a ∷ E4b ∷ E4c ∷ E4d ∷ E4e ∷ E4f ∷ E4g ∷ []) ≡ true → d2 ≡ false → d ≡ false
 
 one_is : (v : ℕ) → (v == 1) ≡ true → v ≡ 1
@@ -128,8 +128,8 @@ module _ (p : Platform) (own own2 : List Transition) (d d2 : Bool) (cs cs2 : Lis
   waits l does mine early may h calm one = does.still may calm (h (does.quiet mine calm) (sym (does.same early) ∙ one))
 
   -- its fields are the same
-  seated_as : (m : Monarch) → m.slots ≡ r.slots → m.eject.cpu ≡ r.eject.cpu → m.eject.apic ≡ r.eject.apic → m.eject.slot ≡ r.eject.slot → Seated p r → Seated p m
-  seated_as m a b c e h = record { own = ap (apic_of p) b ∙ (h.own ∙ sym c); less = subst (λ k. k < count_of p) (sym b) h.less; bound = rw (a, c) h.bound; place = rw (a, c, e) h.place }
+  eject_bound_as : (m : Monarch) → m.slots ≡ r.slots → m.eject.cpu ≡ r.eject.cpu → m.eject.apic ≡ r.eject.apic → m.eject.slot ≡ r.eject.slot → IsBoundEject p r → IsBoundEject p m
+  eject_bound_as m a b c e h = record { own = ap (apic_of p) b ∙ (h.own ∙ sym c); less = subst (λ k. k < count_of p) (sym b) h.less; bound = rw (a, c) h.bound; place = rw (a, c, e) h.place }
 
   pub parts_row : (l : Label) → part_of l ≡ Monarchs → r.label ≡ l → Does p own own2 d d2 cs cs2 ws ws2 r l v → Now (next_at (layout_of p) q r l v).monarch
   parts_row F1 mine is does = absurd cc
@@ -149,29 +149,29 @@ module _ (p : Platform) (own own2 : List Transition) (d d2 : Bool) (cs cs2 : Lis
   parts_row S2 mine is does = parts_look p own2 d2 cs2 ws2 p.polls (known_from r.slots 1) r
   parts_row S3 mine is does = pick Now ((v == 1) || nat_le r.polls 1) _ _ (parts_look p own2 d2 cs2 ws2 p.polls (known_from r.slots (r.slot + 1)) (noted r.slot v r)) (λ placed. subst (λ m. PartsAt p own2 d2 cs2 ws2 (record r { polls = r.polls - 1; last = (noted r.slot v r).last }) m) (sym is) tt)
   parts_row S4 mine is does = pick Now (v == 4) (record r { label = C1; collection = collection_start; taken = 0 }) (at_label E5 r) (λ placed. tt) (λ placed. tt)
-  parts_row C3 mine is does = pick (λ w. Now (collected p.apic w r)) (nat_lt v r.collection.cpu || not (nat_lt v (count_of p))) (CollectedAll r.collection) (CollectsAt C4 (record r.collection { cpu = v })) (parts_next p own2 d2 cs2 ws2 (record r { collection = r.collection })) (λ placed. tt)
-  parts_row C4 mine is does = pick (λ w. Now (collected p.apic w r)) (bit_and v 0x12 == 0) (next_processor (count_of p) r.collection) (CollectsAt C5 (record r.collection { status = v })) (parts_processor p own2 d2 cs2 ws2 (count_of p) r r.collection) (λ placed. tt)
+  parts_row C3 mine is does = pick (λ w. Now (after_collection p.apic w r)) (nat_lt v r.collection.cpu || not (nat_lt v (count_of p))) (CollectEnds r.collection) (CollectsAt C4 (record r.collection { cpu = v })) (parts_next p own2 d2 cs2 ws2 (record r { collection = r.collection })) (λ placed. tt)
+  parts_row C4 mine is does = pick (λ w. Now (after_collection p.apic w r)) (bit_and v 0x12 == 0) (next_processor (count_of p) r.collection) (CollectsAt C5 (record r.collection { status = v })) (parts_processor p own2 d2 cs2 ws2 (count_of p) r r.collection) (λ placed. tt)
   parts_row C6 mine is does = parts_processor p own2 d2 cs2 ws2 (count_of p) r (record r.collection { reports = r.collection.reports ++ record { cpu = r.collection.cpu; status = r.collection.status; apic = v } ∷ [] })
-  parts_row N8a mine is does = pick (λ w. Now (led w r)) (v == 1) _ _ (λ placed. tt) (λ placed. tt)
-  parts_row N8b mine is does = pick (λ w. Now (led w (noted r.add.slot v r))) (v == 1) _ _ (λ placed. tt) (pick (λ w. Now (led w (noted r.add.slot v r))) (is_last_look r.add) _ _ (λ placed. tt) (λ placed. tt))
-  parts_row N9 mine is does = pick (λ w. Now (led w r)) r.add.seen _ _ (λ placed. tt) (parts_failed p own2 d2 cs2 ws2 r r.last (NotAtGate r.add.cpu r.add.apic))
-  parts_row N11 mine is does = pick (λ w. Now (led w (noted r.add.slot v r))) (v == 1) _ _ (λ placed. tt) (pick (λ w. Now (led w (noted r.add.slot v r))) (is_last_look r.add) _ _ (parts_failed p own2 d2 cs2 ws2 r (noted r.add.slot v r).last (NotCheckedIn r.add.cpu r.add.apic)) (λ placed. tt))
-  parts_row E0 mine is does = λ placed. (seated_as (at_label E1 r) refl refl refl refl (here E0 is), λ calm one. absurd (let z = does.zeroed refl in let both : 0 ≡ 1 = sym z ∙ one in cc))
-  parts_row E1 mine is does = λ placed. (seated_as (next_at (layout_of p) q r E1 v).monarch refl refl refl refl (here E1 is).0, waits E1 does refl refl refl (here E1 is).1)
-  parts_row E2 mine is does = pick_by (λ w. Now (eject_led w r)) (v == 1) (EjectsAt E4a r.eject) _
-      (λ one placed. (seated_as (record r { label = E4a; eject = r.eject }) refl refl refl refl (here E2 is).0, λ calm. does.still refl calm ((here E2 is).1 (does.quiet refl calm) (does.sees refl (one_is v one)))))
-      (λ _. pick (λ w. Now (eject_led w r)) (nat_le r.eject.polls 1) (EjectsAt E3 r.eject) (EjectsAt E2 (record r.eject { polls = r.eject.polls - 1 })) (λ placed. tt)
-      (λ placed. (seated_as (record r { label = E2; eject = record r.eject { polls = r.eject.polls - 1 } }) refl refl refl refl (here E2 is).0, waits E2 does refl refl refl (here E2 is).1)))
-  parts_row E4a mine is does = λ placed. (seated_as (at_label E4b r) refl refl refl refl (here E4a is).0, λ calm. does.still refl calm ((here E4a is).1 (does.quiet refl calm)))
+  parts_row N8a mine is does = pick (λ w. Now (after_add w r)) (v == 1) _ _ (λ placed. tt) (λ placed. tt)
+  parts_row N8b mine is does = pick (λ w. Now (after_add w (noted r.add.slot v r))) (v == 1) _ _ (λ placed. tt) (pick (λ w. Now (after_add w (noted r.add.slot v r))) (is_last_look r.add) _ _ (λ placed. tt) (λ placed. tt))
+  parts_row N9 mine is does = pick (λ w. Now (after_add w r)) r.add.seen _ _ (λ placed. tt) (parts_failed p own2 d2 cs2 ws2 r r.last (NotAtGate r.add.cpu r.add.apic))
+  parts_row N11 mine is does = pick (λ w. Now (after_add w (noted r.add.slot v r))) (v == 1) _ _ (λ placed. tt) (pick (λ w. Now (after_add w (noted r.add.slot v r))) (is_last_look r.add) _ _ (parts_failed p own2 d2 cs2 ws2 r (noted r.add.slot v r).last (NotCheckedIn r.add.cpu r.add.apic)) (λ placed. tt))
+  parts_row E0 mine is does = λ placed. (eject_bound_as (at_label E1 r) refl refl refl refl (here E0 is), λ calm one. absurd (let z = does.zeroed refl in let both : 0 ≡ 1 = sym z ∙ one in cc))
+  parts_row E1 mine is does = λ placed. (eject_bound_as (next_at (layout_of p) q r E1 v).monarch refl refl refl refl (here E1 is).0, waits E1 does refl refl refl (here E1 is).1)
+  parts_row E2 mine is does = pick_by (λ w. Now (after_eject w r)) (v == 1) (EjectsAt E4a r.eject) _
+      (λ one placed. (eject_bound_as (record r { label = E4a; eject = r.eject }) refl refl refl refl (here E2 is).0, λ calm. does.still refl calm ((here E2 is).1 (does.quiet refl calm) (does.sees refl (one_is v one)))))
+      (λ _. pick (λ w. Now (after_eject w r)) (nat_le r.eject.polls 1) (EjectsAt E3 r.eject) (EjectsAt E2 (record r.eject { polls = r.eject.polls - 1 })) (λ placed. tt)
+      (λ placed. (eject_bound_as (record r { label = E2; eject = record r.eject { polls = r.eject.polls - 1 } }) refl refl refl refl (here E2 is).0, waits E2 does refl refl refl (here E2 is).1)))
+  parts_row E4a mine is does = λ placed. (eject_bound_as (at_label E4b r) refl refl refl refl (here E4a is).0, λ calm. does.still refl calm ((here E4a is).1 (does.quiet refl calm)))
   parts_row E4b mine is does = let h = here E4b is in
       let gone : Alone p own2 d2 r = λ calm. does.leaves refl calm h.0 (h.1 (does.quiet refl calm)) in
-      pick (λ m. Now (at_label m r)) (is_late p.delivery) E4f E4c (λ placed. (seated_as (at_label E4f r) refl refl refl refl h.0, gone)) (λ placed. (seated_as (at_label E4c r) refl refl refl refl h.0, gone))
-  parts_row E4c mine is does = λ placed. (seated_as (at_label E4d r) refl refl refl refl (here E4c is).0, alone E4c does refl refl (here E4c is).1)
-  parts_row E4d mine is does = λ placed. (seated_as (at_label E4e r) refl refl refl refl (here E4d is).0, alone E4d does refl refl (here E4d is).1)
-  parts_row E4e mine is does = let h = here E4e is in λ placed. (and_from (is_in r.eject.apic r.slots.bound) (place_of r.slots.bound r.eject.apic == r.eject.slot) h.0.bound (same_number (place_of r.slots.bound r.eject.apic) r.eject.slot h.0.place), alone E4e does refl refl h.1)
-  parts_row E4f mine is does = λ placed. (seated_as (at_label E4g r) refl refl refl refl (here E4f is).0, alone E4f does refl refl (here E4f is).1)
-  parts_row E4g mine is does = pick (λ w. Now (eject_led w r)) (bit_and v 0x10 == 0x10) (EjectsAt E4h (record r.eject { status = v })) (EjectsAt E4c r.eject) (λ placed. tt) (λ placed. (seated_as (record r { label = E4c; eject = r.eject }) refl refl refl refl (here E4g is).0, alone E4g does refl refl (here E4g is).1))
-  parts_row T mine is does = parts_next p own2 d2 cs2 ws2 (told r.outcome r)
+      pick (λ m. Now (at_label m r)) (is_late p.delivery) E4f E4c (λ placed. (eject_bound_as (at_label E4f r) refl refl refl refl h.0, gone)) (λ placed. (eject_bound_as (at_label E4c r) refl refl refl refl h.0, gone))
+  parts_row E4c mine is does = λ placed. (eject_bound_as (at_label E4d r) refl refl refl refl (here E4c is).0, alone E4c does refl refl (here E4c is).1)
+  parts_row E4d mine is does = λ placed. (eject_bound_as (at_label E4e r) refl refl refl refl (here E4d is).0, alone E4d does refl refl (here E4d is).1)
+  parts_row E4e mine is does = let h = here E4e is in λ placed. (and_from (is_in r.eject.apic r.slots.bound) (slot_among r.slots.bound r.eject.apic == r.eject.slot) h.0.bound (same_number (slot_among r.slots.bound r.eject.apic) r.eject.slot h.0.place), alone E4e does refl refl h.1)
+  parts_row E4f mine is does = λ placed. (eject_bound_as (at_label E4g r) refl refl refl refl (here E4f is).0, alone E4f does refl refl (here E4f is).1)
+  parts_row E4g mine is does = pick (λ w. Now (after_eject w r)) (bit_and v 0x10 == 0x10) (EjectsAt E4h (record r.eject { status = v })) (EjectsAt E4c r.eject) (λ placed. tt) (λ placed. (eject_bound_as (record r { label = E4c; eject = r.eject }) refl refl refl refl (here E4g is).0, alone E4g does refl refl (here E4g is).1))
+  parts_row T mine is does = parts_next p own2 d2 cs2 ws2 (after_tell r.outcome r)
   parts_row E5 mine is does = pick Now (nat_lt 1 (length r.slots.bound)) (record r { label = E6; slot = 1 }) (at_label E7 r) (λ placed. tt) (λ placed. tt)
   parts_row E6 mine is does = pick Now (nat_lt (r.slot + 1) (length r.slots.bound)) (record r { label = E6; slot = r.slot + 1 }) (at_label E7 r) (λ placed. tt) (λ placed. tt)
   parts_row E7 mine is does = λ placed. subst (PartsAt p own2 d2 cs2 ws2 r) (sym is) tt

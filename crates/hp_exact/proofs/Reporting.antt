@@ -14,8 +14,8 @@ use Rattle.hp_model.specs.Block.{Block, slot_at, status}
 use Rattle.hp_model.specs.Labels.{Monarch as Monarchs, part_of}
 use Rattle.hp_model.specs.SharedBytes.{layout_of}
 use Rattle.hp_model.specs.Slots.{known_from}
-use Rattle.hp_model.specs.Collection.{Report, Collection, Collected, CollectsAt, CollectedAll, collection_start, next_processor, found, judged, reported}
-use Rattle.hp_model.specs.Monarch.{Monarch, is_own, at_label, look_at, noted, tells, adds, ejects, took, next_report, collected, told, eject_led}
+use Rattle.hp_model.specs.Collection.{Report, Collection, CollectNext, CollectsAt, CollectEnds, collection_start, next_processor, found, judged, reported}
+use Rattle.hp_model.specs.Monarch.{Monarch, is_own, at_label, look_at, noted, at_tell, adds, ejects, took, next_report, after_collection, after_tell, after_eject}
 use Rattle.hp_model.specs.Handlers.{Seat, next_at}
 use Rattle.hp_model.specs.Step.{is_after_broadcast}
 use Rattle.hp_model.specs.Transitions.{Transition}
@@ -77,7 +77,7 @@ module _ (p : Platform) (b : Block) (cs : List Cpu) (o : Option Transition) wher
   clear_next : (r : Monarch) → list_all (is_own p.apic) r.collection.reports ≡ true → list_all (is_there cs) (drop r.taken r.collection.reports) ≡ true → rises r.collection.reports ≡ true → Clear (next_report p.apic r)
   clear_next r own there rising = next_by Clear p.apic r
       (λ _. clear_plain (at_label E5 r) refl refl refl refl refl refl refl (λ e. absurd cc) (λ e. absurd cc))
-      (λ t ts is k. clear_plain (tells k (took r)) refl refl refl refl refl refl refl (λ e. own) (λ e. later t ts is))
+      (λ t ts is k. clear_plain (at_tell k (took r)) refl refl refl refl refl refl refl (λ e. own) (λ e. later t ts is))
       (λ t ts is passed. record {
         chosen = chosen_plain (count_of p) b (adds t (took r)) refl refl refl refl;
         reported = record {
@@ -114,11 +114,11 @@ module _ (p : Platform) (b : Block) (cs : List Cpu) (o : Option Transition) wher
       later t ts is = subst (λ xs. list_all (is_there cs) xs ≡ true) (sym (drop_next r.taken r.collection.reports ts t is)) (first t ts is).1
 
   -- the collection
-  abbrev Led : Monarch → Collected → Type 0
-  Led r w = Clear (collected p.apic w r)
+  abbrev Led : Monarch → CollectNext → Type 0
+  Led r w = Clear (after_collection p.apic w r)
 
   clear_processor : (n : ℕ) (r : Monarch) (c : Collection) → list_all (is_own p.apic) c.reports ≡ true → list_all (is_there cs) (drop r.taken c.reports) ≡ true → rises c.reports ≡ true → Led r (next_processor n c)
-  clear_processor n r c own there rising = pick (Led r) (nat_lt (c.cpu + 1) n) (CollectsAt C1 (record c { cpu = c.cpu + 1 })) (CollectedAll (record c { cpu = c.cpu + 1 }))
+  clear_processor n r c own there rising = pick (Led r) (nat_lt (c.cpu + 1) n) (CollectsAt C1 (record c { cpu = c.cpu + 1 })) (CollectEnds (record c { cpu = c.cpu + 1 }))
       (clear_plain (record r { label = C1; collection = record c { cpu = c.cpu + 1 } }) refl refl refl refl refl refl refl (λ e. own) (λ e. there))
       (clear_next (record r { collection = record c { cpu = c.cpu + 1 } }) own there rising)
 
@@ -181,7 +181,7 @@ all_drop_last f (suc zero) [] t h last = refl
 all_drop_last f (suc (suc n)) [] t h last = refl
 all_drop_last f (suc n) (x ∷ xs) t h last = all_drop_last f n xs t h last
 
-pub told_same : (o : Outcome) (r : Monarch) → ((told o r).collection ≡ r.collection) × ((told o r).taken ≡ r.taken)
+pub told_same : (o : Outcome) (r : Monarch) → ((after_tell o r).collection ≡ r.collection) × ((after_tell o r).taken ≡ r.taken)
 told_same (Added cpu apic slot) r = (refl, refl)
 told_same (Ejected cpu apic slot) r = (refl, refl)
 told_same (Refused why) r = (refl, refl)
@@ -192,13 +192,13 @@ module _ (p : Platform) (b b2 : Block) (ds cs : List Cpu) (o o2 : Option Transit
   abbrev Now : Monarch → Type 0
   Now t = Undisturbed p b2 cs o2 t
 
-  clear_found : r.label ≡ C3 → Reads p b b2 o o2 r C3 v → Now (collected p.apic (found (count_of p) v r.collection) r)
+  clear_found : r.label ≡ C3 → Reads p b b2 o o2 r C3 v → Now (after_collection p.apic (found (count_of p) v r.collection) r)
   clear_found is reads =
       let h = before (rw is refl) in
       let c = r.collection in
       let own = h.reported.own (rw is refl) in
       let there = h.reported.there (rw is refl) in
-      pick (λ w. Now (collected p.apic w r)) (nat_lt v c.cpu || not (nat_lt v (count_of p))) (CollectedAll c) (CollectsAt C4 (record c { cpu = v }))
+      pick (λ w. Now (after_collection p.apic w r)) (nat_lt v c.cpu || not (nat_lt v (count_of p))) (CollectEnds c) (CollectsAt C4 (record c { cpu = v }))
       (clear_next p b2 cs o2 (record r { collection = c }) own there ordered.rising)
       (record {
         chosen = record { selected = λ e. reads.finds refl; searched = λ e. absurd cc; asked = λ e. absurd cc; handed = λ e. absurd cc };
@@ -206,14 +206,14 @@ module _ (p : Platform) (b b2 : Block) (ds cs : List Cpu) (o o2 : Option Transit
         read = λ e. absurd cc;
       })
 
-  clear_judged : r.label ≡ C4 → Reads p b b2 o o2 r C4 v → Now (collected p.apic (judged (count_of p) v r.collection) r)
+  clear_judged : r.label ≡ C4 → Reads p b b2 o o2 r C4 v → Now (after_collection p.apic (judged (count_of p) v r.collection) r)
   clear_judged is reads =
       let h = before (rw is refl) in
       let c = r.collection in
       let own = h.reported.own (rw is refl) in
       let there = h.reported.there (rw is refl) in
       let read = reads.reads refl in
-      pick_by (λ w. Now (collected p.apic w r)) (bit_and v 0x12 == 0) (next_processor (count_of p) c) (CollectsAt C5 (record c { status = v }))
+      pick_by (λ w. Now (after_collection p.apic w r)) (bit_and v 0x12 == 0) (next_processor (count_of p) c) (CollectsAt C5 (record c { status = v }))
       (λ _. clear_processor p b2 cs o2 (count_of p) r c own there ordered.rising)
       (λ some. record {
         chosen = record { selected = λ e. read.0; searched = λ e. absurd cc; asked = λ e. absurd cc; handed = λ e. absurd cc };
@@ -236,7 +236,7 @@ module _ (p : Platform) (b b2 : Block) (ds cs : List Cpu) (o o2 : Option Transit
           let all : (bit_and v 0x12 == 0) ≡ true = rw none refl in
           let both : true ≡ false = sym all ∙ f in cc
 
-  clear_reported : r.label ≡ C6 → Reads p b b2 o o2 r C6 v → Now (collected p.apic (reported (count_of p) v r.collection) r)
+  clear_reported : r.label ≡ C6 → Reads p b b2 o o2 r C6 v → Now (after_collection p.apic (reported (count_of p) v r.collection) r)
   clear_reported is reads =
       let h = before (rw is refl) in
       let c = r.collection in
@@ -333,7 +333,7 @@ module _ (p : Platform) (b b2 : Block) (ds cs : List Cpu) (o o2 : Option Transit
   clear_row E1 mine is reads after =
       let h = before (rw is refl) in clear_ejects p b2 cs o2 r (next_at (layout_of p) q r E1 v).monarch (rw is refl) (rw is refl) h.reported (ejects_on (layout_of p) q r E1 v refl) (λ e. absurd cc)
   clear_row E2 mine is reads after =
-      let h = before (rw is refl) in clear_ejects p b2 cs o2 r (next_at (layout_of p) q r E2 v).monarch (rw is refl) (rw is refl) h.reported (ejects_on (layout_of p) q r E2 v refl) (pick (λ w. is_among (eject_led w r).label (E4b ∷ []) ≡ true → b2.selector ≡ (eject_led w r).eject.cpu) (v == 1) _ _ (λ e. absurd cc) (pick (λ w. is_among (eject_led w r).label (E4b ∷ []) ≡ true → b2.selector ≡ (eject_led w r).eject.cpu) (nat_le r.eject.polls 1) _ _ (λ e. absurd cc) (λ e. absurd cc)))
+      let h = before (rw is refl) in clear_ejects p b2 cs o2 r (next_at (layout_of p) q r E2 v).monarch (rw is refl) (rw is refl) h.reported (ejects_on (layout_of p) q r E2 v refl) (pick (λ w. is_among (after_eject w r).label (E4b ∷ []) ≡ true → b2.selector ≡ (after_eject w r).eject.cpu) (v == 1) _ _ (λ e. absurd cc) (pick (λ w. is_among (after_eject w r).label (E4b ∷ []) ≡ true → b2.selector ≡ (after_eject w r).eject.cpu) (nat_le r.eject.polls 1) _ _ (λ e. absurd cc) (λ e. absurd cc)))
   clear_row E3 mine is reads after =
       let h = before (rw is refl) in clear_ejects p b2 cs o2 r (next_at (layout_of p) q r E3 v).monarch (rw is refl) (rw is refl) h.reported (ejects_on (layout_of p) q r E3 v refl) (λ e. absurd cc)
   clear_row E4a mine is reads after =
@@ -349,13 +349,13 @@ module _ (p : Platform) (b b2 : Block) (ds cs : List Cpu) (o o2 : Option Transit
   clear_row E4f mine is reads after =
       let h = before (rw is refl) in clear_ejects p b2 cs o2 r (next_at (layout_of p) q r E4f v).monarch (rw is refl) (rw is refl) h.reported (ejects_on (layout_of p) q r E4f v refl) (λ e. absurd cc)
   clear_row E4g mine is reads after =
-      let h = before (rw is refl) in clear_ejects p b2 cs o2 r (next_at (layout_of p) q r E4g v).monarch (rw is refl) (rw is refl) h.reported (ejects_on (layout_of p) q r E4g v refl) (pick (λ w. is_among (eject_led w r).label (E4b ∷ []) ≡ true → b2.selector ≡ (eject_led w r).eject.cpu) (bit_and v 0x10 == 0x10) _ _ (λ e. absurd cc) (λ e. absurd cc))
+      let h = before (rw is refl) in clear_ejects p b2 cs o2 r (next_at (layout_of p) q r E4g v).monarch (rw is refl) (rw is refl) h.reported (ejects_on (layout_of p) q r E4g v refl) (pick (λ w. is_among (after_eject w r).label (E4b ∷ []) ≡ true → b2.selector ≡ (after_eject w r).eject.cpu) (bit_and v 0x10 == 0x10) _ _ (λ e. absurd cc) (λ e. absurd cc))
   clear_row E4h mine is reads after =
       let h = before (rw is refl) in clear_ejects p b2 cs o2 r (next_at (layout_of p) q r E4h v).monarch (rw is refl) (rw is refl) h.reported (ejects_on (layout_of p) q r E4h v refl) (λ e. absurd cc)
   clear_row T mine is reads after =
       let h = before (rw is refl) in
       let same = told_same r.outcome r in
-      clear_next p b2 cs o2 (told r.outcome r) (rw same.0 (h.reported.own (rw is refl))) (rw (same.0, same.1) (h.reported.there (rw is refl))) (rw same.0 ordered.rising)
+      clear_next p b2 cs o2 (after_tell r.outcome r) (rw same.0 (h.reported.own (rw is refl))) (rw (same.0, same.1) (h.reported.there (rw is refl))) (rw same.0 ordered.rising)
   clear_row E5 mine is reads after = pick (λ (t : Monarch). is_after_broadcast t.label ≡ true → Now t) (nat_lt 1 (length r.slots.bound)) (record r { label = E6; slot = 1 }) (at_label E7 r) (λ e. absurd cc) (λ e. absurd cc) after
   clear_row E6 mine is reads after = pick (λ (t : Monarch). is_after_broadcast t.label ≡ true → Now t) (nat_lt (r.slot + 1) (length r.slots.bound)) (record r { label = E6; slot = r.slot + 1 }) (at_label E7 r) (λ e. absurd cc) (λ e. absurd cc) after
   clear_row E7 mine is reads after = absurd (let f : is_after_broadcast E7 ≡ true = subst (λ m. is_after_broadcast m ≡ true) is after in cc)

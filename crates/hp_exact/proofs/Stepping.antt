@@ -19,11 +19,11 @@ use Rattle.hp_model.specs.Boot.{Stage, Boots, Refused, Handed, is_handed, stage_
 use Rattle.hp_model.specs.SharedBytes.{Layout, layout_of}
 use Rattle.hp_model.specs.Labels.{Part, First, Relocated, Monarch as Monarchs, part_of, mark_of, same_label}
 use Rattle.hp_model.specs.Monarch.{Monarch}
-use Rattle.hp_model.specs.Handlers.{Seat, want_at, next_at, wanted_at, runs_at, is_due, address_of_label}
+use Rattle.hp_model.specs.Handlers.{Seat, want_at, next_at, wanted_at, runs_at, is_current, address_of_label}
 use Rattle.hp_model.specs.State.{State, at, set_cpu}
 use Rattle.hp_model.specs.Ports.{writes_block}
 use Rattle.hp_model.specs.Access.{is_normal, is_halt, may_access, access_effect, answer_to}
-use Rattle.hp_model.specs.Firmware.{seat, row_at, is_that_access, is_that_outcome, is_rsm, is_handlers, wanted_in, with_next, row_led, with_session, handlers_led, firmware_led, same_outcome}
+use Rattle.hp_model.specs.Firmware.{seat, label_at, is_that_access, is_that_outcome, is_rsm, is_handlers, wanted_in, with_next, row_effect, with_session, handlers_effect, firmware_effect, same_outcome}
 use Rattle.hp_model.specs.Step.{After, is_enabled, insert, request_removal, enter_smm, leave_smm, answer_of, effect_of, is_after_broadcast, is_disturbed_by, after}
 use Rattle.hp_model.specs.Runs.{address_of, run_on}
 use Rattle.hp_sealed.specs.Sealed.{is_other_tile}
@@ -63,7 +63,7 @@ pub record AtOther (p : Platform) (s : State) (k : ℕ) (l : Label) : Type 0 whe
   pub place : smm_address (at s k) ≡ Some (address_of_label (at s k).smbase l)
 
 sides : (p : Platform) (s : State) (k : ℕ) (l : Label) → AtRow p s k l → ((k ≡ 0) × AtMonarch p s l) ⊎ AtOther p s k l
-sides p s k l h = by_part (part_of l) refl h.cell.runs h.cell.due
+sides p s k l h = by_part (part_of l) refl h.cell.runs h.cell.current
   where
     place : smm_address (at s k) ≡ Some (address_of_label (at s k).smbase l)
     place = h.is ∙ ap Some h.cell.here
@@ -72,7 +72,7 @@ sides p s k l h = by_part (part_of l) refl h.cell.runs h.cell.due
     not_0 true is e f = cc
     not_0 false is e f = let z : (k == 0) ≡ true = rw f refl in let both : true ≡ false = sym z ∙ is in cc
 
-    by_part : (q : Part) → part_of l ≡ q → runs_at (layout_of p) q k (at s k).smbase ≡ true → is_due s.monarch q l ≡ true → ((k ≡ 0) × AtMonarch p s l) ⊎ AtOther p s k l
+    by_part : (q : Part) → part_of l ≡ q → runs_at (layout_of p) q k (at s k).smbase ≡ true → is_current s.monarch q l ≡ true → ((k ≡ 0) × AtMonarch p s l) ⊎ AtOther p s k l
     by_part First is runs due = inr (record { other = not_0 (k == 0) refl (and_parts (not (k == 0)) ((at s k).smbase == 0x30000) runs).0; part = λ e. let both : First ≡ Monarchs = sym is ∙ e in cc; runs = h.cell.runs; place = place })
     by_part Relocated is runs due = inr (record { other = not_0 (k == 0) refl (and_parts (not (k == 0)) (is_other_tile (layout_of p) (at s k).smbase) runs).0; part = λ e. let both : Relocated ≡ Monarchs = sym is ∙ e in cc; runs = h.cell.runs; place = place })
     by_part Monarchs is runs due =
@@ -173,7 +173,7 @@ module _ (p : Platform) (s : State) (P : Entry → State → Type 0) (h : IsStoo
       or_none false true false n e f = absurd cc
       or_none false false b n e f = absurd cc
 
-  by_event : (e : Event) (g : Stage) → is_enabled p s e ≡ true → is_handlers p s e ≡ true → P (entry_by s e) (ends (handlers_led p s e (effect_of p s e)) g (is_disturbed_by s e))
+  by_event : (e : Event) (g : Stage) → is_enabled p s e ≡ true → is_handlers p s e ≡ true → P (entry_by s e) (ends (handlers_effect p s e (effect_of p s e)) g (is_disturbed_by s e))
   by_event (Insert k) g may wanted =
       let both = and_parts (nat_lt k (count_of p)) (not (at s k).present) may in
       m.inserts k g (ltb-true k (count_of p) both.0) (not_there (at s k).present both.1)
@@ -184,7 +184,7 @@ module _ (p : Platform) (s : State) (P : Entry → State → Type 0) (h : IsStoo
   by_event (Remove k) g may wanted = m.removes k g
   by_event (Do k a) g may wanted = by_mode (is_in_smm (at s k).mode) refl wanted
     where
-      in_row : (x : Label) (w : Option Want) → row_at p s k ≡ Some x → is_in_smm (at s k).mode ≡ true → want_at (layout_of p) (seat p s k) s.monarch x ≡ w → is_that_access w a ≡ true
+      in_row : (x : Label) (w : Option Want) → label_at p s k ≡ Some x → is_in_smm (at s k).mode ≡ true → want_at (layout_of p) (seat p s k) s.monarch x ≡ w → is_that_access w a ≡ true
           → P (record { event = Do k a; answer = answer_to true a s; at = smm_address (at s k) }) (ends (led_on p s k x (value_in (answer_to true a s)) (access_effect p k true a s)) g (not ((k == 0) && same_label s.monarch.label S2) && s.disturbed))
       in_row x None is smm w f = absurd cc
       in_row x (Some (want.Do b)) is smm w f =
@@ -193,42 +193,42 @@ module _ (p : Platform) (s : State) (P : Entry → State → Type 0) (h : IsStoo
       in_row x (Some (want.Tell t)) is smm w f = absurd cc
       in_row x (Some want.Resume) is smm w f = absurd cc
 
-      by_row : (o : Option Label) → row_at p s k ≡ o → is_in_smm (at s k).mode ≡ true → is_that_access (wanted_at (layout_of p) s.monarch (seat p s k) o) a ≡ true
-          → P (record { event = Do k a; answer = answer_to true a s; at = smm_address (at s k) }) (ends (row_led p s k (answer_to true a s) o (access_effect p k true a s)) g (not ((k == 0) && same_label s.monarch.label S2) && s.disturbed))
+      by_row : (o : Option Label) → label_at p s k ≡ o → is_in_smm (at s k).mode ≡ true → is_that_access (wanted_at (layout_of p) s.monarch (seat p s k) o) a ≡ true
+          → P (record { event = Do k a; answer = answer_to true a s; at = smm_address (at s k) }) (ends (row_effect p s k (answer_to true a s) o (access_effect p k true a s)) g (not ((k == 0) && same_label s.monarch.label S2) && s.disturbed))
       by_row None is smm f = absurd cc
       by_row (Some x) is smm f = in_row x (want_at (layout_of p) (seat p s k) s.monarch x) is smm refl f
 
-      by_mode : (b : Bool) → is_in_smm (at s k).mode ≡ b → (not b || is_that_access (wanted_at (layout_of p) s.monarch (seat p s k) (row_at p s k)) a) ≡ true
+      by_mode : (b : Bool) → is_in_smm (at s k).mode ≡ b → (not b || is_that_access (wanted_at (layout_of p) s.monarch (seat p s k) (label_at p s k)) a) ≡ true
           → P (record { event = Do k a; answer = answer_to b a s; at = smm_address (at s k) })
-          (ends (cond b (row_led p s k (answer_to b a s) (row_at p s k) (access_effect p k b a s)) (access_effect p k b a s)) g (cond b (not ((k == 0) && same_label s.monarch.label S2) && s.disturbed) (s.disturbed || (writes_block a && is_after_broadcast s.monarch.label))))
-      by_mode true smm f = by_row (row_at p s k) refl smm f
+          (ends (cond b (row_effect p s k (answer_to b a s) (label_at p s k) (access_effect p k b a s)) (access_effect p k b a s)) g (cond b (not ((k == 0) && same_label s.monarch.label S2) && s.disturbed) (s.disturbed || (writes_block a && is_after_broadcast s.monarch.label))))
+      by_mode true smm f = by_row (label_at p s k) refl smm f
       by_mode false smm f = m.outside k a g (free_of k a may smm) smm
   by_event (TakeSmi k) g may wanted = m.enters k g may
   by_event (TakeInit k) g may wanted = m.inits k g may
-  by_event (Resume k) g may wanted = by_row (row_at p s k) refl wanted
+  by_event (Resume k) g may wanted = by_row (label_at p s k) refl wanted
     where
-      in_row : (x : Label) (w : Option Want) → row_at p s k ≡ Some x → want_at (layout_of p) (seat p s k) s.monarch x ≡ w → is_rsm w ≡ true → P (entry_by s (Resume k)) (ends (leave_smm k s) g s.disturbed)
+      in_row : (x : Label) (w : Option Want) → label_at p s k ≡ Some x → want_at (layout_of p) (seat p s k) s.monarch x ≡ w → is_rsm w ≡ true → P (entry_by s (Resume k)) (ends (leave_smm k s) g s.disturbed)
       in_row x None is w f = absurd cc
       in_row x (Some (want.Do b)) is w f = absurd cc
       in_row x (Some (want.Tell t)) is w f = absurd cc
       in_row x (Some want.Resume) is w f = resumes k x g (row_stands p s k x h is) w
 
-      by_row : (o : Option Label) → row_at p s k ≡ o → is_rsm (wanted_at (layout_of p) s.monarch (seat p s k) o) ≡ true → P (entry_by s (Resume k)) (ends (leave_smm k s) g s.disturbed)
+      by_row : (o : Option Label) → label_at p s k ≡ o → is_rsm (wanted_at (layout_of p) s.monarch (seat p s k) o) ≡ true → P (entry_by s (Resume k)) (ends (leave_smm k s) g s.disturbed)
       by_row None is f = absurd cc
       by_row (Some x) is f = in_row x (want_at (layout_of p) (seat p s k) s.monarch x) is refl f
-  by_event (Tell o) g may wanted = by_row (row_at p s 0) refl wanted
+  by_event (Tell o) g may wanted = by_row (label_at p s 0) refl wanted
     where
-      in_row : (x : Label) (w : Option Want) → row_at p s 0 ≡ Some x → want_at (layout_of p) (seat p s 0) s.monarch x ≡ w → is_that_outcome w o ≡ true → P (entry_by s (Tell o)) (ends (led_on p s 0 x 0 s) g s.disturbed)
+      in_row : (x : Label) (w : Option Want) → label_at p s 0 ≡ Some x → want_at (layout_of p) (seat p s 0) s.monarch x ≡ w → is_that_outcome w o ≡ true → P (entry_by s (Tell o)) (ends (led_on p s 0 x 0 s) g s.disturbed)
       in_row x None is w f = absurd cc
       in_row x (Some (want.Do b)) is w f = absurd cc
       in_row x (Some (want.Tell t)) is w f = told_row x o t g (row_stands p s 0 x h is) w f
       in_row x (Some want.Resume) is w f = absurd cc
 
-      by_row : (l : Option Label) → row_at p s 0 ≡ l → is_that_outcome (wanted_at (layout_of p) s.monarch (seat p s 0) l) o ≡ true → P (entry_by s (Tell o)) (ends (row_led p s 0 Quiet l s) g s.disturbed)
+      by_row : (l : Option Label) → label_at p s 0 ≡ l → is_that_outcome (wanted_at (layout_of p) s.monarch (seat p s 0) l) o ≡ true → P (entry_by s (Tell o)) (ends (row_effect p s 0 Quiet l s) g s.disturbed)
       by_row None is f = absurd cc
       by_row (Some x) is f = in_row x (want_at (layout_of p) (seat p s 0) s.monarch x) is refl f
 
-  by_stage : (g : Stage) → s.stage ≡ g → is_handed g ≡ true → (e : Event) → is_enabled p s e ≡ true → wanted_in p s g e ≡ true → P (entry_by s e) (ends (firmware_led p s g e (effect_of p s e)) (stage_after p.tseg_mib (answer_of s e) g) (is_disturbed_by s e))
+  by_stage : (g : Stage) → s.stage ≡ g → is_handed g ≡ true → (e : Event) → is_enabled p s e ≡ true → wanted_in p s g e ≡ true → P (entry_by s e) (ends (firmware_effect p s g e (effect_of p s e)) (stage_after p.tseg_mib (answer_of s e) g) (is_disturbed_by s e))
   by_stage (Boots done supported) is handed e may wanted = absurd cc
   by_stage (Refused fact) is handed e may wanted = absurd cc
   by_stage (Handed requested) is handed e may wanted = by_event e (Handed requested) may wanted

@@ -8,21 +8,21 @@ use Rattle.hp_model.specs.Cpu.{smm_address}
 use Rattle.hp_model.specs.Boot.{is_handed}
 use Rattle.hp_model.specs.Labels.{part_of}
 use Rattle.hp_model.specs.SharedBytes.{layout_of}
-use Rattle.hp_model.specs.Handlers.{runs_at, is_due, address_of_label}
+use Rattle.hp_model.specs.Handlers.{runs_at, is_current, address_of_label}
 use Rattle.hp_model.specs.State.{State, at}
-use Rattle.hp_model.specs.Firmware.{row_at}
+use Rattle.hp_model.specs.Firmware.{label_at}
 use Rattle.hp_sealed.specs.Left.{Sound, Locked}
 use Rattle.hp_sealed.specs.Sealed.{is_based}
-use Rattle.hp_safety.proofs.Invariant.{Stands}
+use Rattle.hp_safety.proofs.Invariant.{IsAtCell}
 use Rattle.hp_safety.proofs.Keeps.{row_here, no_row}
 use Rattle.hp_safety.proofs.Runs.{IsHanded}
 
 -- processor k stands at address a, the cell of a label of the handler that runs at its SMBASE, and has this label's row
 pub record AtCell (p : Platform) (s : State) (k a : ℕ) (l : Label) : Type 0 where
   pub runs : runs_at (layout_of p) (part_of l) k (at s k).smbase ≡ true
-  pub due : is_due s.monarch (part_of l) l ≡ true
+  pub current : is_current s.monarch (part_of l) l ≡ true
   pub here : a ≡ address_of_label (at s k).smbase l
-  pub row : row_at p s k ≡ Some l
+  pub row : label_at p s k ≡ Some l
 
 -- after the hand-over: the lock registers are fixed, processor 0 is there, each present processor is a possible one with an SMBASE that it may have,
 -- and whoever is in SMM stands at a cell of its handler
@@ -43,8 +43,8 @@ stood p s sound h = record {
   based = h.slots.based;
   possible = h.slots.possible;
   stands = λ k a is.
-      let c : Stands p s.monarch s.writes k (at s k).smbase (at s k).base (Some a) = subst (Stands p s.monarch s.writes k (at s k).smbase (at s k).base) is (h.stand.each k) in
-      (c.0, record { runs = c.1.runs; due = c.1.due; here = c.1.here; row = row_here p s.writes s k a c.0 sound h is c.1 });
+      let c : IsAtCell p s.monarch s.writes k (at s k).smbase (at s k).base (Some a) = subst (IsAtCell p s.monarch s.writes k (at s k).smbase (at s k).base) is (h.stand.each k) in
+      (c.0, record { runs = c.1.runs; current = c.1.current; here = c.1.here; row = row_here p s.writes s k a c.0 sound h is c.1 });
 }
 
 -- who has a row stands at its cell
@@ -53,7 +53,7 @@ pub record AtRow (p : Platform) (s : State) (k : ℕ) (l : Label) : Type 0 where
   pub is : smm_address (at s k) ≡ Some address
   pub cell : AtCell p s k address l
 
-pub row_stands : (p : Platform) (s : State) (k : ℕ) (l : Label) → IsStood p s → row_at p s k ≡ Some l → AtRow p s k l
+pub row_stands : (p : Platform) (s : State) (k : ℕ) (l : Label) → IsStood p s → label_at p s k ≡ Some l → AtRow p s k l
 row_stands p s k l h e = by_address (smm_address (at s k)) refl
   where
     by_address : (o : Option ℕ) → smm_address (at s k) ≡ o → AtRow p s k l

@@ -11,8 +11,8 @@ use Rattle.hp_model.specs.Boot.{value_in}
 use Rattle.hp_model.specs.Labels.{Monarch as Monarchs, part_of, index_of, same_label}
 use Rattle.hp_model.specs.SharedBytes.{Layout}
 use Rattle.hp_model.specs.Slots.{known_from}
-use Rattle.hp_model.specs.Collection.{Report, Collection, Collected, CollectsAt, CollectedAll, next_processor, found, judged}
-use Rattle.hp_model.specs.Monarch.{Monarch, at_label, first_slot, next_slot, look_at, noted, tells, adds, ejects, took, next_report, collected, told, restarted}
+use Rattle.hp_model.specs.Collection.{Report, Collection, CollectNext, CollectsAt, CollectEnds, next_processor, found, judged}
+use Rattle.hp_model.specs.Monarch.{Monarch, at_label, first_slot, next_slot, look_at, noted, at_tell, adds, ejects, took, next_report, after_collection, after_tell, restarted}
 use Rattle.hp_model.specs.Handlers.{Seat, next_at}
 use Rattle.hp_model.specs.Step.{is_after_broadcast}
 use Rattle.hp_model.specs.Account.{is_at}
@@ -139,20 +139,20 @@ tied_look a polls None r d facts none = waits_tied a (look_at polls None r) d re
 tied_report : (a : Account) (apics : List ℕ) (r : Monarch) (d : Bool) → Called a d → a.reports ≡ r.collection.reports → Tied a (next_report apics r) d
 tied_report a apics r d facts reports = next_by (Ties a d) apics r
     (λ _. closes_tied a (at_label E5 r) d refl facts)
-    (λ t ts _ o. collects_tied a (tells o (took r)) d refl refl refl facts reports (λ e. absurd cc) (λ e. absurd cc))
+    (λ t ts _ o. collects_tied a (at_tell o (took r)) d refl refl refl facts reports (λ e. absurd cc) (λ e. absurd cc))
     (λ t ts _ _. collects_tied a (adds t (took r)) d refl refl refl facts reports (λ e. absurd cc) (λ e. absurd cc))
     (λ t ts _ _. collects_tied a (ejects t (took r)) d refl refl refl facts reports (λ e. absurd cc) (λ e. absurd cc))
 
-told_collection : (o : Outcome) (r : Monarch) → (told o r).collection ≡ r.collection
+told_collection : (o : Outcome) (r : Monarch) → (after_tell o r).collection ≡ r.collection
 told_collection (Added cpu apic slot) r = refl
 told_collection (Ejected cpu apic slot) r = refl
 told_collection (Refused why) r = refl
 
-abbrev Led : Account → Bool → List ℕ → Monarch → Collected → Type 0
-Led a d apics r w = Tied a (collected apics w r) d
+abbrev TiedAfter : Account → Bool → List ℕ → Monarch → CollectNext → Type 0
+TiedAfter a d apics r w = Tied a (after_collection apics w r) d
 
-tied_processor : (a : Account) (n : ℕ) (apics : List ℕ) (r : Monarch) (c : Collection) (d : Bool) → Called a d → a.reports ≡ c.reports → Led a d apics r (next_processor n c)
-tied_processor a n apics r c d facts reports = pick (Led a d apics r) (nat_lt (c.cpu + 1) n) _ _
+tied_processor : (a : Account) (n : ℕ) (apics : List ℕ) (r : Monarch) (c : Collection) (d : Bool) → Called a d → a.reports ≡ c.reports → TiedAfter a d apics r (next_processor n c)
+tied_processor a n apics r c d facts reports = pick (TiedAfter a d apics r) (nat_lt (c.cpu + 1) n) _ _
     (collects_tied a (record r { label = C1; collection = record c { cpu = c.cpu + 1 } }) d refl refl refl facts reports (λ e. absurd cc) (λ e. absurd cc))
     (tied_report a apics (record r { collection = record c { cpu = c.cpu + 1 } }) d facts reports)
 
@@ -179,13 +179,13 @@ tied_row y x r C2 v a d mine is h = collects_tied a (at_label C3 r) d refl refl 
 tied_row y x r C3 v a d mine is h =
     let c = r.collection in
     let b : Account = record a { cpu = v } in
-    pick (Led b d y.apics r) (nat_lt v c.cpu || not (nat_lt v y.count)) (CollectedAll c) (CollectsAt C4 (record c { cpu = v }))
+    pick (TiedAfter b d y.apics r) (nat_lt v c.cpu || not (nat_lt v y.count)) (CollectEnds c) (CollectsAt C4 (record c { cpu = v }))
     (tied_report b y.apics (record r { collection = c }) d (h.called (rw is refl)) (h.reports (rw is refl)))
     (collects_tied b (record r { label = C4; collection = record c { cpu = v } }) d refl refl refl (h.called (rw is refl)) (h.reports (rw is refl)) (λ e. refl) (λ e. absurd cc))
 tied_row y x r C4 v a d mine is h =
     let c = r.collection in
     let b : Account = record a { status = v } in
-    pick (Led b d y.apics r) (bit_and v 0x12 == 0) (next_processor y.count c) (CollectsAt C5 (record c { status = v }))
+    pick (TiedAfter b d y.apics r) (bit_and v 0x12 == 0) (next_processor y.count c) (CollectsAt C5 (record c { status = v }))
     (tied_processor b y.count y.apics r c d (h.called (rw is refl)) (h.reports (rw is refl)))
     (collects_tied b (record r { label = C5; collection = record c { status = v } }) d refl refl refl (h.called (rw is refl)) (h.reports (rw is refl)) (λ e. h.found (rw is refl)) (λ e. refl))
 tied_row y x r C5 v a d mine is h = collects_tied a (at_label C6 r) d refl refl refl (h.called (rw is refl)) (h.reports (rw is refl)) (λ e. h.found (rw is refl)) (λ e. h.judged (rw is refl))
@@ -220,7 +220,7 @@ tied_row y x r E4e v a d mine is h = let on = ejects_on y x r E4e v refl in answ
 tied_row y x r E4f v a d mine is h = let on = ejects_on y x r E4f v refl in answers_tied a (next_at y x r E4f v).monarch d (ejecting_answers (next_at y x r E4f v).monarch.label on.label) (h.called (rw is refl)) (h.reports (rw is refl) ∙ sym (ap (λ (c : Collection). c.reports) on.collection))
 tied_row y x r E4g v a d mine is h = let on = ejects_on y x r E4g v refl in answers_tied a (next_at y x r E4g v).monarch d (ejecting_answers (next_at y x r E4g v).monarch.label on.label) (h.called (rw is refl)) (h.reports (rw is refl) ∙ sym (ap (λ (c : Collection). c.reports) on.collection))
 tied_row y x r E4h v a d mine is h = let on = ejects_on y x r E4h v refl in answers_tied a (next_at y x r E4h v).monarch d (ejecting_answers (next_at y x r E4h v).monarch.label on.label) (h.called (rw is refl)) (h.reports (rw is refl) ∙ sym (ap (λ (c : Collection). c.reports) on.collection))
-tied_row y x r T v a d mine is h = tied_report a y.apics (told r.outcome r) d (h.called (rw is refl)) (h.reports (rw is refl) ∙ sym (ap (λ (c : Collection). c.reports) (told_collection r.outcome r)))
+tied_row y x r T v a d mine is h = tied_report a y.apics (after_tell r.outcome r) d (h.called (rw is refl)) (h.reports (rw is refl) ∙ sym (ap (λ (c : Collection). c.reports) (told_collection r.outcome r)))
 tied_row y x r E5 v a d mine is h = tied_free (record a { closed = true }) r d (and_right a.sent false refl)
 tied_row y x r E6 v a d mine is h = tied_freed a r d (h.left (rw is refl))
 tied_row y x r E7 v a d mine is h = h

@@ -18,8 +18,8 @@ use Rattle.hp_model.specs.Interrupts.{destination, is_target}
 use Rattle.hp_model.specs.Labels.{Monarch as Monarchs, part_of}
 use Rattle.hp_model.specs.SharedBytes.{Layout, layout_of}
 use Rattle.hp_model.specs.Slots.{known_from}
-use Rattle.hp_model.specs.Collection.{Collection, CollectsAt, CollectedAll, collection_start, next_processor}
-use Rattle.hp_model.specs.Monarch.{Monarch, at_label, look_at, noted, next_report, collected, told, eject_led, led}
+use Rattle.hp_model.specs.Collection.{Collection, CollectsAt, CollectEnds, collection_start, next_processor}
+use Rattle.hp_model.specs.Monarch.{Monarch, at_label, look_at, noted, next_report, after_collection, after_tell, after_eject, after_add}
 use Rattle.hp_model.specs.Add.{is_last_look}
 use Rattle.hp_model.specs.Handlers.{Seat, want_at, next_at}
 use Rattle.hp_model.specs.State.{State, at}
@@ -43,8 +43,8 @@ asleep_look : (polls : ℕ) (k : Option ℕ) (r : Monarch) → Asleep (look_at p
 asleep_look polls (Some slot) r = refl
 asleep_look polls None r = refl
 
-asleep_processor : (n : ℕ) (apics : List ℕ) (r : Monarch) (c : Collection) → Asleep (collected apics (next_processor n c) r)
-asleep_processor n apics r c = pick (λ w. Asleep (collected apics w r)) (nat_lt (c.cpu + 1) n) (CollectsAt C1 (record c { cpu = c.cpu + 1 })) (CollectedAll (record c { cpu = c.cpu + 1 })) refl (asleep_next apics (record r { collection = record c { cpu = c.cpu + 1 } }))
+asleep_processor : (n : ℕ) (apics : List ℕ) (r : Monarch) (c : Collection) → Asleep (after_collection apics (next_processor n c) r)
+asleep_processor n apics r c = pick (λ w. Asleep (after_collection apics w r)) (nat_lt (c.cpu + 1) n) (CollectsAt C1 (record c { cpu = c.cpu + 1 })) (CollectEnds (record c { cpu = c.cpu + 1 })) refl (asleep_next apics (record r { collection = record c { cpu = c.cpu + 1 } }))
 
 -- only from N3, N4 and N5 on
 pub asleep_row : (y : Layout) (q : Seat) (r : Monarch) (l : Label) (v : ℕ) → part_of l ≡ Monarchs → r.label ≡ l → is_among l (N3 ∷ N4 ∷ N5 ∷ []) ≡ false → Asleep (next_at y q r l v).monarch
@@ -65,20 +65,20 @@ asleep_row y q r S1 v mine is other = pick Asleep (nat_lt (r.slot + 1) (length r
 asleep_row y q r S2 v mine is other = asleep_look y.polls (known_from r.slots 1) r
 asleep_row y q r S3 v mine is other = pick Asleep ((v == 1) || nat_le r.polls 1) _ _ (asleep_look y.polls (known_from r.slots (r.slot + 1)) (noted r.slot v r)) (rw is refl)
 asleep_row y q r S4 v mine is other = pick Asleep (v == 4) (record r { label = C1; collection = collection_start; taken = 0 }) (at_label E5 r) refl refl
-asleep_row y q r C3 v mine is other = pick (λ w. Asleep (collected y.apics w r)) (nat_lt v r.collection.cpu || not (nat_lt v y.count)) (CollectedAll r.collection) (CollectsAt C4 (record r.collection { cpu = v })) (asleep_next y.apics (record r { collection = r.collection })) refl
-asleep_row y q r C4 v mine is other = pick (λ w. Asleep (collected y.apics w r)) (bit_and v 0x12 == 0) (next_processor y.count r.collection) (CollectsAt C5 (record r.collection { status = v })) (asleep_processor y.count y.apics r r.collection) refl
+asleep_row y q r C3 v mine is other = pick (λ w. Asleep (after_collection y.apics w r)) (nat_lt v r.collection.cpu || not (nat_lt v y.count)) (CollectEnds r.collection) (CollectsAt C4 (record r.collection { cpu = v })) (asleep_next y.apics (record r { collection = r.collection })) refl
+asleep_row y q r C4 v mine is other = pick (λ w. Asleep (after_collection y.apics w r)) (bit_and v 0x12 == 0) (next_processor y.count r.collection) (CollectsAt C5 (record r.collection { status = v })) (asleep_processor y.count y.apics r r.collection) refl
 asleep_row y q r C6 v mine is other = asleep_processor y.count y.apics r _
 asleep_row y q r N3 v mine is other = absurd cc
 asleep_row y q r N4 v mine is other = absurd cc
 asleep_row y q r N5 v mine is other = absurd cc
-asleep_row y q r N8a v mine is other = pick (λ w. Asleep (led w r)) (v == 1) _ _ refl refl
-asleep_row y q r N8b v mine is other = pick (λ w. Asleep (led w (noted r.add.slot v r))) (v == 1) _ _ refl (pick (λ w. Asleep (led w (noted r.add.slot v r))) (is_last_look r.add) _ _ refl refl)
-asleep_row y q r N9 v mine is other = pick (λ w. Asleep (led w r)) r.add.seen _ _ refl (pick (λ w. Asleep (led w r)) (nat_lt r.add.attempt 3) _ _ refl refl)
-asleep_row y q r N11 v mine is other = pick (λ w. Asleep (led w (noted r.add.slot v r))) (v == 1) _ _ refl (pick (λ w. Asleep (led w (noted r.add.slot v r))) (is_last_look r.add) _ _ (pick (λ w. Asleep (led w (noted r.add.slot v r))) (nat_lt r.add.attempt 3) _ _ refl refl) refl)
-asleep_row y q r E2 v mine is other = pick (λ w. Asleep (eject_led w r)) (v == 1) _ _ refl (pick (λ w. Asleep (eject_led w r)) (nat_le r.eject.polls 1) _ _ refl refl)
+asleep_row y q r N8a v mine is other = pick (λ w. Asleep (after_add w r)) (v == 1) _ _ refl refl
+asleep_row y q r N8b v mine is other = pick (λ w. Asleep (after_add w (noted r.add.slot v r))) (v == 1) _ _ refl (pick (λ w. Asleep (after_add w (noted r.add.slot v r))) (is_last_look r.add) _ _ refl refl)
+asleep_row y q r N9 v mine is other = pick (λ w. Asleep (after_add w r)) r.add.seen _ _ refl (pick (λ w. Asleep (after_add w r)) (nat_lt r.add.attempt 3) _ _ refl refl)
+asleep_row y q r N11 v mine is other = pick (λ w. Asleep (after_add w (noted r.add.slot v r))) (v == 1) _ _ refl (pick (λ w. Asleep (after_add w (noted r.add.slot v r))) (is_last_look r.add) _ _ (pick (λ w. Asleep (after_add w (noted r.add.slot v r))) (nat_lt r.add.attempt 3) _ _ refl refl) refl)
+asleep_row y q r E2 v mine is other = pick (λ w. Asleep (after_eject w r)) (v == 1) _ _ refl (pick (λ w. Asleep (after_eject w r)) (nat_le r.eject.polls 1) _ _ refl refl)
 asleep_row y q r E4b v mine is other = pick (λ m. Asleep (at_label m r)) y.late E4f E4c refl refl
-asleep_row y q r E4g v mine is other = pick (λ w. Asleep (eject_led w r)) (bit_and v 0x10 == 0x10) _ _ refl refl
-asleep_row y q r T v mine is other = asleep_next y.apics (told r.outcome r)
+asleep_row y q r E4g v mine is other = pick (λ w. Asleep (after_eject w r)) (bit_and v 0x10 == 0x10) _ _ refl refl
+asleep_row y q r T v mine is other = asleep_next y.apics (after_tell r.outcome r)
 asleep_row y q r E5 v mine is other = pick Asleep (nat_lt 1 (length r.slots.bound)) (record r { label = E6; slot = 1 }) (at_label E7 r) refl refl
 asleep_row y q r E6 v mine is other = pick Asleep (nat_lt (r.slot + 1) (length r.slots.bound)) (record r { label = E6; slot = r.slot + 1 }) (at_label E7 r) refl refl
 asleep_row y q r E7 v mine is other = rw is refl

@@ -15,7 +15,7 @@ use Rattle.hp_model.proofs.AtEach.{made}
 use Rattle.hp_sealed.specs.Left.{Sound}
 use Rattle.hp_sealed.proofs.Goes.{stepped, refused_goes}
 use Rattle.hp_sealed.proofs.Runs.{made as made_by}
-use Rattle.hp_safety.proofs.Runs.{IsGood, goes}
+use Rattle.hp_safety.proofs.Runs.{IsGood, keeps_good}
 use Rattle.hp_sealed.proofs.Starts.{sound, starts}
 use Rattle.hp_exact.proofs.Stood.{stood}
 use Rattle.hp_exact.proofs.Naming.{Ids}
@@ -50,7 +50,7 @@ pub whole_goes : (p : Platform) → Sound p → Ids p → (past : List Transitio
 whole_goes p sound ids past s t e h is = by_good h.good
   where
     next : IsGood p t
-    next = let mk = made_by p s e t is in subst (IsGood p) mk.state (goes p s e.event mk.after sound h.good mk.step).0
+    next = let mk = made_by p s e t is in subst (IsGood p) mk.state (keeps_good p s e.event mk.after sound h.good mk.step).0
 
     by_good : IsGood p s → Whole p (made s e t ∷ past) t
     by_good (inl k) =

@@ -40,7 +40,7 @@ pub fn outcomes_lose_none()
 
 /// Each outcome of an add or an eject shows in its entries: in what they read and stored, and while the session is undisturbed in who has
 /// its slot's tile or is absent. Of what is refused at once `Foreign` comes in disturbed sessions alone; of the others, which are what
-/// the report's class says, nothing is asked here.
+/// the report's decision says, nothing is asked here.
 pub fn outcomes_show()
     ensures { (p : Platform) (es : List Entry) → IsFit p → each_told p (shows p) (transitions p es) ≡ true }
 {}

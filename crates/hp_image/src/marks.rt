@@ -19,7 +19,7 @@ pub enum Handler {
 
 /// A label's handler, and how many of that handler's labels come before it.
 #[derive(Clone, Copy)]
-pub struct Place {
+pub struct Position {
     pub handler: Handler,
     pub index: u32,
 }
@@ -33,35 +33,35 @@ const FIRST_LOOK: u32 = Label::E4f as u32;
 const FIRST_AFTER: u32 = Label::T as u32;
 
 /// Where a label stands among the labels.
-pub fn place_of(label: Label) -> Place
+pub fn position_of(label: Label) -> Position
     ensures handler { part_named result.handler ≡ part_of label }
     ensures index { result.index ≡ index_of label }
     ensures below { result.index < 41 }
 {
     let place = label as u32;
     if place < FIRST_RELOCATED {
-        Place {
+        Position {
             handler: Handler::First,
             index: place,
         }
     } else if place < FIRST_MONARCH {
-        Place {
+        Position {
             handler: Handler::Relocated,
             index: place - FIRST_RELOCATED,
         }
     } else if place < FIRST_LOOK {
-        Place {
+        Position {
             handler: Handler::Monarch,
             index: place - FIRST_MONARCH,
         }
     } else if place < FIRST_AFTER {
         // those that look whether an eject went through came last (own rule)
-        Place {
+        Position {
             handler: Handler::Monarch,
             index: 38 + place - FIRST_LOOK,
         }
     } else {
-        Place {
+        Position {
             handler: Handler::Monarch,
             index: 34 + place - FIRST_AFTER,
         }
@@ -83,7 +83,7 @@ fn first_mark(handler: Handler) -> u32
 pub fn mark(label: Label) -> u32
     ensures { result ≡ mark_of label }
 {
-    let place = place_of(label);
+    let place = position_of(label);
     first_mark(place.handler) + place.index
 }
 
@@ -171,7 +171,7 @@ pub fn cell(p: &Platform, label: Label, slot: u32) -> u32
     requires slot { slot < count_of p.now }
     ensures { result ≡ cell_of p.now label slot }
 {
-    let place = place_of(label);
+    let place = position_of(label);
     first_cell(p, place.handler, slot) + 4 * place.index
 }
 

@@ -19,7 +19,7 @@ use Rattle.hp_model.specs.Ports.{is_on_block, is_fw_cfg_data}
 use Rattle.hp_model.specs.Step.{answer_of, effect_of}
 use Rattle.hp_image.specs.declared.stores.Cell.{Cell}
 use Rattle.hp_image.specs.Cells.{stored_cells}
-use Rattle.hp_mem.specs.Kept.{Kept, Stands}
+use Rattle.hp_mem.specs.Kept.{Kept, StandsFor as MemoryStandsFor}
 
 -- the memory's bytes are all that is seen of the writes that made them
 pub record Machine : Type 0 where
@@ -36,9 +36,9 @@ pub record Machine : Type 0 where
 
 -- the machine stands for this state of the model: its memory by the writes, all else by equality.
 -- Where the boot stands and what the monarch keeps aren't the machine's to know.
-pub record IsState (p : Platform) (m : Machine) (s : State) : Type 0 where
+pub record StandsFor (p : Platform) (m : Machine) (s : State) : Type 0 where
   pub apic : m.apic ≡ p.apic
-  pub memory : Stands m.memory s.writes
+  pub memory : MemoryStandsFor m.memory s.writes
   pub locks : m.locks ≡ s.locks
   pub cpus : m.cpus ≡ s.cpus
   pub block : m.block ≡ s.block
@@ -50,7 +50,7 @@ pub record IsState (p : Platform) (m : Machine) (s : State) : Type 0 where
 -- the answer is the event's in this state, and the machine stands for the state after it
 pub record IsStep (p : Platform) (m : Machine) (s : State) (e : Event) (answer : Answer) : Type 0 where
   pub answers : answer ≡ answer_of s e
-  pub state : IsState p m (effect_of p s e)
+  pub state : StandsFor p m (effect_of p s e)
 
 -- the answer fits the event: a value of the width that an access asks for, or none
 abbrev pub FitsEvent : Event → Answer → Type 0

@@ -65,16 +65,16 @@ fn hit_all(cpus: &mut Cpus, apic: &[u32])
     }
 }
 
-/// The SMI of the SMI command port: to all present processors where it is broadcast, else to processor `k`.
-pub fn raise_smi(cpus: &mut Cpus, apic: &[u32], k: u32, broadcast: bool)
+/// The SMI of the SMI command port: to all present processors where it is broadcast, else to processor `cpu`.
+pub fn raise_smi(cpus: &mut Cpus, apic: &[u32], cpu: u32, broadcast: bool)
     requires same { length cpus.old ≡ length apic.now }
     requires few { length apic.now ≤ most_processors }
-    requires place { k < length apic.now }
-    ensures { cpus.new ≡ smi_raised broadcast k apic.now cpus.old }
+    requires place { cpu < length apic.now }
+    ensures { cpus.new ≡ smi_raised broadcast cpu apic.now cpus.old }
 {
     if broadcast {
         hit_all(cpus, apic);
     } else {
-        cpus.hit(k, Kind::Smi);
+        cpus.hit(cpu, Kind::Smi);
     }
 }

@@ -10,12 +10,12 @@ ghost use Rattle.hp_model.specs.Access.{stands_in_smm};
 ghost use Rattle.hp_model.specs.Firmware.{mark_at};
 ghost use Rattle.hp_model.specs.Step.{can_do};
 ghost use Rattle.hp_model.specs.Memory.{Write};
-ghost use Rattle.hp_mem.specs.Kept.{Stands};
+ghost use Rattle.hp_mem.specs.Kept.{StandsFor as MemoryStandsFor};
 ghost use Rattle.hp_model.specs.Block.{ejected_by};
 ghost use Rattle.hp_image.specs.Cells.{AreCells, cells_fit, stored_cells};
 ghost use Rattle.hp_regs.specs.Ports.{IsWidth};
 ghost use Rattle.hp_model.specs.Ports.{start_transfer as with_transfer, write_block as on_block, write_ich9 as with_ich9, write_port as with_port};
-ghost use Rattle.hp_machine.specs.Machine.{IsState, IsStep, FitsEvent, started};
+ghost use Rattle.hp_machine.specs.Machine.{StandsFor, IsStep, FitsEvent, started};
 
 use crate::enabling::{
     can_access, can_take_init, can_take_smi, is_in_smm_now, is_normal, is_smm_mode,
@@ -72,7 +72,7 @@ impl Model for Machine {
 #[tactic(auto, using(hp_mem::proofs::Standing::standing), unfolding(hp_image::specs::Cells::stored_cells))]
 fn store_cells(memory: &mut Mem, cells: &[Cell], low: u32) -> Result<(), NoMemory>
     requires { cells_fit low cells.now ≡ true }
-    ensures { (ws : List Write) → Stands memory.old ws → OnOk result (Stands memory.new (stored_cells cells.now ws)) }
+    ensures { (ws : List Write) → MemoryStandsFor memory.old ws → OnOk result (MemoryStandsFor memory.new (stored_cells cells.now ws)) }
 {
     match cells {
         [] => Ok(()),
@@ -89,7 +89,7 @@ impl Machine {
         requires width { IsWidth width }
         requires from { 0xcd8 ≤ port }
         requires to { port < 0xce4 }
-        ensures state { (p : Platform) (s : State) → IsState p self.old s → IsState p self.new (on_block (port - 0xcd8) width value s) }
+        ensures state { (p : Platform) (s : State) → StandsFor p self.old s → StandsFor p self.new (on_block (port - 0xcd8) width value s) }
         ensures ejected { self.new.ejected ≡ ejected_by self.old.block self.new.block }
     {
         let ejected = write_block(&mut self.block, &mut self.cpus, port, width, value);
@@ -98,8 +98,8 @@ impl Machine {
 
     /// A write of the low half of fw_cfg's DMA address: the whole transfer. Room for what it stores is taken first.
     fn start_transfer(&mut self, value: u32) -> Result<(), NoMemory>
-        ensures state { (p : Platform) (s : State) → IsState p self.old s → OnOk result (IsState p self.new (with_transfer value s)) }
-        ensures no_memory { (p : Platform) (s : State) → IsState p self.old s → OnErr result (IsState p self.new s) }
+        ensures state { (p : Platform) (s : State) → StandsFor p self.old s → OnOk result (StandsFor p self.new (with_transfer value s)) }
+        ensures no_memory { (p : Platform) (s : State) → StandsFor p self.old s → OnErr result (StandsFor p self.new s) }
         ensures succeeds { 272 ≤ self.old.memory.spare → IsOk result }
         ensures block { self.new.block ≡ self.old.block }
         ensures ejected { self.new.ejected ≡ self.old.ejected }
@@ -113,9 +113,9 @@ impl Machine {
     }
 
     /// A write of a port of ICH9, or of one that no rule names.
-    fn write_ich9(&mut self, k: u32, port: u16, width: u8, value: u32)
-        requires { k < length self.old.apic }
-        ensures state { (p : Platform) (s : State) → IsState p self.old s → IsState p self.new (with_ich9 p k port width value s) }
+    fn write_ich9(&mut self, cpu: u32, port: u16, width: u8, value: u32)
+        requires { cpu < length self.old.apic }
+        ensures state { (p : Platform) (s : State) → StandsFor p self.old s → StandsFor p self.new (with_ich9 p cpu port width value s) }
         ensures block { self.new.block ≡ self.old.block }
         ensures ejected { self.new.ejected ≡ self.old.ejected }
     {
@@ -124,7 +124,7 @@ impl Machine {
             &mut self.ich9,
             &mut self.cpus,
             self.apic.as_slice(),
-            k,
+            cpu,
             broadcast,
             port,
             width,
@@ -132,14 +132,14 @@ impl Machine {
         );
     }
 
-    /// A write of processor `k` to a port.
+    /// A write of processor `cpu` to a port.
     #[tactic(auto, using(crate::proofs::Ejects::ejects))]
-    fn write_port(&mut self, k: u32, port: u16, width: u8, value: u32) -> Result<(), NoMemory>
+    fn write_port(&mut self, cpu: u32, port: u16, width: u8, value: u32) -> Result<(), NoMemory>
         requires width { IsWidth width }
-        requires place { k < length self.old.apic }
+        requires place { cpu < length self.old.apic }
         requires value { value < 256 ^ width }
-        ensures state { (p : Platform) (s : State) → IsState p self.old s → OnOk result (IsState p self.new (with_port p k port width value s)) }
-        ensures no_memory { (p : Platform) (s : State) → IsState p self.old s → OnErr result (IsState p self.new s) }
+        ensures state { (p : Platform) (s : State) → StandsFor p self.old s → OnOk result (StandsFor p self.new (with_port p cpu port width value s)) }
+        ensures no_memory { (p : Platform) (s : State) → StandsFor p self.old s → OnErr result (StandsFor p self.new s) }
         ensures succeeds { 272 ≤ self.old.memory.spare → IsOk result }
         ensures ejected { self.new.ejected ≡ ejected_by self.old.block self.new.block }
     {
@@ -153,22 +153,22 @@ impl Machine {
         } else if is_dma_low(port, width) {
             return self.start_transfer(value);
         } else {
-            self.write_ich9(k, port, width, value);
+            self.write_ich9(cpu, port, width, value);
         }
         Ok(())
     }
 
     #[tactic(auto, using(crate::proofs::Ejects::ejects))]
-    fn access(&mut self, k: u32, access: Access) -> Result<Answer, NoMemory>
-        requires { can_do self.old.late (length self.old.apic) self.old.cpus (Do k access) ≡ true }
-        ensures step { (p : Platform) (s : State) → IsState p self.old s → IfOk result (λ answer. IsStep p self.new s (Do k access) answer) }
-        ensures no_memory { (p : Platform) (s : State) → IsState p self.old s → OnErr result (IsState p self.new s) }
-        ensures fits { IfOk result (λ answer. FitsEvent (Do k access) answer) }
+    fn access(&mut self, cpu: u32, access: Access) -> Result<Answer, NoMemory>
+        requires { can_do self.old.late (length self.old.apic) self.old.cpus (Do cpu access) ≡ true }
+        ensures step { (p : Platform) (s : State) → StandsFor p self.old s → IfOk result (λ answer. IsStep p self.new s (Do cpu access) answer) }
+        ensures no_memory { (p : Platform) (s : State) → StandsFor p self.old s → OnErr result (StandsFor p self.new s) }
+        ensures fits { IfOk result (λ answer. FitsEvent (Do cpu access) answer) }
         ensures succeeds { 272 ≤ self.old.memory.spare → IsOk result }
         ensures ejected { self.new.ejected ≡ ejected_by self.old.block self.new.block }
     {
         self.ejected = None;
-        let in_smm = is_smm_mode(self.cpus.get(k).mode);
+        let in_smm = is_smm_mode(self.cpus.get(cpu).mode);
         match access {
             Access::Load { addr, width } => {
                 let value = load(&self.memory, &self.locks, in_smm, addr, width);
@@ -198,7 +198,7 @@ impl Machine {
                 Ok(Answer::Value(u64::from(value)))
             }
             Access::Out { port, width, value } => {
-                self.write_port(k, port, width, value)?;
+                self.write_port(cpu, port, width, value)?;
                 Ok(Answer::Quiet)
             }
             Access::CfgRead { reg } => Ok(Answer::Value(u64::from(self.locks.read(reg)))),
@@ -207,7 +207,7 @@ impl Machine {
                 Ok(Answer::Quiet)
             }
             Access::Icr { high, low } => {
-                let sender = self.apic[k as usize];
+                let sender = self.apic[cpu as usize];
                 send(
                     &mut self.cpus,
                     self.apic.as_slice(),
@@ -219,7 +219,7 @@ impl Machine {
                 Ok(Answer::Quiet)
             }
             Access::Halt => {
-                self.cpus.halt(k);
+                self.cpus.halt(cpu);
                 Ok(Answer::Quiet)
             }
             Access::Nop => Ok(Answer::Quiet),
@@ -230,7 +230,7 @@ impl Machine {
     pub fn new(alloc: Global, p: &Platform, cells: &Cells) -> Result<Machine, NoMemory>
         requires fit { IsFit p.now }
         requires cells { AreCells p.now.low_memory cells.now.list }
-        ensures { IfOk result (λ m. IsState p.now m (started p.now cells.now.list)) }
+        ensures { IfOk result (λ m. StandsFor p.now m (started p.now cells.now.list)) }
     {
         let apic = Vec::from_slice(alloc, p.apic.0.as_slice())?;
         let cpus = Cpus::new(alloc, p)?;
@@ -257,11 +257,11 @@ impl Machine {
 
     /// The processor in a place; in a place that isn't possible there is none.
     #[tactic(auto, using(crate::proofs::Sizes::past_cpus))]
-    fn cpu_or_absent(&self, k: u32) -> Cpu
-        ensures { result ≡ cpu_at self.now.cpus k }
+    fn cpu_or_absent(&self, cpu: u32) -> Cpu
+        ensures { result ≡ cpu_at self.now.cpus cpu }
     {
-        if (k as usize) < self.apic.len() {
-            return self.cpus.get(k);
+        if (cpu as usize) < self.apic.len() {
+            return self.cpus.get(cpu);
         }
         Cpu {
             present: false,
@@ -279,80 +279,81 @@ impl Machine {
         ensures { result ≡ can_do self.now.late (length self.now.apic) self.now.cpus e.now }
     {
         match *e {
-            Event::Insert(k) => (k as usize) < self.apic.len() && !self.cpu_or_absent(k).present,
-            Event::Remove(k) => k != 0 && self.cpu_or_absent(k).present,
-            Event::Do(k, access) => {
-                is_normal(access) && can_access(self.late, &self.cpu_or_absent(k), access)
+            Event::Insert(cpu) => (cpu as usize) < self.apic.len()
+                && !self.cpu_or_absent(cpu).present,
+            Event::Remove(cpu) => cpu != 0 && self.cpu_or_absent(cpu).present,
+            Event::Do(cpu, access) => {
+                is_normal(access) && can_access(self.late, &self.cpu_or_absent(cpu), access)
             }
-            Event::TakeSmi(k) => can_take_smi(&self.cpu_or_absent(k)),
-            Event::TakeInit(k) => can_take_init(&self.cpu_or_absent(k)),
-            Event::Resume(k) => is_in_smm_now(&self.cpu_or_absent(k)),
+            Event::TakeSmi(cpu) => can_take_smi(&self.cpu_or_absent(cpu)),
+            Event::TakeInit(cpu) => can_take_init(&self.cpu_or_absent(cpu)),
+            Event::Resume(cpu) => is_in_smm_now(&self.cpu_or_absent(cpu)),
             Event::Tell(_) => is_in_smm_now(&self.cpu_or_absent(0)),
         }
     }
 
     /// A processor comes: the block notes it, and it is announced in the GPE status.
     #[tactic(auto, using(crate::proofs::Ejects::ejects))]
-    fn insert(&mut self, k: u32)
-        requires { can_do self.old.late (length self.old.apic) self.old.cpus (Insert k) ≡ true }
-        ensures step { (p : Platform) (s : State) → IsState p self.old s → IsStep p self.new s (Insert k) Answer.Quiet }
+    fn insert(&mut self, cpu: u32)
+        requires { can_do self.old.late (length self.old.apic) self.old.cpus (Insert cpu) ≡ true }
+        ensures step { (p : Platform) (s : State) → StandsFor p self.old s → IsStep p self.new s (Insert cpu) Answer.Quiet }
         ensures ejected { self.new.ejected ≡ ejected_by self.old.block self.new.block }
     {
         self.ejected = None;
-        self.cpus.insert(k);
-        self.block.insert_event(k);
+        self.cpus.insert(cpu);
+        self.block.insert_event(cpu);
         self.ich9.gpe(PROCESSOR_EVENT);
     }
 
     #[tactic(auto, using(crate::proofs::Ejects::ejects))]
-    fn request_removal(&mut self, k: u32)
-        requires { can_do self.old.late (length self.old.apic) self.old.cpus (Remove k) ≡ true }
-        ensures step { (p : Platform) (s : State) → IsState p self.old s → IsStep p self.new s (Remove k) Answer.Quiet }
+    fn request_removal(&mut self, cpu: u32)
+        requires { can_do self.old.late (length self.old.apic) self.old.cpus (Remove cpu) ≡ true }
+        ensures step { (p : Platform) (s : State) → StandsFor p self.old s → IsStep p self.new s (Remove cpu) Answer.Quiet }
         ensures ejected { self.new.ejected ≡ ejected_by self.old.block self.new.block }
     {
         self.ejected = None;
-        self.block.remove_event(k);
+        self.block.remove_event(cpu);
         self.ich9.gpe(PROCESSOR_EVENT);
     }
 
     /// SMI entry. Room for what it saves is taken before the processor changes.
     #[tactic(auto, using(crate::proofs::Ejects::ejects))]
-    fn enter(&mut self, k: u32) -> Result<Answer, NoMemory>
-        requires { can_do self.old.late (length self.old.apic) self.old.cpus (TakeSmi k) ≡ true }
-        ensures step { (p : Platform) (s : State) → IsState p self.old s → IfOk result (λ answer. IsStep p self.new s (TakeSmi k) answer) }
-        ensures fits { IfOk result (λ answer. FitsEvent (TakeSmi k) answer) }
-        ensures no_memory { (p : Platform) (s : State) → IsState p self.old s → OnErr result (IsState p self.new s) }
+    fn enter(&mut self, cpu: u32) -> Result<Answer, NoMemory>
+        requires { can_do self.old.late (length self.old.apic) self.old.cpus (TakeSmi cpu) ≡ true }
+        ensures step { (p : Platform) (s : State) → StandsFor p self.old s → IfOk result (λ answer. IsStep p self.new s (TakeSmi cpu) answer) }
+        ensures fits { IfOk result (λ answer. FitsEvent (TakeSmi cpu) answer) }
+        ensures no_memory { (p : Platform) (s : State) → StandsFor p self.old s → OnErr result (StandsFor p self.new s) }
         ensures succeeds { 272 ≤ self.old.memory.spare → IsOk result }
         ensures ejected { self.new.ejected ≡ ejected_by self.old.block self.new.block }
     {
         self.ejected = None;
         take_room(&mut self.memory)?;
-        let plan = self.cpus.enter(k);
+        let plan = self.cpus.enter(cpu);
         save(&mut self.memory, &self.locks, &plan).unwrap();
         Ok(Answer::Quiet)
     }
 
     #[tactic(auto, using(crate::proofs::Ejects::ejects))]
-    fn take_init(&mut self, k: u32)
-        requires { can_do self.old.late (length self.old.apic) self.old.cpus (TakeInit k) ≡ true }
-        ensures step { (p : Platform) (s : State) → IsState p self.old s → IsStep p self.new s (TakeInit k) Answer.Quiet }
+    fn take_init(&mut self, cpu: u32)
+        requires { can_do self.old.late (length self.old.apic) self.old.cpus (TakeInit cpu) ≡ true }
+        ensures step { (p : Platform) (s : State) → StandsFor p self.old s → IsStep p self.new s (TakeInit cpu) Answer.Quiet }
         ensures ejected { self.new.ejected ≡ ejected_by self.old.block self.new.block }
     {
         self.ejected = None;
-        self.cpus.take_init(k);
+        self.cpus.take_init(cpu);
     }
 
     /// RSM.
     #[tactic(auto, using(crate::proofs::Ejects::ejects))]
-    fn resume(&mut self, k: u32)
-        requires { can_do self.old.late (length self.old.apic) self.old.cpus (Resume k) ≡ true }
-        ensures step { (p : Platform) (s : State) → IsState p self.old s → IsStep p self.new s (Resume k) Answer.Quiet }
+    fn resume(&mut self, cpu: u32)
+        requires { can_do self.old.late (length self.old.apic) self.old.cpus (Resume cpu) ≡ true }
+        ensures step { (p : Platform) (s : State) → StandsFor p self.old s → IsStep p self.new s (Resume cpu) Answer.Quiet }
         ensures ejected { self.new.ejected ≡ ejected_by self.old.block self.new.block }
     {
         self.ejected = None;
-        let smbase = self.cpus.get(k).smbase;
+        let smbase = self.cpus.get(cpu).smbase;
         let fields = saved(&self.memory, &self.locks, smbase);
-        self.cpus.leave(k, fields);
+        self.cpus.leave(cpu, fields);
     }
 
     /// Makes the event's step. After `NoMemory` the machine stands for the state that it stood for; with room for 272
@@ -362,19 +363,19 @@ impl Machine {
     #[tactic(auto, using(crate::proofs::Ejects::ejects))]
     pub fn step(&mut self, e: &Event) -> Result<Answer, NoMemory>
         requires { can_do self.old.late (length self.old.apic) self.old.cpus e.now ≡ true }
-        ensures step { (p : Platform) (s : State) → IsState p self.old s → IfOk result (λ answer. IsStep p self.new s e.now answer) }
+        ensures step { (p : Platform) (s : State) → StandsFor p self.old s → IfOk result (λ answer. IsStep p self.new s e.now answer) }
         ensures fits { IfOk result (λ answer. FitsEvent e.now answer) }
-        ensures no_memory { (p : Platform) (s : State) → IsState p self.old s → OnErr result (IsState p self.new s) }
+        ensures no_memory { (p : Platform) (s : State) → StandsFor p self.old s → OnErr result (StandsFor p self.new s) }
         ensures succeeds { 272 ≤ self.old.memory.spare → IsOk result }
         ensures ejected { self.new.ejected ≡ ejected_by self.old.block self.new.block }
     {
         match *e {
-            Event::Insert(k) => self.insert(k),
-            Event::Remove(k) => self.request_removal(k),
-            Event::Do(k, access) => return self.access(k, access),
-            Event::TakeSmi(k) => return self.enter(k),
-            Event::TakeInit(k) => self.take_init(k),
-            Event::Resume(k) => self.resume(k),
+            Event::Insert(cpu) => self.insert(cpu),
+            Event::Remove(cpu) => self.request_removal(cpu),
+            Event::Do(cpu, access) => return self.access(cpu, access),
+            Event::TakeSmi(cpu) => return self.enter(cpu),
+            Event::TakeInit(cpu) => self.take_init(cpu),
+            Event::Resume(cpu) => self.resume(cpu),
             Event::Tell(_) => self.ejected = None,
         }
         Ok(Answer::Quiet)
@@ -391,7 +392,7 @@ impl Machine {
     pub fn reserve(&mut self) -> Result<(), NoMemory>
         ensures room { OnOk result (272 ≤ self.new.memory.spare) }
         ensures succeeds { 272 ≤ self.old.memory.spare → IsOk result }
-        ensures unchanged { (p : Platform) (s : State) → IsState p self.old s → IsState p self.new s }
+        ensures unchanged { (p : Platform) (s : State) → StandsFor p self.old s → StandsFor p self.new s }
         ensures rest { self.new ≡ record self.old { memory = self.new.memory } }
     {
         take_room(&mut self.memory)
@@ -399,11 +400,11 @@ impl Machine {
 
     /// Where a processor in SMM goes on: its next instruction address, and the base that the first handler has loaded.
     #[tactic(auto, using(crate::proofs::Sizes::standing))]
-    pub fn go(&mut self, s: u32, address: u32, base: u32)
-        requires in_smm { stands_in_smm (cpu_at self.old.cpus s) ≡ true }
-        ensures { self.new ≡ record self.old { cpus = slice_set self.old.cpus s (moved address base (cpu_at self.old.cpus s)) } }
+    pub fn go(&mut self, cpu: u32, address: u32, base: u32)
+        requires in_smm { stands_in_smm (cpu_at self.old.cpus cpu) ≡ true }
+        ensures { self.new ≡ record self.old { cpus = slice_set self.old.cpus cpu (moved address base (cpu_at self.old.cpus cpu)) } }
     {
-        self.cpus.go(s, address, base);
+        self.cpus.go(cpu, address, base);
     }
 
     /// The SMI features that were negotiated over fw_cfg: bit 0 broadcast, bit 1 hot-plug, bit 2 hot-unplug. None while
@@ -415,19 +416,19 @@ impl Machine {
     }
 
     /// The processor in a place; an absent one in a place that isn't possible.
-    pub fn cpu(&self, s: u32) -> Cpu
-        ensures { result ≡ cpu_at self.now.cpus s }
+    pub fn cpu(&self, cpu: u32) -> Cpu
+        ensures { result ≡ cpu_at self.now.cpus cpu }
     {
-        self.cpu_or_absent(s)
+        self.cpu_or_absent(cpu)
     }
 
     /// The instruction address of a processor in SMM; None outside SMM, and in a place that isn't possible.
-    pub fn address(&self, s: u32) -> Option<u32>
-        ensures { result ≡ smm_address (cpu_at self.now.cpus s) }
+    pub fn address(&self, cpu: u32) -> Option<u32>
+        ensures { result ≡ smm_address (cpu_at self.now.cpus cpu) }
     {
-        let cpu = self.cpu_or_absent(s);
-        match cpu.mode {
-            Mode::Smm(address) if cpu.present => Some(address),
+        let processor = self.cpu_or_absent(cpu);
+        match processor.mode {
+            Mode::Smm(address) if processor.present => Some(address),
             _ => None,
         }
     }
@@ -435,11 +436,11 @@ impl Machine {
     /// The mark where a processor in SMM stands: the 4 bytes at its instruction address, as it loads them. None outside SMM,
     /// and in a place that isn't possible.
     #[tactic(auto, unfolding(hp_model::specs::Firmware::mark_at))]
-    pub fn mark_at(&self, s: u32) -> Option<u32>
-        ensures mark { (p : Platform) (state : State) → IsState p self.now state → result ≡ mark_at state s }
-        ensures within { IfSome result (λ m. stands_in_smm (cpu_at self.now.cpus s) ≡ true) }
-        ensures place { IfSome result (λ mark. s < length self.now.apic) }
+    pub fn mark_at(&self, cpu: u32) -> Option<u32>
+        ensures mark { (p : Platform) (state : State) → StandsFor p self.now state → result ≡ mark_at state cpu }
+        ensures within { IfSome result (λ m. stands_in_smm (cpu_at self.now.cpus cpu) ≡ true) }
+        ensures place { IfSome result (λ mark. cpu < length self.now.apic) }
     {
-        self.address(s).map(|address| load(&self.memory, &self.locks, true, address, 4) as u32)
+        self.address(cpu).map(|address| load(&self.memory, &self.locks, true, address, 4) as u32)
     }
 }

@@ -107,12 +107,12 @@ pub fn is_broadcast(negotiated: Option<u64>) -> bool
 }
 
 /// Writes a port of ICH9, or one that no rule names. The SMI that it may raise reaches all present processors where it is
-/// broadcast, else processor `k`.
+/// broadcast, else processor `cpu`.
 pub fn write_ich9(
     ich9: &mut Ich9,
     cpus: &mut Cpus,
     apic: &[u32],
-    k: u32,
+    cpu: u32,
     broadcast: bool,
     port: u16,
     width: u8,
@@ -120,12 +120,12 @@ pub fn write_ich9(
 )
     requires same { length cpus.old ≡ length apic.now }
     requires few { length apic.now ≤ most_processors }
-    requires place { k < length apic.now }
+    requires place { cpu < length apic.now }
     ensures ich9 { ich9.new ≡ ich9_write ich9.old port width value }
-    ensures cpus { cpus.new ≡ (if raises_smi ich9.old port width then smi_raised broadcast k apic.now cpus.old else cpus.old) }
+    ensures cpus { cpus.new ≡ (if raises_smi ich9.old port width then smi_raised broadcast cpu apic.now cpus.old else cpus.old) }
 {
     match ich9.out(port, width, value) {
-        Raise::Smi => raise_smi(cpus, apic, k, broadcast),
+        Raise::Smi => raise_smi(cpus, apic, cpu, broadcast),
         Raise::Nothing => {}
     }
 }

@@ -5,7 +5,7 @@ ghost use Rattle.hp_model.specs.Memory.{Write, byte_at};
 ghost use Rattle.hp_model.specs.View.{loaded, stored, swapped, ones as all_ones};
 ghost use Rattle.hp_model.specs.declared.processors.Cpu.{Cpu};
 ghost use Rattle.hp_model.specs.SaveArea.{saved, saved_smbase, saved_rip};
-ghost use Rattle.hp_mem.specs.Kept.{Stands, IsWidth};
+ghost use Rattle.hp_mem.specs.Kept.{StandsFor, IsWidth};
 ghost use Rattle.hp_cpu.specs.Saving.{plan_of};
 ghost use Rattle.hp_cpu.specs.Smbase.{IsSmbase};
 
@@ -38,7 +38,7 @@ fn ones(width: u8) -> u64
 #[tactic(auto, using(hp_mem::proofs::Standing::standing))]
 pub fn load(memory: &Mem, locks: &Locks, in_smm: bool, addr: u32, width: u8) -> u64
     requires { IsWidth width }
-    ensures value { (ws : List Write) → Stands memory.now ws → result ≡ loaded locks.now in_smm (byte_at ws) addr width }
+    ensures value { (ws : List Write) → StandsFor memory.now ws → result ≡ loaded locks.now in_smm (byte_at ws) addr width }
     ensures below { result < 256 ^ width }
 {
     match locks.open_to(in_smm, addr, width) {
@@ -58,8 +58,8 @@ pub fn store(
     value: u64,
 ) -> Result<(), NoMemory>
     requires { IsWidth width }
-    ensures stored { (ws : List Write) → Stands memory.old ws → OnOk result (Stands memory.new (stored locks.now in_smm addr width value ws)) }
-    ensures no_memory { (ws : List Write) → Stands memory.old ws → OnErr result (Stands memory.new ws) }
+    ensures stored { (ws : List Write) → StandsFor memory.old ws → OnOk result (StandsFor memory.new (stored locks.now in_smm addr width value ws)) }
+    ensures no_memory { (ws : List Write) → StandsFor memory.old ws → OnErr result (StandsFor memory.new ws) }
     ensures succeeds { width ≤ memory.old.spare → IsOk result }
     ensures spare { memory.old.spare ≤ memory.new.spare + width }
 {
@@ -79,9 +79,9 @@ pub fn swap(
     expected: u64,
     desired: u64,
 ) -> Result<u64, NoMemory>
-    ensures value { (ws : List Write) → Stands memory.old ws → IfOk result (λ v. v ≡ loaded locks.now in_smm (byte_at ws) addr 8) }
-    ensures stored { (ws : List Write) → Stands memory.old ws → OnOk result (Stands memory.new (swapped locks.now in_smm addr expected desired ws)) }
-    ensures no_memory { (ws : List Write) → Stands memory.old ws → OnErr result (Stands memory.new ws) }
+    ensures value { (ws : List Write) → StandsFor memory.old ws → IfOk result (λ v. v ≡ loaded locks.now in_smm (byte_at ws) addr 8) }
+    ensures stored { (ws : List Write) → StandsFor memory.old ws → OnOk result (StandsFor memory.new (swapped locks.now in_smm addr expected desired ws)) }
+    ensures no_memory { (ws : List Write) → StandsFor memory.old ws → OnErr result (StandsFor memory.new ws) }
     ensures succeeds { 8 ≤ memory.old.spare → IsOk result }
 {
     match locks.open_to(in_smm, addr, 8) {
@@ -94,8 +94,8 @@ pub fn swap(
 #[tactic(auto, unfolding(hp_model::specs::SaveArea::saved))]
 pub fn save(memory: &mut Mem, locks: &Locks, plan: &SavePlan) -> Result<(), NoMemory>
     requires { IsSmbase plan.now.smbase }
-    ensures saved { (ws : List Write) (c : Cpu) → Stands memory.old ws → plan.now ≡ plan_of c → OnOk result (Stands memory.new (saved locks.now c ws)) }
-    ensures no_memory { (ws : List Write) → Stands memory.old ws → OnErr result (Stands memory.new ws) }
+    ensures saved { (ws : List Write) (c : Cpu) → StandsFor memory.old ws → plan.now ≡ plan_of c → OnOk result (StandsFor memory.new (saved locks.now c ws)) }
+    ensures no_memory { (ws : List Write) → StandsFor memory.old ws → OnErr result (StandsFor memory.new ws) }
     ensures succeeds { 272 ≤ memory.old.spare → IsOk result }
 {
     take_room(memory)?;
@@ -125,7 +125,7 @@ pub fn save(memory: &mut Mem, locks: &Locks, plan: &SavePlan) -> Result<(), NoMe
 #[tactic(auto, using(hp_mem::proofs::Standing::standing))]
 pub fn take_room(memory: &mut Mem) -> Result<(), NoMemory>
     ensures room { OnOk result (272 ≤ memory.new.spare) }
-    ensures unchanged { (ws : List Write) → Stands memory.old ws → Stands memory.new ws }
+    ensures unchanged { (ws : List Write) → StandsFor memory.old ws → StandsFor memory.new ws }
     ensures succeeds { 272 ≤ memory.old.spare → IsOk result }
 {
     memory.reserve()
@@ -135,7 +135,7 @@ pub fn take_room(memory: &mut Mem) -> Result<(), NoMemory>
 #[tactic(auto, unfolding(hp_model::specs::SaveArea::saved_smbase, hp_model::specs::SaveArea::saved_rip))]
 pub fn saved(memory: &Mem, locks: &Locks, smbase: u32) -> Saved
     requires { IsSmbase smbase }
-    ensures { (ws : List Write) (c : Cpu) → Stands memory.now ws → c.smbase ≡ smbase
+    ensures { (ws : List Write) (c : Cpu) → StandsFor memory.now ws → c.smbase ≡ smbase
         → result ≡ record { smbase = saved_smbase locks.now ws c; rip = saved_rip locks.now ws c } }
 {
     Saved {

@@ -5,7 +5,7 @@ ghost use Rattle.hp_model.specs.Memory.{Write, byte_at};
 ghost use Rattle.hp_model.specs.View.{is_hole, loaded, stored};
 ghost use Rattle.hp_model.specs.Transfers.{bytes_loaded, bytes_stored, moved, control_after, transfer as one_transfer};
 ghost use Rattle.hp_fwcfg.specs.Moves.{move_of, IsShort, IsWritable};
-ghost use Rattle.hp_mem.specs.Kept.{Stands};
+ghost use Rattle.hp_mem.specs.Kept.{StandsFor};
 
 use crate::reach::{load, store};
 use hp_fwcfg::{FwCfg, Transfer};
@@ -15,7 +15,7 @@ use hp_smram::{Locks, Touch};
 /// One byte; ff where it lies in a hole, as each byte past RAM does.
 #[tactic(auto, using(crate::proofs::Bytes::past_memory))]
 fn load_byte(memory: &Mem, locks: &Locks, addr: u64) -> u8
-    ensures { (ws : List Write) → Stands memory.now ws → result ≡ loaded locks.now false (byte_at ws) addr 1 }
+    ensures { (ws : List Write) → StandsFor memory.now ws → result ≡ loaded locks.now false (byte_at ws) addr 1 }
 {
     if addr < u64::from(locks.low_memory()) {
         load(memory, locks, false, addr as u32, 1) as u8
@@ -27,7 +27,7 @@ fn load_byte(memory: &Mem, locks: &Locks, addr: u64) -> u8
 /// The bytes from an address on, each by itself.
 fn load_bytes(memory: &Mem, locks: &Locks, addr: u64, into: &mut [u8])
     requires { addr + length into.old ≤ 2 ^ 63 }
-    ensures bytes { (ws : List Write) → Stands memory.now ws → into.new ≡ bytes_loaded locks.now (byte_at ws) addr (length into.old) }
+    ensures bytes { (ws : List Write) → StandsFor memory.now ws → into.new ≡ bytes_loaded locks.now (byte_at ws) addr (length into.old) }
     ensures same { length into.new ≡ length into.old }
 {
     'bytes: for place in 0..into.len() {
@@ -39,7 +39,7 @@ fn load_bytes(memory: &Mem, locks: &Locks, addr: u64, into: &mut [u8])
 #[tactic(auto, using(crate::proofs::Bytes::past_memory))]
 fn store_byte(memory: &mut Mem, locks: &Locks, addr: u64, byte: u8)
     requires room { 1 ≤ memory.old.spare }
-    ensures stored { (ws : List Write) → Stands memory.old ws → Stands memory.new (stored locks.now false addr 1 byte ws) }
+    ensures stored { (ws : List Write) → StandsFor memory.old ws → StandsFor memory.new (stored locks.now false addr 1 byte ws) }
     ensures spare { memory.old.spare ≤ memory.new.spare + 1 }
 {
     if addr < u64::from(locks.low_memory()) {
@@ -52,7 +52,7 @@ fn store_byte(memory: &mut Mem, locks: &Locks, addr: u64, byte: u8)
 fn store_bytes(memory: &mut Mem, locks: &Locks, addr: u64, bytes: &[u8])
     requires addr { addr + length bytes.now ≤ 2 ^ 63 }
     requires room { length bytes.now ≤ memory.old.spare }
-    ensures stored { (ws : List Write) → Stands memory.old ws → Stands memory.new (bytes_stored locks.now addr bytes.now ws) }
+    ensures stored { (ws : List Write) → StandsFor memory.old ws → StandsFor memory.new (bytes_stored locks.now addr bytes.now ws) }
     ensures spare { memory.old.spare ≤ memory.new.spare + length bytes.now }
 {
     match bytes {
@@ -84,7 +84,7 @@ fn descriptor(memory: &Mem, locks: &Locks, at: u64) -> Option<[u8; 16]>
     ensures hole { result ≡ None → is_hole locks.now false at 16 ≡ true }
     ensures open { IfSome result (λ fields. is_hole locks.now false at 16 ≡ false) }
     ensures near { IfSome result (λ fields. at + 16 ≤ 2 ^ 32) }
-    ensures fields { (ws : List Write) → Stands memory.now ws → IfSome result (λ fields. fields ≡ bytes_loaded locks.now (byte_at ws) at 16) }
+    ensures fields { (ws : List Write) → StandsFor memory.now ws → IfSome result (λ fields. fields ≡ bytes_loaded locks.now (byte_at ws) at 16) }
 {
     if !is_open(locks, at) {
         return None;
@@ -99,8 +99,8 @@ fn carry(memory: &mut Mem, locks: &Locks, fw_cfg: &mut FwCfg, asked: &Transfer)
     requires short { IsShort asked.now }
     requires writable { IsWritable asked.now fw_cfg.old }
     requires room { 256 ≤ memory.old.spare }
-    ensures fw_cfg { (ws : List Write) → Stands memory.old ws → fw_cfg.new ≡ (moved locks.now (move_of asked.now) fw_cfg.old ws).fw_cfg }
-    ensures memory { (ws : List Write) → Stands memory.old ws → Stands memory.new (moved locks.now (move_of asked.now) fw_cfg.old ws).writes }
+    ensures fw_cfg { (ws : List Write) → StandsFor memory.old ws → fw_cfg.new ≡ (moved locks.now (move_of asked.now) fw_cfg.old ws).fw_cfg }
+    ensures memory { (ws : List Write) → StandsFor memory.old ws → StandsFor memory.new (moved locks.now (move_of asked.now) fw_cfg.old ws).writes }
     ensures spare { memory.old.spare ≤ memory.new.spare + 256 }
 {
     match asked {
@@ -132,8 +132,8 @@ fn control(asked: &Transfer) -> u64
 #[tactic(auto, unfolding(hp_model::specs::Transfers::transfer))]
 pub fn transfer(memory: &mut Mem, locks: &Locks, fw_cfg: &mut FwCfg, at: u64)
     requires room { 272 ≤ memory.old.spare }
-    ensures fw_cfg { (ws : List Write) → Stands memory.old ws → fw_cfg.new ≡ (one_transfer locks.now at fw_cfg.old ws).fw_cfg }
-    ensures memory { (ws : List Write) → Stands memory.old ws → Stands memory.new (one_transfer locks.now at fw_cfg.old ws).writes }
+    ensures fw_cfg { (ws : List Write) → StandsFor memory.old ws → fw_cfg.new ≡ (one_transfer locks.now at fw_cfg.old ws).fw_cfg }
+    ensures memory { (ws : List Write) → StandsFor memory.old ws → StandsFor memory.new (one_transfer locks.now at fw_cfg.old ws).writes }
 {
     let Some(fields) = descriptor(memory, locks, at) else {
         return;

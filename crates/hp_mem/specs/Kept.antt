@@ -14,7 +14,7 @@ abbrev pub kept_at : Kept → ℕ → ℕ
 kept_at kept x = byte_in kept.directory kept.bytes x
 
 -- a memory that holds, at each address, what these writes left there
-pub record Stands (kept : Kept) (ws : List Write) : Type 0 where
+pub record StandsFor (kept : Kept) (ws : List Write) : Type 0 where
   pub each : (x : ℕ) → kept_at kept x ≡ byte_at ws x
 
 -- the widths of an access, in bytes

@@ -1,7 +1,7 @@
 -- Pages of 4 KiB: the directory, and what stands at an address.
 use Rattle.std.specs.Prelude.{◌≡◌, ℕ, ◌+◌, ◌-◌, ◌*◌, ◌/◌, ◌%◌, ◌^◌, ◌<◌, ◌≤◌, ◌==◌, nat_le, List, length, slice_index, if◌then◌else◌}
 
--- the entry of a page: 0 where nothing was stored in it, else one more than its place among the pages that are kept
+-- the entry of a page: 0 where nothing was stored in it, else one more than its index among the pages that are kept
 abbrev pub entry : List ℕ → ℕ → ℕ
 entry directory page = slice_index directory page
 

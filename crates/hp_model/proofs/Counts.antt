@@ -7,7 +7,7 @@ use Rattle.std.proofs.lemmas.Bool.Decides.{nat_tests}
 use Rattle.std.proofs.lemmas.Grind.{common_steps}
 use Rattle.hp_model.specs.Platform.{all_distinct, ascends_from, ascends_from_zero}
 use Rattle.hp_model.specs.Block.{is_in}
-use Rattle.hp_model.specs.Slots.{place_of}
+use Rattle.hp_model.specs.Slots.{slot_among}
 
 -- without the first x
 abbrev without : ℕ → List ℕ → List ℕ
@@ -75,10 +75,10 @@ in_at [] k d within = absurd (omega (arith, within))
 in_at (x ∷ xs) zero d within = grind (arith, nat_tests, common_steps)
 in_at (x ∷ xs) (suc k) d within = grind (arith, nat_tests, common_steps, in_at xs k d)
 
-pub place_below : (ids : List ℕ) (a : ℕ) → is_in a ids ≡ true → place_of ids a < length ids
+pub place_below : (ids : List ℕ) (a : ℕ) → is_in a ids ≡ true → slot_among ids a < length ids
 place_below [] a e = absurd cc
 place_below (b ∷ ids) a e = by_head (b == a) e (λ f. place_below ids a f)
   where
-    by_head : (c : Bool) → (c || is_in a ids) ≡ true → (is_in a ids ≡ true → place_of ids a < length ids) → cond c 0 (place_of ids a + 1) < suc (length ids)
+    by_head : (c : Bool) → (c || is_in a ids) ≡ true → (is_in a ids ≡ true → slot_among ids a < length ids) → cond c 0 (slot_among ids a + 1) < suc (length ids)
     by_head true e more = omega arith
     by_head false e more = let h = more e in omega (arith, h)

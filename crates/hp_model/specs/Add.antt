@@ -19,42 +19,42 @@ abbrev pub add_of : ℕ → ℕ → ℕ → Add
 add_of cpu apic slot = record { cpu = cpu; apic = apic; slot = slot; attempt = 0; polls = 0; seen = false }
 
 -- where an answer leads the add: on at a label, or to its outcome
-pub data Led : Type 0 where
-  AddsAt : Label → Add → Led
-  Ends : Outcome → Led
+pub data AddNext : Type 0 where
+  AddsAt : Label → Add → AddNext
+  Ends : Outcome → AddNext
 
 -- the first attempt begins
-abbrev pub begun : Add → Led
+abbrev pub begun : Add → AddNext
 begun a = AddsAt N0 (record a { attempt = 1 })
 
 -- an attempt has failed: the next one begins, and the third ends the add
-abbrev pub failed : Outcome → Add → Led
+abbrev pub failed : Outcome → Add → AddNext
 failed why a = if nat_lt a.attempt 3 then AddsAt N0 (record a { attempt = a.attempt + 1 }) else Ends why
 
 -- from here on so many looks are taken
-abbrev pub looks : Label → ℕ → Add → Led
+abbrev pub looks : Label → ℕ → Add → AddNext
 looks l polls a = AddsAt l (record a { polls = polls })
 
 abbrev pub is_last_look : Add → Bool
 is_last_look a = nat_le a.polls 1
 
 -- the flag was read, first of a pair: 1 tells that the processor has passed the gate
-abbrev pub saw_flag : ℕ → Add → Led
+abbrev pub saw_flag : ℕ → Add → AddNext
 saw_flag flag a = if flag == 1 then AddsAt N9 (record a { seen = true }) else AddsAt N8b a
 
 -- the arrived byte was read, second of a pair
-abbrev pub saw_pair : ℕ → Add → Led
+abbrev pub saw_pair : ℕ → Add → AddNext
 saw_pair arrived a =
     if arrived == 1 then AddsAt N9 (record a { seen = true })
     else if is_last_look a then AddsAt N9 (record a { seen = false })
     else looks N8a (a.polls - 1) a
 
 -- the gate is closed again
-abbrev pub shut : Add → Led
+abbrev pub shut : Add → AddNext
 shut a = if a.seen then AddsAt N10 a else failed (Refused (NotAtGate a.cpu a.apic)) a
 
 -- the arrived byte was read after it was cleared: 1 tells that the processor stands at its own handler
-abbrev pub saw_arrival : ℕ → Add → Led
+abbrev pub saw_arrival : ℕ → Add → AddNext
 saw_arrival arrived a =
     if arrived == 1 then Ends (Added a.cpu a.apic a.slot)
     else if is_last_look a then failed (Refused (NotCheckedIn a.cpu a.apic)) a

@@ -18,24 +18,24 @@ abbrev pub collection_start : Collection
 collection_start = record { cpu = 0; status = 0; reports = [] }
 
 -- where an answer leads the collection: on at a label, or to its end
-pub data Collected : Type 0 where
-  CollectsAt : Label → Collection → Collected
-  CollectedAll : Collection → Collected
+pub data CollectNext : Type 0 where
+  CollectsAt : Label → Collection → CollectNext
+  CollectEnds : Collection → CollectNext
 
 -- the next processor, and none past the last
-abbrev pub next_processor : ℕ → Collection → Collected
+abbrev pub next_processor : ℕ → Collection → CollectNext
 next_processor count c =
-    if nat_lt (c.cpu + 1) count then CollectsAt C1 (record c { cpu = c.cpu + 1 }) else CollectedAll (record c { cpu = c.cpu + 1 })
+    if nat_lt (c.cpu + 1) count then CollectsAt C1 (record c { cpu = c.cpu + 1 }) else CollectEnds (record c { cpu = c.cpu + 1 })
 
 -- command 0 went on to the next processor with an event: one below is there where it began anew, and none that isn't possible is taken
-abbrev pub found : ℕ → ℕ → Collection → Collected
-found count cpu c = if nat_lt cpu c.cpu || not (nat_lt cpu count) then CollectedAll c else CollectsAt C4 (record c { cpu = cpu })
+abbrev pub found : ℕ → ℕ → Collection → CollectNext
+found count cpu c = if nat_lt cpu c.cpu || not (nat_lt cpu count) then CollectEnds c else CollectsAt C4 (record c { cpu = cpu })
 
 -- status bit 1, an insert event, and bit 4, a firmware eject: one with neither is passed over
-abbrev pub judged : ℕ → ℕ → Collection → Collected
+abbrev pub judged : ℕ → ℕ → Collection → CollectNext
 judged count status c = if bit_and status 0x12 == 0 then next_processor count c else CollectsAt C5 (record c { status = status })
 
 -- one with an event is reported, with its APIC ID
-abbrev pub reported : ℕ → ℕ → Collection → Collected
+abbrev pub reported : ℕ → ℕ → Collection → CollectNext
 reported count apic c =
     next_processor count (record c { reports = c.reports ++ record { cpu = c.cpu; status = c.status; apic = apic } ∷ [] })

@@ -22,7 +22,7 @@ use Rattle.hp_model.specs.Cpu.{is_in_smm, smm_address, moved}
 use Rattle.hp_model.specs.Boot.{Stage, Boots, Refused, Handed, boot_access, value_in}
 use Rattle.hp_model.specs.SharedBytes.{layout_of}
 use Rattle.hp_model.specs.Monarch.{restarted, with_features}
-use Rattle.hp_model.specs.Handlers.{Seat, Next, seat_of, row_of, wanted_at, next_at, address_of_label}
+use Rattle.hp_model.specs.Handlers.{Seat, Next, seat_of, label_of_mark, wanted_at, next_at, address_of_label}
 use Rattle.hp_model.specs.State.{State, at}
 use Rattle.hp_model.specs.Access.{same_access, stands_in_smm, answer_to}
 
@@ -53,8 +53,8 @@ unfoldable pub mark_at : State → ℕ → Option ℕ
 mark_at s k = option_map (λ address. loaded s.locks true (byte_at s.writes) address 4) (smm_address (at s k))
 
 -- the label whose row a processor in SMM has, by the mark where it stands
-unfoldable pub row_at : Platform → State → ℕ → Option Label
-row_at p s k = option_and_then (row_of (layout_of p) s.monarch k (at s k).smbase) (mark_at s k)
+unfoldable pub label_at : Platform → State → ℕ → Option Label
+label_at p s k = option_and_then (label_of_mark (layout_of p) s.monarch k (at s k).smbase) (mark_at s k)
 
 -- who stands there
 abbrev pub seat : Platform → State → ℕ → Seat
@@ -62,7 +62,7 @@ seat p s k = seat_of (layout_of p) (apic_of p k) (at s k).smbase (at s k).base
 
 -- what a processor in SMM wants; none where it has no row
 abbrev pub wanted : Platform → State → ℕ → Option Want
-wanted p s k = wanted_at (layout_of p) s.monarch (seat p s k) (row_at p s k)
+wanted p s k = wanted_at (layout_of p) s.monarch (seat p s k) (label_at p s k)
 
 abbrev pub is_that_access : Option Want → Access → Bool
 is_that_access None a = false
@@ -112,37 +112,37 @@ abbrev pub is_wanted : Platform → State → Event → Bool
 is_wanted p s e = wanted_in p s s.stage e
 
 -- where a handler's row leads: its processor goes on at the next label, if it is still in SMM, and the monarch's record with it
-abbrev pub go_on : ℕ → Next → Cpu → Cpu
-go_on smbase n c = if stands_in_smm c then moved (address_of_label smbase n.label) n.base c else c
+abbrev pub moved_in_smm : ℕ → Next → Cpu → Cpu
+moved_in_smm smbase n c = if stands_in_smm c then moved (address_of_label smbase n.label) n.base c else c
 
 abbrev pub with_next : ℕ → ℕ → Next → State → State
-with_next k smbase n t = record t { cpus = slice_set t.cpus k (go_on smbase n (at t k)); monarch = n.monarch }
+with_next k smbase n t = record t { cpus = slice_set t.cpus k (moved_in_smm smbase n (at t k)); monarch = n.monarch }
 
 -- the state t after a processor's event in SMM, where its answer has led its row in s on
-abbrev pub row_led : Platform → State → ℕ → Answer → Option Label → State → State
-row_led p s k answer None t = t
-row_led p s k answer (Some l) t = with_next k (at s k).smbase (next_at (layout_of p) (seat p s k) s.monarch l (value_in answer)) t
+abbrev pub row_effect : Platform → State → ℕ → Answer → Option Label → State → State
+row_effect p s k answer None t = t
+row_effect p s k answer (Some l) t = with_next k (at s k).smbase (next_at (layout_of p) (seat p s k) s.monarch l (value_in answer)) t
 
 -- SMI entry of processor 0 begins a session of the monarch
 abbrev pub with_session : ℕ → State → State
 with_session k t = if k == 0 then record t { monarch = restarted t.monarch } else t
 
 -- what the handlers make of an event
-abbrev pub handlers_led : Platform → State → Event → State → State
-handlers_led p s (Insert k) t = t
-handlers_led p s (Remove k) t = t
-handlers_led p s (Do k a) t = if is_in_smm (at s k).mode then row_led p s k (answer_to (is_in_smm (at s k).mode) a s) (row_at p s k) t else t
-handlers_led p s (TakeSmi k) t = with_session k t
-handlers_led p s (TakeInit k) t = t
-handlers_led p s (Resume k) t = t
-handlers_led p s (Tell o) t = row_led p s 0 Quiet (row_at p s 0) t
+abbrev pub handlers_effect : Platform → State → Event → State → State
+handlers_effect p s (Insert k) t = t
+handlers_effect p s (Remove k) t = t
+handlers_effect p s (Do k a) t = if is_in_smm (at s k).mode then row_effect p s k (answer_to (is_in_smm (at s k).mode) a s) (label_at p s k) t else t
+handlers_effect p s (TakeSmi k) t = with_session k t
+handlers_effect p s (TakeInit k) t = t
+handlers_effect p s (Resume k) t = t
+handlers_effect p s (Tell o) t = row_effect p s 0 Quiet (label_at p s 0) t
 
 -- the boot tells the monarch the features that were agreed on, none as 0
 abbrev pub with_agreed : State → State
 with_agreed t = record t { monarch = with_features (unwrap_or t.fw_cfg.negotiated 0) t.monarch }
 
 -- what the firmware makes of an event: the boot before the hand-over, the handlers after it
-abbrev pub firmware_led : Platform → State → Stage → Event → State → State
-firmware_led p s (Boots done supported) e t = with_agreed t
-firmware_led p s (Refused fact) e t = t
-firmware_led p s (Handed requested) e t = handlers_led p s e t
+abbrev pub firmware_effect : Platform → State → Stage → Event → State → State
+firmware_effect p s (Boots done supported) e t = with_agreed t
+firmware_effect p s (Refused fact) e t = t
+firmware_effect p s (Handed requested) e t = handlers_effect p s e t

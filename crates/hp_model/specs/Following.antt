@@ -26,8 +26,8 @@ pub record Carried : Type 0 where
   pub last : List Answer
 
 -- what the place of a processor tells; past the last place as where there is no agent
-abbrev pub told_at : List (Option Voice) → ℕ → Option Voice
-told_at places cpu = get_or places cpu (Some silent)
+abbrev pub voice_told : List (Option Voice) → ℕ → Option Voice
+voice_told places cpu = get_or places cpu (Some silent)
 
 abbrev pub question_at : Carried → ℕ → Question
 question_at c k = question_in c.state k c.last
@@ -55,12 +55,12 @@ left_of (Some v) q = Some (says v q).voice
 abbrev pub follows_by : Due → Carried → Event → Bool
 follows_by Idle c x = true
 follows_by (Makes e) c x = true
-follows_by (Asks k) c x = is_said (told_at c.voices k) (question_at c k) k x
+follows_by (Asks k) c x = is_said (voice_told c.voices k) (question_at c k) k x
 
 abbrev pub voices_by : Due → Carried → List (Option Voice)
 voices_by Idle c = c.voices
 voices_by (Makes e) c = c.voices
-voices_by (Asks k) c = slice_set c.voices k (left_of (told_at c.voices k) (question_at c k))
+voices_by (Asks k) c = slice_set c.voices k (left_of (voice_told c.voices k) (question_at c k))
 
 abbrev pub last_by : Due → Answer → List Answer → List Answer
 last_by Idle answer last = last

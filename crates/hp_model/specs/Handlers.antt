@@ -13,7 +13,7 @@ use Rattle.hp_model.specs.Slots.{known_from}
 use Rattle.hp_model.specs.Collection.{found, judged, reported}
 use Rattle.hp_model.specs.Add.{begun, looks, saw_flag, saw_pair, shut, saw_arrival}
 use Rattle.hp_model.specs.Eject.{awaits, saw_parked, unparked, handed_to_block, saw_status, given_up, gone}
-use Rattle.hp_model.specs.Monarch.{Monarch, at_label, first_slot, next_slot, look_at, looked, noted, commanded, collected, led, eject_led, told, next_report}
+use Rattle.hp_model.specs.Monarch.{Monarch, at_label, first_slot, next_slot, look_at, looked, noted, commanded, after_collection, after_add, after_eject, after_tell, next_report}
 
 -- who stands at a label: its APIC ID, the slot of its tile, and the base that the first handler has loaded
 pub record Seat : Type 0 where
@@ -48,8 +48,8 @@ abbrev pub stays : Label → Seat → Monarch → Next
 stays l x r = record { label = l; base = x.base; monarch = r }
 
 -- the monarch's label is its record's
-abbrev pub goes : Seat → Monarch → Next
-goes x r = record { label = r.label; base = x.base; monarch = r }
+abbrev pub by_record : Seat → Monarch → Next
+by_record x r = record { label = r.label; base = x.base; monarch = r }
 
 -- a row of a handler: what it wants, and where the value of the answer leads, 0 where it has none
 pub record Row : Type 0 where
@@ -66,7 +66,7 @@ module _ (layout : Layout) (me : Seat) (monarch : Monarch) where
   to label = stays label me monarch
 
   abbrev by : Monarch → Next
-  by gone_on = goes me gone_on
+  by gone_on = by_record me gone_on
 
   abbrev pub row : Label → Row
   -- the first handler, at the default SMBASE
@@ -92,12 +92,12 @@ module _ (layout : Layout) (me : Seat) (monarch : Monarch) where
   -- the monarch: collection of reports
   row C1 = access (Out 0xcd8 4 monarch.collection.cpu) ⇒ λ v. by (at_label C2 monarch)  -- before C2: the search begins at the selector, and others write it too
   row C2 = access (Out 0xcdd 1 0) ⇒ λ v. by (at_label C3 monarch)
-  row C3 = access (In 0xce0 4) ⇒ λ v. by (collected layout.apics (found layout.count v monarch.collection) monarch)
-  row C4 = access (In 0xcdc 1) ⇒ λ v. by (collected layout.apics (judged layout.count v monarch.collection) monarch)  -- after C3: the status of the one that was found
+  row C3 = access (In 0xce0 4) ⇒ λ v. by (after_collection layout.apics (found layout.count v monarch.collection) monarch)
+  row C4 = access (In 0xcdc 1) ⇒ λ v. by (after_collection layout.apics (judged layout.count v monarch.collection) monarch)  -- after C3: the status of the one that was found
   row C5 = access (Out 0xcdd 1 3) ⇒ λ v. by (at_label C6 monarch)  -- after C4, for one that is reported: command data reads the APIC ID after it
-  row C6 = access (In 0xce0 4) ⇒ λ v. by (collected layout.apics (reported layout.count v monarch.collection) monarch)
+  row C6 = access (In 0xce0 4) ⇒ λ v. by (after_collection layout.apics (reported layout.count v monarch.collection) monarch)
   -- the monarch: an add
-  row NB = store_byte (release_byte layout monarch.add.slot) 0 ⇒ λ v. by (led (begun monarch.add) monarch)  -- once an add, before the gate opens: who comes to the tile of the slot stays in SMM until E6
+  row NB = store_byte (release_byte layout monarch.add.slot) 0 ⇒ λ v. by (after_add (begun monarch.add) monarch)  -- once an add, before the gate opens: who comes to the tile of the slot stays in SMM until E6
   row N0 = store_byte (arrived_byte layout monarch.add.slot) 0 ⇒ λ v. by (at_label N1 monarch)  -- first in each attempt: what N8b and N11 read as 1 was stored since
   row N1 = store_byte flag 0 ⇒ λ v. by (at_label N2 monarch)  -- the same for N8a
   row N2 = access (Store new_smbase 4 (tile_in layout monarch.add.slot)) ⇒ λ v. by (at_label N3 monarch)  -- before N7: whoever passes loads it
@@ -105,27 +105,27 @@ module _ (layout : Layout) (me : Seat) (monarch : Monarch) where
   row N4 = init_to layout monarch.add.apic ⇒ λ v. by (at_label N5 monarch)  -- before N5: one that was started elsewhere waits for SIPI after it
   row N5 = sipi_to layout monarch.add.apic ⇒ λ v. by (at_label N6 monarch)
   row N6 = sipi_to layout monarch.add.apic ⇒ λ v. by (at_label N7 monarch)
-  row N7 = access (Store gate 8 monarch.add.apic) ⇒ λ v. by (led (looks N8a layout.polls monarch.add) monarch)  -- after N2: all that whoever passes will find is in place
-  row N8a = access (Load flag 1) ⇒ λ v. by (led (saw_flag v monarch.add) monarch)
-  row N8b = access (Load (arrived_byte layout monarch.add.slot) 1) ⇒ λ v. by (led (saw_pair v monarch.add) (noted monarch.add.slot v monarch))
-  row N9 = access (Store gate 8 closed) ⇒ λ v. by (led (shut monarch.add) monarch)  -- always, and before anything else is stored: after it nobody passes
-  row N10 = store_byte (arrived_byte layout monarch.add.slot) 0 ⇒ λ v. by (led (looks N11 layout.polls monarch.add) monarch)  -- after N9: who is at its own handler stores 1 anew at R1
-  row N11 = access (Load (arrived_byte layout monarch.add.slot) 1) ⇒ λ v. by (led (saw_arrival v monarch.add) (noted monarch.add.slot v monarch))  -- after N10: a 1 tells that it is there
+  row N7 = access (Store gate 8 monarch.add.apic) ⇒ λ v. by (after_add (looks N8a layout.polls monarch.add) monarch)  -- after N2: all that whoever passes will find is in place
+  row N8a = access (Load flag 1) ⇒ λ v. by (after_add (saw_flag v monarch.add) monarch)
+  row N8b = access (Load (arrived_byte layout monarch.add.slot) 1) ⇒ λ v. by (after_add (saw_pair v monarch.add) (noted monarch.add.slot v monarch))
+  row N9 = access (Store gate 8 closed) ⇒ λ v. by (after_add (shut monarch.add) monarch)  -- always, and before anything else is stored: after it nobody passes
+  row N10 = store_byte (arrived_byte layout monarch.add.slot) 0 ⇒ λ v. by (after_add (looks N11 layout.polls monarch.add) monarch)  -- after N9: who is at its own handler stores 1 anew at R1
+  row N11 = access (Load (arrived_byte layout monarch.add.slot) 1) ⇒ λ v. by (after_add (saw_arrival v monarch.add) (noted monarch.add.slot v monarch))  -- after N10: a 1 tells that it is there
   -- the monarch: an eject
   row E0 = store_byte (parked_byte layout monarch.eject.slot) 0 ⇒ λ v. by (at_label E1 monarch)  -- before E1: what E2 reads as 1 was stored since
-  row E1 = store_byte (map_byte layout monarch.eject.slot) 1 ⇒ λ v. by (eject_led (awaits layout.polls monarch.eject) monarch)
-  row E2 = access (Load (parked_byte layout monarch.eject.slot) 1) ⇒ λ v. by (eject_led (saw_parked v monarch.eject) monarch)  -- before E4b: one that has parked stays in SMM until the map says otherwise
-  row E3 = store_byte (map_byte layout monarch.eject.slot) 0 ⇒ λ v. by (eject_led (unparked monarch.eject) monarch)
+  row E1 = store_byte (map_byte layout monarch.eject.slot) 1 ⇒ λ v. by (after_eject (awaits layout.polls monarch.eject) monarch)
+  row E2 = access (Load (parked_byte layout monarch.eject.slot) 1) ⇒ λ v. by (after_eject (saw_parked v monarch.eject) monarch)  -- before E4b: one that has parked stays in SMM until the map says otherwise
+  row E3 = store_byte (map_byte layout monarch.eject.slot) 0 ⇒ λ v. by (after_eject (unparked monarch.eject) monarch)
   row E4a = access (Out 0xcd8 4 monarch.eject.cpu) ⇒ λ v. by (at_label E4b monarch)  -- before E4b: control acts on the processor that is selected
   row E4b = access (Out 0xcdc 1 8) ⇒ λ v. by (at_label (handed_to_block layout.late) monarch)  -- after E2 read 1: the eject, once it has parked
   row E4c = store_byte (arrived_byte layout monarch.eject.slot) 0 ⇒ λ v. by (at_label E4d monarch)  -- to E4e: the bytes of the slot are as before its first SMI
   row E4d = store_byte (map_byte layout monarch.eject.slot) 0 ⇒ λ v. by (at_label E4e monarch)
-  row E4e = store_byte (parked_byte layout monarch.eject.slot) 0 ⇒ λ v. by (eject_led (gone monarch.eject) monarch)
+  row E4e = store_byte (parked_byte layout monarch.eject.slot) 0 ⇒ λ v. by (after_eject (gone monarch.eject) monarch)
   row E4f = access (Out 0xcd8 4 monarch.eject.cpu) ⇒ λ v. by (at_label E4g monarch)  -- another processor may have moved the selector before E4b
-  row E4g = access (In 0xcdc 1) ⇒ λ v. by (eject_led (saw_status v monarch.eject) monarch)
-  row E4h = store_byte (map_byte layout monarch.eject.slot) 0 ⇒ λ v. by (eject_led (given_up monarch.eject) monarch)
+  row E4g = access (In 0xcdc 1) ⇒ λ v. by (after_eject (saw_status v monarch.eject) monarch)
+  row E4h = store_byte (map_byte layout monarch.eject.slot) 0 ⇒ λ v. by (after_eject (given_up monarch.eject) monarch)
   -- the monarch: an outcome is told; end of the session
-  row T = Some (want.Tell monarch.outcome) ⇒ λ v. by (next_report layout.apics (told monarch.outcome monarch))  -- after all that the outcome speaks of
+  row T = Some (want.Tell monarch.outcome) ⇒ λ v. by (next_report layout.apics (after_tell monarch.outcome monarch))  -- after all that the outcome speaks of
   row E5 = store_byte (session_byte layout) 0 ⇒ λ v. by (first_slot E6 E7 monarch)  -- before E6: cleared while all that the session holds are in SMM
   row E6 = store_byte (release_byte layout monarch.slot) 1 ⇒ λ v. by (next_slot E6 E7 monarch)
   row E7 = Some want.Resume ⇒ λ v. by monarch  -- last: its next SMI entry begins anew
@@ -150,18 +150,18 @@ runs_at y Relocated cpu smbase = not (cpu == 0) && (not (slot_at y smbase == 0) 
 runs_at y Monarchs cpu smbase = (cpu == 0) && (smbase == tile_in y 0)
 
 -- the monarch's row is the one of the label where its record stands
-abbrev pub is_due : Monarch → Part → Label → Bool
-is_due r First l = true
-is_due r Relocated l = true
-is_due r Monarchs l = same_label l r.label
+abbrev pub is_current : Monarch → Part → Label → Bool
+is_current r First l = true
+is_current r Relocated l = true
+is_current r Monarchs l = same_label l r.label
 
 -- the label, where its handler runs and its row is due
-abbrev pub due_label : Layout → Monarch → ℕ → ℕ → Label → Option Label
-due_label y r cpu smbase l = if runs_at y (part_of l) cpu smbase && is_due r (part_of l) l then Some l else None
+abbrev pub current_label : Layout → Monarch → ℕ → ℕ → Label → Option Label
+current_label y r cpu smbase l = if runs_at y (part_of l) cpu smbase && is_current r (part_of l) l then Some l else None
 
 -- the label whose mark this is, likewise
-unfoldable pub row_of : Layout → Monarch → ℕ → ℕ → ℕ → Option Label
-row_of y r cpu smbase mark = option_and_then (due_label y r cpu smbase) (label_with mark)
+unfoldable pub label_of_mark : Layout → Monarch → ℕ → ℕ → ℕ → Option Label
+label_of_mark y r cpu smbase mark = option_and_then (current_label y r cpu smbase) (label_with mark)
 
 -- who stands there
 abbrev pub seat_of : Layout → ℕ → ℕ → ℕ → Seat

@@ -66,7 +66,7 @@ part_of E5 = Monarch
 part_of E6 = Monarch
 part_of E7 = Monarch
 
--- the label's place in its handler; those that look whether an eject went through came last (own rule)
+-- the label's index in its handler; those that look whether an eject went through came last (own rule)
 abbrev pub index_of : Label → ℕ
 index_of F1 = 0
 index_of F2 = 1

@@ -8,10 +8,10 @@ use Rattle.hp_model.specs.declared.outcomes.Outcome.TheVariants as outcome
 use Rattle.hp_model.specs.declared.outcomes.Refusal.{Refusal}
 use Rattle.hp_model.specs.declared.outcomes.Refusal.TheVariants.{Foreign, Disabled, Both, AlreadyKnown, GateHeld, NoUnplug, NotKnown, NotArrived}
 use Rattle.hp_model.specs.Block.{is_in}
-use Rattle.hp_model.specs.Slots.{Slots, slots_start, known_from, place_of, is_known, bind, completed, forgotten}
-use Rattle.hp_model.specs.Collection.{Report, Collection, Collected, CollectsAt, CollectedAll, collection_start}
-use Rattle.hp_model.specs.Add.{Add, Led, AddsAt, Ends, add_of}
-use Rattle.hp_model.specs.Eject.{Eject, EjectLed, EjectsAt, EjectEnds, eject_of}
+use Rattle.hp_model.specs.Slots.{Slots, slots_start, known_from, slot_among, is_known, bind, completed, forgotten}
+use Rattle.hp_model.specs.Collection.{Report, Collection, CollectNext, CollectsAt, CollectEnds, collection_start}
+use Rattle.hp_model.specs.Add.{Add, AddNext, AddsAt, Ends, add_of}
+use Rattle.hp_model.specs.Eject.{Eject, EjectNext, EjectsAt, EjectEnds, eject_of}
 
 pub record Monarch : Type 0 where
   pub label : Label  -- where it stands
@@ -88,13 +88,13 @@ abbrev pub commanded : ℕ → Monarch → Monarch
 commanded command r = if command == 4 then record r { label = C1; collection = collection_start; taken = 0 } else at_label E5 r
 
 -- what becomes of a report
-pub data Class : Type 0 where
-  Tells : Outcome → Class
-  Adds : Class
-  Ejects : Class
+pub data Decision : Type 0 where
+  ToTell : Outcome → Decision
+  ToAdd : Decision
+  ToEject : Decision
 
-abbrev pub refuses : Refusal → Class
-refuses why = Tells (outcome.Refused why)
+abbrev pub refuses : Refusal → Decision
+refuses why = ToTell (outcome.Refused why)
 
 abbrev pub is_that : Option ℕ → ℕ → Bool
 is_that None apic = false
@@ -108,36 +108,36 @@ is_own apics t = not (t.cpu == 0) && is_that (slice_get apics t.cpu) t.apic
 pub record Facts : Type 0 where
   pub own : Bool  -- its APIC ID is its processor's own, and that isn't processor 0
   pub known : Bool  -- its APIC ID is a boot processor's or was added, and not ejected since
-  pub slot : ℕ  -- the place of its APIC ID among those bound
+  pub slot : ℕ  -- the slot of its APIC ID among those bound
   pub held : Option ℕ  -- the APIC ID whose add isn't complete
   pub features : ℕ  -- the negotiated SMI features
   pub look : ℕ  -- what was last read of its arrived byte in this session; 2 for nothing
 
 -- while an APIC ID is held, no other one is added
-abbrev pub held_class : Option ℕ → Report → Class
-held_class None t = Adds
-held_class (Some held) t = if held == t.apic then Adds else refuses (GateHeld t.cpu t.apic held)
+abbrev pub held_decision : Option ℕ → Report → Decision
+held_decision None t = ToAdd
+held_decision (Some held) t = if held == t.apic then ToAdd else refuses (GateHeld t.cpu t.apic held)
 
 -- an insert event
-abbrev pub insert_class : Facts → Report → Class
-insert_class f t = if f.known then refuses (AlreadyKnown t.cpu t.apic f.slot) else held_class f.held t
+abbrev pub insert_decision : Facts → Report → Decision
+insert_decision f t = if f.known then refuses (AlreadyKnown t.cpu t.apic f.slot) else held_decision f.held t
 
 -- a firmware eject; feature bit 2 is hot-unplug
-abbrev pub eject_class : Facts → Report → Class
-eject_class f t =
+abbrev pub eject_decision : Facts → Report → Decision
+eject_decision f t =
     if not (bit_and f.features 4 == 4) then refuses (NoUnplug t.cpu f.features)
     else if not f.known then refuses (NotKnown t.cpu t.apic)
     else if f.look == 0 then refuses (NotArrived t.cpu t.apic)
-    else Ejects
+    else ToEject
 
 -- the tests of a report, in order: status bit 0 is enabled, bit 1 an insert event, bit 4 a firmware eject; a report has one of these two events
-abbrev pub class : Facts → Report → Class
-class f t =
+abbrev pub decision : Facts → Report → Decision
+decision f t =
     if not f.own then refuses (Foreign t.cpu t.apic)
     else if not (bit_and t.status 1 == 1) then refuses (Disabled t.cpu t.status)
     else if bit_and t.status 0x12 == 0x12 then refuses (Both t.cpu t.status)
-    else if bit_and t.status 2 == 2 then insert_class f t
-    else eject_class f t
+    else if bit_and t.status 2 == 2 then insert_decision f t
+    else eject_decision f t
 
 -- what the monarch goes by, with these APIC IDs by place
 abbrev pub facts_of : List ℕ → Monarch → Report → Facts
@@ -145,15 +145,15 @@ facts_of apics r t =
     record {
       own = is_own apics t;
       known = is_known r.slots t.apic;
-      slot = place_of r.slots.bound t.apic;
+      slot = slot_among r.slots.bound t.apic;
       held = r.slots.held;
       features = r.features;
-      look = slice_index_or r.last (place_of r.slots.bound t.apic) 2;
+      look = slice_index_or r.last (slot_among r.slots.bound t.apic) 2;
     }
 
 -- an outcome is told
-abbrev pub tells : Outcome → Monarch → Monarch
-tells o r = record r { label = T; outcome = o }
+abbrev pub at_tell : Outcome → Monarch → Monarch
+at_tell o r = record r { label = T; outcome = o }
 
 -- the byte of a new slot wasn't read
 abbrev pub with_byte : ℕ → Slots → List ℕ → List ℕ
@@ -166,49 +166,49 @@ adds t r =
       label = NB;
       slots = bind t.apic r.slots;
       last = with_byte t.apic r.slots r.last;
-      add = add_of t.cpu t.apic (place_of (bind t.apic r.slots).bound t.apic);
+      add = add_of t.cpu t.apic (slot_among (bind t.apic r.slots).bound t.apic);
     }
 
 -- an eject begins
 abbrev pub ejects : Report → Monarch → Monarch
-ejects t r = record r { label = E0; eject = eject_of t.cpu t.apic (place_of r.slots.bound t.apic) }
+ejects t r = record r { label = E0; eject = eject_of t.cpu t.apic (slot_among r.slots.bound t.apic) }
 
 -- the next report is taken up
 abbrev pub took : Monarch → Monarch
 took r = record r { taken = r.taken + 1 }
 
 -- what becomes of a report
-abbrev pub answered : Class → Report → Monarch → Monarch
-answered (Tells o) t r = tells o r
-answered Adds t r = adds t r
-answered Ejects t r = ejects t r
+abbrev pub answered : Decision → Report → Monarch → Monarch
+answered (ToTell o) t r = at_tell o r
+answered ToAdd t r = adds t r
+answered ToEject t r = ejects t r
 
 -- the first of these reports is answered; without one the session ends
 abbrev pub taken_up : List ℕ → List Report → Monarch → Monarch
 taken_up apics [] r = at_label E5 r
-taken_up apics (t ∷ ts) r = answered (class (facts_of apics r t) t) t (took r)
+taken_up apics (t ∷ ts) r = answered (decision (facts_of apics r t) t) t (took r)
 
 -- the next report
 abbrev pub next_report : List ℕ → Monarch → Monarch
 next_report apics r = taken_up apics (drop r.taken r.collection.reports) r
 
 -- where the collection is led; its end leads to the first report
-abbrev pub collected : List ℕ → Collected → Monarch → Monarch
-collected apics (CollectsAt l c) r = record r { label = l; collection = c }
-collected apics (CollectedAll c) r = next_report apics (record r { collection = c })
+abbrev pub after_collection : List ℕ → CollectNext → Monarch → Monarch
+after_collection apics (CollectsAt l c) r = record r { label = l; collection = c }
+after_collection apics (CollectEnds c) r = next_report apics (record r { collection = c })
 
 -- where the add is led
-abbrev pub led : Led → Monarch → Monarch
-led (AddsAt l a) r = record r { label = l; add = a }
-led (Ends o) r = tells o r
+abbrev pub after_add : AddNext → Monarch → Monarch
+after_add (AddsAt l a) r = record r { label = l; add = a }
+after_add (Ends o) r = at_tell o r
 
 -- where the eject is led
-abbrev pub eject_led : EjectLed → Monarch → Monarch
-eject_led (EjectsAt l j) r = record r { label = l; eject = j }
-eject_led (EjectEnds o) r = tells o r
+abbrev pub after_eject : EjectNext → Monarch → Monarch
+after_eject (EjectsAt l j) r = record r { label = l; eject = j }
+after_eject (EjectEnds o) r = at_tell o r
 
 -- a told outcome: an APIC ID that was added is known, and no longer held; one that was ejected is forgotten
-abbrev pub told : Outcome → Monarch → Monarch
-told (outcome.Added cpu apic slot) r = record r { slots = completed apic r.slots }
-told (outcome.Ejected cpu apic slot) r = record r { slots = forgotten apic r.slots }
-told (outcome.Refused why) r = r
+abbrev pub after_tell : Outcome → Monarch → Monarch
+after_tell (outcome.Added cpu apic slot) r = record r { slots = completed apic r.slots }
+after_tell (outcome.Ejected cpu apic slot) r = record r { slots = forgotten apic r.slots }
+after_tell (outcome.Refused why) r = r

@@ -6,15 +6,15 @@ use Rattle.hp_model.specs.declared.accesses.Access.TheVariants.{Out, Icr, Nop}
 
 -- where it stands: before or after one of its accesses to the GPE status; in its scan from a processor on, with those found so far that are to be
 -- started and to be ejected; or with so much still to do
-pub data OsPlace : Type 0 where
-  polls : OsPlace  -- it reads the GPE status next
-  polled : OsPlace  -- it has read it
-  scans : ℕ → List ℕ → List ℕ → OsPlace  -- it selects this processor next
-  selected : ℕ → List ℕ → List ℕ → OsPlace  -- it has selected it
-  commanded : ℕ → List ℕ → List ℕ → OsPlace  -- it has asked for the next one with an event
-  looked : ℕ → List ℕ → List ℕ → OsPlace  -- it has read command data: the selector
-  judged : ℕ → List ℕ → List ℕ → OsPlace  -- it has read this processor's status
-  acts : List Access → OsPlace
+pub data OsPoint : Type 0 where
+  polls : OsPoint  -- it reads the GPE status next
+  polled : OsPoint  -- it has read it
+  scans : ℕ → List ℕ → List ℕ → OsPoint  -- it selects this processor next
+  selected : ℕ → List ℕ → List ℕ → OsPoint  -- it has selected it
+  commanded : ℕ → List ℕ → List ℕ → OsPoint  -- it has asked for the next one with an event
+  looked : ℕ → List ℕ → List ℕ → OsPoint  -- it has read command data: the selector
+  judged : ℕ → List ℕ → List ℕ → OsPoint  -- it has read this processor's status
+  acts : List Access → OsPoint
 
 -- one more to be started: enabled (bit 0), with an insert event (bit 1)
 abbrev pub with_insert_of : ℕ → ℕ → List ℕ → List ℕ

@@ -1,4 +1,4 @@
--- What an outcome says (own rules): which report it answers, by which class, and what its entries show. Each part is a test of what is told.
+-- What an outcome says (own rules): which report it answers, by which decision, and what its entries show. Each part is a test of what is told.
 use Rattle.std.specs.Prelude.{ℕ, Bool, true, false, ◌&&◌, ◌||◌, ◌==◌, List, [], ◌∷◌, ◌++◌, length, drop, map, filter, replicate, Option, Some, None, bit_and}
 use Rattle.std.specs.List.{list_any}
 use Rattle.std.specs.Str.{bytes_eq}
@@ -14,22 +14,22 @@ use Rattle.hp_model.specs.declared.entries.Entry.{Entry}
 use Rattle.hp_model.specs.Platform.{tile}
 use Rattle.hp_model.specs.Block.{is_in}
 use Rattle.hp_model.specs.Boot.{value_in}
-use Rattle.hp_model.specs.Slots.{place_of}
+use Rattle.hp_model.specs.Slots.{slot_among}
 use Rattle.hp_model.specs.Collection.{Report}
-use Rattle.hp_model.specs.Monarch.{Class, Tells, Adds, Ejects, is_that}
+use Rattle.hp_model.specs.Monarch.{Decision, ToTell, ToAdd, ToEject, is_that}
 use Rattle.hp_model.specs.State.{State, at}
 use Rattle.hp_model.specs.Access.{stands_in_smm}
 use Rattle.hp_model.specs.Firmware.{same_outcome}
 use Rattle.hp_model.specs.Events.{outcome_in, is_access_of}
 use Rattle.hp_model.specs.Transitions.{Transition, entries_of, at_each, since, older_than, newest, left_in}
 use Rattle.hp_model.specs.Account.{is_at, opened_for, bound}
-use Rattle.hp_model.specs.Sessions.{open_triple, class_in, is_disturbed, ends_outcome}
+use Rattle.hp_model.specs.Sessions.{open_triple, decision_in, is_disturbed, ends_outcome}
 
--- what is told, the report that it answers, the class of this report, and the transitions of the outcome, newest first
+-- what is told, the report that it answers, the decision on this report, and the transitions of the outcome, newest first
 pub record Telling : Type 0 where
   pub outcome : Outcome
   pub report : Option Report
-  pub class : Class
+  pub decision : Decision
   pub entries : List Entry  -- all before it is told
   pub own : List Transition
   pub state : State  -- in which it is told
@@ -37,17 +37,17 @@ pub record Telling : Type 0 where
 abbrev pub own_of : Platform → List Transition → List Transition
 own_of p past = since (λ x. ends_outcome p x.entry) past
 
-abbrev pub class_by : Platform → List Entry → Option Report → Class
-class_by p es None = Adds
-class_by p es (Some t) = class_in p es t
+abbrev pub decision_by : Platform → List Entry → Option Report → Decision
+decision_by p es None = ToAdd
+decision_by p es (Some t) = decision_in p es t
 
--- the class is that of the entries before those of the outcome
+-- the decision is that of the entries before those of the outcome
 abbrev pub telling : Platform → List Transition → State → Outcome → Telling
 telling p past s o =
     let es = entries_of past in
     let own = own_of p past in
     let report = open_triple p es in
-    record { outcome = o; report = report; class = class_by p (drop (length own) es) report; entries = es; own = own; state = s }
+    record { outcome = o; report = report; decision = decision_by p (drop (length own) es) report; entries = es; own = own; state = s }
 
 -- a test of what is told, at each transition that tells
 abbrev pub when_told : Platform → (Telling → Bool) → List Transition → State → Option Outcome → Bool
@@ -97,19 +97,19 @@ ends_eject t (Added cpu apic slot) = false
 ends_eject t (Ejected cpu apic slot) = (cpu == t.cpu) && (apic == t.apic)
 ends_eject t (Refused why) = fails_eject t why
 
--- the class tells the outcome itself, or the outcome is one that may follow it
-abbrev pub may_follow : Class → Report → Outcome → Bool
-may_follow (Tells told) t o = same_outcome o told
-may_follow Adds t o = ends_add t o
-may_follow Ejects t o = ends_eject t o
+-- the decision tells the outcome itself, or the outcome is one that may follow it
+abbrev pub may_follow : Decision → Report → Outcome → Bool
+may_follow (ToTell told) t o = same_outcome o told
+may_follow ToAdd t o = ends_add t o
+may_follow ToEject t o = ends_eject t o
 
--- what is told answers the session's first report without an outcome, by its class
-abbrev pub answers_by : Class → Outcome → Option Report → Bool
+-- what is told answers the session's first report without an outcome, by its decision
+abbrev pub answers_by : Decision → Outcome → Option Report → Bool
 answers_by c o None = false
 answers_by c o (Some t) = may_follow c t o
 
 abbrev pub answers : Telling → Bool
-answers t = answers_by t.class t.outcome t.report
+answers t = answers_by t.decision t.outcome t.report
 
 -- values that the entries of an outcome read at a label
 abbrev pub values_at : Platform → Label → List Entry → List ℕ
@@ -139,7 +139,7 @@ was_let_in p apic own =
 
 -- the slot is the APIC ID's place, and the next one where it had none before
 abbrev pub has_slot : List ℕ → List ℕ → ℕ → ℕ → Bool
-has_slot before now apic slot = is_in apic now && ((place_of now apic == slot) && (is_in apic before || (slot == length before)))
+has_slot before now apic slot = is_in apic now && ((slot_among now apic == slot) && (is_in apic before || (slot == length before)))
 
 abbrev pub is_added : Platform → Telling → ℕ → ℕ → ℕ → Bool
 is_added p t cpu apic slot =
@@ -168,7 +168,7 @@ is_only test (d ∷ (e ∷ ds)) = false
 
 abbrev pub is_ejected : Platform → Telling → ℕ → ℕ → ℕ → Bool
 is_ejected p t cpu apic slot =
-    (is_in apic (bound p t.entries) && (place_of (bound p t.entries) apic == slot))
+    (is_in apic (bound p t.entries) && (slot_among (bound p t.entries) apic == slot))
     && (is_disturbed p t.entries || is_only (is_eject_of p cpu slot) (departures p t.own))
 
 -- three attempts have opened the gate

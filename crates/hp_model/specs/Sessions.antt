@@ -12,9 +12,9 @@ use Rattle.hp_model.specs.declared.entries.Event.{Event}
 use Rattle.hp_model.specs.declared.entries.Entry.{Entry}
 use Rattle.hp_model.specs.Boot.{value_in}
 use Rattle.hp_model.specs.SharedBytes.{layout_of, arrived_byte}
-use Rattle.hp_model.specs.Slots.{place_of}
+use Rattle.hp_model.specs.Slots.{slot_among}
 use Rattle.hp_model.specs.Collection.{Report}
-use Rattle.hp_model.specs.Monarch.{Class, Facts, class, is_own}
+use Rattle.hp_model.specs.Monarch.{Decision, Facts, decision, is_own}
 use Rattle.hp_model.specs.State.{State}
 use Rattle.hp_model.specs.Ports.{writes_block}
 use Rattle.hp_model.specs.Access.{same_access}
@@ -59,8 +59,8 @@ unfoldable pub outcomes : List Entry → List Outcome
 outcomes [] = []
 outcomes (e ∷ older) = with_outcome (outcomes older) (outcome_in e.event)
 
-abbrev pub tells : Entry → Bool
-tells e = is_some (outcome_in e.event)
+abbrev pub is_tell : Entry → Bool
+is_tell e = is_some (outcome_in e.event)
 
 -- the running session's first triple without an outcome
 abbrev pub open_triple : Platform → List Entry → Option Report
@@ -68,7 +68,7 @@ open_triple p es = slice_get (triples p (session es)) (length (outcomes (session
 
 -- an add runs from an entry at NB to the next outcome that is told
 abbrev pub add_runs : Platform → List Entry → Bool
-add_runs p es = was_at p NB (since tells es)
+add_runs p es = was_at p NB (since is_tell es)
 
 abbrev pub apic_in : Option Report → Option ℕ
 apic_in None = None
@@ -96,22 +96,22 @@ facts_in p es t =
     record {
       own = is_own p.apic t;
       known = is_known p es t.apic;
-      slot = place_of (bound p es) t.apic;
+      slot = slot_among (bound p es) t.apic;
       held = held p es;
       features = p.features;
-      look = last_look p (place_of (bound p es) t.apic) es;
+      look = last_look p (slot_among (bound p es) t.apic) es;
     }
 
--- the class of a report, read from the platform and the entries alone
-abbrev pub class_in : Platform → List Entry → Report → Class
-class_in p es t = class (facts_in p es t) t
+-- the decision on a report, read from the platform and the entries alone
+abbrev pub decision_in : Platform → List Entry → Report → Decision
+decision_in p es t = decision (facts_in p es t) t
 
 -- the entries of an outcome come after the last that was told in the session, or after the collection
 abbrev pub collects : Platform → Entry → Bool
 collects p e = list_any (λ l. is_at p l e) (C1 ∷ C2 ∷ C3 ∷ C4 ∷ C5 ∷ C6 ∷ [])
 
 abbrev pub ends_outcome : Platform → Entry → Bool
-ends_outcome p e = tells e || (collects p e || bounds_session e)
+ends_outcome p e = is_tell e || (collects p e || bounds_session e)
 
 -- from its entry at S2 to its entry at E5 a session has all other processors called in
 abbrev pub is_called_in : Platform → List Entry → Bool
@@ -135,5 +135,5 @@ abbrev pub is_disturbed : Platform → List Entry → Bool
 is_disturbed p es = disturbed_in p (session es)
 
 -- while a session has all others called in, the state's flag is set where the entries say that it was disturbed
-abbrev pub flag_tells : Platform → List Entry → State → Bool
-flag_tells p es s = not (is_called_in p es) || (if is_disturbed p es then s.disturbed else not s.disturbed)
+abbrev pub flag_agrees : Platform → List Entry → State → Bool
+flag_agrees p es s = not (is_called_in p es) || (if is_disturbed p es then s.disturbed else not s.disturbed)

@@ -17,17 +17,17 @@ boot_ids p = map (apic_of p) p.boot
 abbrev pub slots_start : Platform → Slots
 slots_start p = record { bound = boot_ids p; known = replicate (length p.boot) true; held = None }
 
--- the place of an APIC ID among those bound, their number where it isn't bound
-abbrev pub place_of : List ℕ → ℕ → ℕ
-place_of [] apic = 0
-place_of (a ∷ as') apic = if a == apic then 0 else place_of as' apic + 1
+-- the slot of an APIC ID among those bound, their number where it isn't bound
+abbrev pub slot_among : List ℕ → ℕ → ℕ
+slot_among [] apic = 0
+slot_among (a ∷ as') apic = if a == apic then 0 else slot_among as' apic + 1
 
 -- the slot of an APIC ID, if it has one
 abbrev pub slot_in : Slots → ℕ → Option ℕ
-slot_in s apic = if is_in apic s.bound then Some (place_of s.bound apic) else None
+slot_in s apic = if is_in apic s.bound then Some (slot_among s.bound apic) else None
 
 abbrev pub is_known : Slots → ℕ → Bool
-is_known s apic = slice_index_or s.known (place_of s.bound apic) false
+is_known s apic = slice_index_or s.known (slot_among s.bound apic) false
 
 -- the first known slot from k on
 abbrev pub first_true : ℕ → List Bool → Option ℕ
@@ -48,8 +48,8 @@ bind apic s = record (with_slot apic s) { held = Some apic }
 
 -- an add is complete: its APIC ID is known and no longer held
 abbrev pub completed : ℕ → Slots → Slots
-completed apic s = record s { known = slice_set s.known (place_of s.bound apic) true; held = None }
+completed apic s = record s { known = slice_set s.known (slot_among s.bound apic) true; held = None }
 
 -- an ejected APIC ID is forgotten; its slot stays bound
 abbrev pub forgotten : ℕ → Slots → Slots
-forgotten apic s = record s { known = slice_set s.known (place_of s.bound apic) false }
+forgotten apic s = record s { known = slice_set s.known (slot_among s.bound apic) false }

@@ -9,7 +9,7 @@ use Rattle.hp_model.specs.Platform.{count_of, tile, apic_of}
 use Rattle.hp_model.specs.Memory.{touched}
 use Rattle.hp_model.specs.Block.{is_in}
 use Rattle.hp_model.specs.SharedBytes.{gate}
-use Rattle.hp_model.specs.Slots.{place_of}
+use Rattle.hp_model.specs.Slots.{slot_among}
 use Rattle.hp_model.specs.Collection.{Report}
 use Rattle.hp_model.specs.Monarch.{is_that}
 use Rattle.hp_model.specs.State.{State, at}
@@ -21,7 +21,7 @@ use Rattle.hp_model.specs.Sessions.{session, triples}
 
 -- with these APIC IDs bound: a present processor has the default SMBASE, or the tile of its APIC ID's place
 abbrev pub has_own_smbase : Platform → List ℕ → ℕ → Cpu → Bool
-has_own_smbase p ids apic c = not c.present || ((c.smbase == 0x30000) || (is_in apic ids && (c.smbase == tile p (place_of ids apic))))
+has_own_smbase p ids apic c = not c.present || ((c.smbase == 0x30000) || (is_in apic ids && (c.smbase == tile p (slot_among ids apic))))
 
 abbrev pub have_own_smbases : Platform → List Entry → State → Bool
 have_own_smbases p es s = list_all (λ k. has_own_smbase p (bound p es) (apic_of p k) (at s k)) (places (count_of p))

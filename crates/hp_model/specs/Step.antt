@@ -19,7 +19,7 @@ use Rattle.hp_model.specs.Labels.{index_of, same_label}
 use Rattle.hp_model.specs.State.{State, at, set_cpu}
 use Rattle.hp_model.specs.Ports.{writes_block}
 use Rattle.hp_model.specs.Access.{is_normal, stands_in_smm, may_access, answer_to, access_effect}
-use Rattle.hp_model.specs.Firmware.{is_wanted, firmware_led}
+use Rattle.hp_model.specs.Firmware.{is_wanted, firmware_effect}
 
 -- what a step answers, and the state after it
 pub record After : Type 0 where
@@ -96,7 +96,7 @@ abbrev pub after : Platform → State → Event → After
 after p s e =
     record {
       answer = answer_of s e;
-      state = record (firmware_led p s s.stage e (effect_of p s e)) {
+      state = record (firmware_effect p s s.stage e (effect_of p s e)) {
         stage = stage_after p.tseg_mib (answer_of s e) s.stage;
         disturbed = is_disturbed_by s e;
       };

@@ -11,7 +11,7 @@ use Rattle.hp_model.specs.declared.files.File.{File}
 use Rattle.hp_model.specs.Attacks.{once_more, storm_access, flood_access, digger_access, churn_access}
 use Rattle.hp_model.specs.Block.{cut}
 use Rattle.hp_model.specs.Boot.{value_in}
-use Rattle.hp_model.specs.OsProgram.{OsPlace, polls, polled, scans, selected, commanded, looked, judged, acts, with_insert_of, with_removal_of, to_do}
+use Rattle.hp_model.specs.OsProgram.{OsPoint, polls, polled, scans, selected, commanded, looked, judged, acts, with_insert_of, with_removal_of, to_do}
 use Rattle.hp_model.specs.Platform.{high_half}
 use Rattle.hp_model.specs.Seeded.{generator_of, draw, drawn_access}
 
@@ -19,7 +19,7 @@ use Rattle.hp_model.specs.Seeded.{generator_of, draw, drawn_access}
 pub data Voice : Type 0 where
   script : List Access → Voice  -- the steps that are left, and halts after them
   pen : Bool → Voice  -- whether it has stored its byte
-  os : List ℕ → OsPlace → Voice  -- by place, the high half of an interrupt command to each processor, and where the program stands
+  os : List ℕ → OsPoint → Voice  -- by place, the high half of an interrupt command to each processor, and where the program stands
   seeded : Lcg → Voice  -- the generator of its words
   storm : ℕ → ℕ → Voice  -- for so many processors; of this one and of those below, how often it was asked
   flood : ℕ → ℕ → Voice  -- against an APIC ID
@@ -82,7 +82,7 @@ finding halves cpu next inserts removals =
     else record { access = In 0xcdc 1; voice = os halves (judged next inserts removals) }
 
 -- where v is the value of its last answer, of which it takes the low bits of the width that it asked
-abbrev pub os_says : List ℕ → OsPlace → ℕ → Said
+abbrev pub os_says : List ℕ → OsPoint → ℕ → Said
 os_says halves polls v = looking halves
 os_says halves polled v = hearing halves (cut 1 v)
 os_says halves (scans cpu inserts removals) v = selecting halves cpu inserts removals

@@ -7,37 +7,37 @@ use Rattle.std.proofs.lemmas.List.{length-append}
 use Rattle.std.proofs.lemmas.Option.{same_Some}
 use Rattle.hp_model.specs.Block.{is_in}
 use Rattle.hp_model.specs.Monarch.{with_byte}
-use Rattle.hp_model.specs.Slots.{Slots, bind, place_of, slot_in}
+use Rattle.hp_model.specs.Slots.{Slots, bind, slot_among, slot_in}
 use Rattle.hp_model.proofs.Counts.{place_below}
 
 -- the place of an APIC ID that isn't bound is their number
-place_past : (ids : List ℕ) (a : ℕ) → is_in a ids ≡ false → place_of ids a ≡ length ids
+place_past : (ids : List ℕ) (a : ℕ) → is_in a ids ≡ false → slot_among ids a ≡ length ids
 place_past [] a e = refl
 place_past (b ∷ ids) a e = by_head (b == a) e (place_past ids a)
   where
-    by_head : (x : Bool) → (x || is_in a ids) ≡ false → (is_in a ids ≡ false → place_of ids a ≡ length ids) → cond x 0 (place_of ids a + 1) ≡ suc (length ids)
+    by_head : (x : Bool) → (x || is_in a ids) ≡ false → (is_in a ids ≡ false → slot_among ids a ≡ length ids) → cond x 0 (slot_among ids a + 1) ≡ suc (length ids)
     by_head true e rest = absurd cc
     by_head false e rest = let h = rest e in omega (arith, h)
 
 pub slot_below : (s : Slots) (a k : ℕ) → slot_in s a ≡ Some k → k < length s.bound
 slot_below s a k e = by (is_in a s.bound) refl e
   where
-    by : (x : Bool) → is_in a s.bound ≡ x → cond x (Some (place_of s.bound a)) None ≡ Some k → k < length s.bound
-    by true is e = subst (λ (n : ℕ). n < length s.bound) (same_Some (place_of s.bound a) k e) (place_below s.bound a is)
+    by : (x : Bool) → is_in a s.bound ≡ x → cond x (Some (slot_among s.bound a)) None ≡ Some k → k < length s.bound
+    by true is e = subst (λ (n : ℕ). n < length s.bound) (same_Some (slot_among s.bound a) k e) (place_below s.bound a is)
     by false is e = absurd cc
 
-pub slot_is : (s : Slots) (a k : ℕ) → slot_in s a ≡ Some k → k ≡ place_of s.bound a
+pub slot_is : (s : Slots) (a k : ℕ) → slot_in s a ≡ Some k → k ≡ slot_among s.bound a
 slot_is s a k e = by (is_in a s.bound) e
   where
-    by : (x : Bool) → cond x (Some (place_of s.bound a)) None ≡ Some k → k ≡ place_of s.bound a
-    by true e = sym (same_Some (place_of s.bound a) k e)
+    by : (x : Bool) → cond x (Some (slot_among s.bound a)) None ≡ Some k → k ≡ slot_among s.bound a
+    by true e = sym (same_Some (slot_among s.bound a) k e)
     by false e = absurd cc
 
 -- a slot, and their number where there is none, is that place
-pub slot_or : (s : Slots) (a : ℕ) → unwrap_or (slot_in s a) (length s.bound) ≡ place_of s.bound a
+pub slot_or : (s : Slots) (a : ℕ) → unwrap_or (slot_in s a) (length s.bound) ≡ slot_among s.bound a
 slot_or s a = by (is_in a s.bound) refl
   where
-    by : (x : Bool) → is_in a s.bound ≡ x → unwrap_or (cond x (Some (place_of s.bound a)) None) (length s.bound) ≡ place_of s.bound a
+    by : (x : Bool) → is_in a s.bound ≡ x → unwrap_or (cond x (Some (slot_among s.bound a)) None) (length s.bound) ≡ slot_among s.bound a
     by true is = refl
     by false is = sym (place_past s.bound a is)
 

@@ -3,9 +3,9 @@ use Rattle.std.proofs.Common.{◌≡◌, ℕ, Bool, subst}
 use Rattle.hp_model.specs.declared.accesses.Answer.{Answer}
 use Rattle.hp_model.specs.declared.labels.Label.{Label}
 use Rattle.hp_model.specs.declared.labels.Label.TheVariants.{F1}
-use Rattle.hp_model.specs.Add.{Led, AddsAt, Ends}
-use Rattle.hp_model.specs.Collection.{Collected, CollectsAt, CollectedAll}
-use Rattle.hp_model.specs.Eject.{EjectLed, EjectsAt, EjectEnds}
+use Rattle.hp_model.specs.Add.{AddNext, AddsAt, Ends}
+use Rattle.hp_model.specs.Collection.{CollectNext, CollectsAt, CollectEnds}
+use Rattle.hp_model.specs.Eject.{EjectNext, EjectsAt, EjectEnds}
 use Rattle.hp_model.specs.Fitting.{FitsWant}
 use Rattle.hp_model.specs.Handlers.{Seat, want_at}
 use Rattle.hp_model.specs.Monarch.{Monarch}
@@ -19,17 +19,17 @@ fits_any : (y z : Layout) (x q : Seat) (r s : Monarch) (answer : Answer) (l : La
 fits_any y z x q r s answer F1 h = h
 fits_any y z x q r s answer _ h = h
 
-pub fits_collection : (s : Session) (answer : Answer) (d : Collected) → IsCollecting d → s.monarch.label ≡ collecting_at d → Fits s answer → FitsCollection d answer
+pub fits_collection : (s : Session) (answer : Answer) (d : CollectNext) → IsCollecting d → s.monarch.label ≡ collecting_at d → Fits s answer → FitsCollection d answer
 fits_collection s answer (CollectsAt l c) going e h = λ y x r same.
     fits_any s.layout y x x s.monarch r answer l (subst (λ (m : Label). FitsWant (want_at s.layout x s.monarch m) answer) e (h x))
-fits_collection s answer (CollectedAll c) going e h = going
+fits_collection s answer (CollectEnds c) going e h = going
 
-pub fits_add : (s : Session) (answer : Answer) (tseg : ℕ) (x2apic : Bool) (d : Led) → IsAdding d → s.monarch.label ≡ adding_at d → Fits s answer → FitsAdd tseg x2apic d answer
+pub fits_add : (s : Session) (answer : Answer) (tseg : ℕ) (x2apic : Bool) (d : AddNext) → IsAdding d → s.monarch.label ≡ adding_at d → Fits s answer → FitsAdd tseg x2apic d answer
 fits_add s answer tseg x2apic (AddsAt l a) going e h = λ y x r at wide same.
     fits_any s.layout y x x s.monarch r answer l (subst (λ (m : Label). FitsWant (want_at s.layout x s.monarch m) answer) e (h x))
 fits_add s answer tseg x2apic (Ends o) going e h = going
 
-pub fits_eject : (s : Session) (answer : Answer) (tseg : ℕ) (d : EjectLed) → IsEjecting d → s.monarch.label ≡ ejecting_at d → Fits s answer → FitsEject tseg d answer
+pub fits_eject : (s : Session) (answer : Answer) (tseg : ℕ) (d : EjectNext) → IsEjecting d → s.monarch.label ≡ ejecting_at d → Fits s answer → FitsEject tseg d answer
 fits_eject s answer tseg (EjectsAt l j) going e h = λ y x r at same.
     fits_any s.layout y x x s.monarch r answer l (subst (λ (m : Label). FitsWant (want_at s.layout x s.monarch m) answer) e (h x))
 fits_eject s answer tseg (EjectEnds o) going e h = going

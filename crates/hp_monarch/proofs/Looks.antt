@@ -5,11 +5,11 @@ use Rattle.hp_model.specs.declared.accesses.Answer.{Answer}
 use Rattle.hp_model.specs.declared.accesses.Answer.TheVariants.{Quiet, Value}
 use Rattle.hp_model.specs.declared.labels.Label.{Label}
 use Rattle.hp_model.specs.declared.labels.Label.TheVariants.{S3, N8b, N11}
-use Rattle.hp_model.specs.Add.{Led, AddsAt, Ends, saw_flag, saw_pair, shut, saw_arrival}
+use Rattle.hp_model.specs.Add.{AddNext, AddsAt, Ends, saw_flag, saw_pair, shut, saw_arrival}
 use Rattle.hp_model.specs.Boot.{value_in}
 use Rattle.hp_model.specs.Fitting.{FitsWant}
 use Rattle.hp_model.specs.Handlers.{Seat, next_at, want_at}
-use Rattle.hp_model.specs.Monarch.{Monarch, led, noted}
+use Rattle.hp_model.specs.Monarch.{Monarch, after_add, noted}
 use Rattle.hp_model.specs.SharedBytes.{Layout}
 use Rattle.hp_reloc.specs.Relocating.{IsOfAdd, label_of}
 use Rattle.hp_reloc.specs.declared.rows.Row.{Row}
@@ -39,7 +39,7 @@ byte_of_add y r answer l (inl e) h = at_N8b y r answer (subst (λ (m : Label). (
 byte_of_add y r answer l (inr e) h = at_N11 y r answer (subst (λ (m : Label). (x : Seat) → FitsWant (want_at y x r m) answer) e h)
 
 -- being led on changes no byte that was read
-led_last : (d : Led) (r : Monarch) → (led d r).last ≡ r.last
+led_last : (d : AddNext) (r : Monarch) → (after_add d r).last ≡ r.last
 led_last (AddsAt l a) r = refl
 led_last (Ends o) r = refl
 

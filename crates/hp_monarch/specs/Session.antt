@@ -4,23 +4,23 @@ use Rattle.std.specs.List.{list_all}
 use Rattle.hp_model.specs.declared.labels.Label.{Label}
 use Rattle.hp_model.specs.declared.labels.Label.TheVariants as label
 use Rattle.hp_model.specs.declared.accesses.Answer.{Answer}
-use Rattle.hp_model.specs.Add.{Led, AddsAt, Ends}
-use Rattle.hp_model.specs.Collection.{Collected, CollectsAt, CollectedAll, Report}
-use Rattle.hp_model.specs.Eject.{EjectLed, EjectsAt, EjectEnds}
+use Rattle.hp_model.specs.Add.{AddNext, AddsAt, Ends}
+use Rattle.hp_model.specs.Collection.{CollectNext, CollectsAt, CollectEnds, Report}
+use Rattle.hp_model.specs.Eject.{EjectNext, EjectsAt, EjectEnds}
 use Rattle.hp_model.specs.Fitting.{FitsWant}
 use Rattle.hp_model.specs.Handlers.{Seat, want_at}
-use Rattle.hp_model.specs.Monarch.{Monarch, Class as AClass, Facts as TheFacts, Tells, Adds, Ejects, is_own}
+use Rattle.hp_model.specs.Monarch.{Monarch, Decision as ADecision, Facts as TheFacts, ToTell, ToAdd, ToEject, is_own}
 use Rattle.hp_model.specs.SharedBytes.{Layout}
-use Rattle.hp_model.specs.Slots.{is_known, place_of}
+use Rattle.hp_model.specs.Slots.{is_known, slot_among}
 use Rattle.hp_collect.specs.Collecting.{Collecting, IsGoing as IsCollecting}
 use Rattle.hp_eject.specs.Ejecting.{Ejecting, IsGoing as IsEjecting}
 use Rattle.hp_reloc.specs.Relocating.{Relocating, IsGoing as IsAdding, greatest}
 use Rattle.hp_reloc.specs.Roster.{Roster}
-use Rattle.hp_monarch.specs.declared.classes.Class.{Class}
-use Rattle.hp_monarch.specs.declared.classes.Class.TheVariants as class
-use Rattle.hp_monarch.specs.declared.classes.Facts.{Facts}
-use Rattle.hp_monarch.specs.declared.rows.Place.{Place}
-use Rattle.hp_monarch.specs.declared.rows.Place.TheVariants as place
+use Rattle.hp_monarch.specs.declared.decisions.Decision.{Decision}
+use Rattle.hp_monarch.specs.declared.decisions.Decision.TheVariants as decision
+use Rattle.hp_monarch.specs.declared.decisions.Facts.{Facts}
+use Rattle.hp_monarch.specs.declared.rows.Standing.{Standing}
+use Rattle.hp_monarch.specs.declared.rows.Standing.TheVariants as standing
 use Rattle.hp_monarch.specs.declared.rows.Row.{Row}
 use Rattle.hp_monarch.specs.declared.rows.Row.TheVariants as row
 
@@ -44,30 +44,30 @@ label_of row.E6 = label.E6
 label_of row.E7 = label.E7
 
 -- where a collection stands, an add, and an eject; past its end none stands anywhere, and no monarch is in it
-abbrev pub collecting_at : Collected → Label
+abbrev pub collecting_at : CollectNext → Label
 collecting_at (CollectsAt l c) = l
-collecting_at (CollectedAll c) = label.C1
+collecting_at (CollectEnds c) = label.C1
 
-abbrev pub adding_at : Led → Label
+abbrev pub adding_at : AddNext → Label
 adding_at (AddsAt l a) = l
 adding_at (Ends o) = label.NB
 
-abbrev pub ejecting_at : EjectLed → Label
+abbrev pub ejecting_at : EjectNext → Label
 ejecting_at (EjectsAt l j) = l
 ejecting_at (EjectEnds o) = label.E0
 
 -- where the monarch stands: at a row of its own, in the collection, in an add, or in an eject
-abbrev pub label_at : Place → Collected → Led → EjectLed → Label
-label_at (place.At row) c d e = label_of row
-label_at place.Collects c d e = collecting_at c
-label_at place.Adds c d e = adding_at d
-label_at place.Ejects c d e = ejecting_at e
+abbrev pub label_at : Standing → CollectNext → AddNext → EjectNext → Label
+label_at (standing.At row) c d e = label_of row
+label_at standing.Collects c d e = collecting_at c
+label_at standing.Adds c d e = adding_at d
+label_at standing.Ejects c d e = ejecting_at e
 
 -- what becomes of a report, as the code has it
-abbrev pub class_of : Class → AClass
-class_of (class.Tells o) = Tells o
-class_of class.Adds = Adds
-class_of class.Ejects = Ejects
+abbrev pub decision_of : Decision → ADecision
+decision_of (decision.Tell o) = ToTell o
+decision_of decision.Add = ToAdd
+decision_of decision.Eject = ToEject
 
 -- what is known of it, as the code has it
 abbrev pub facts_in : Facts → TheFacts
@@ -79,10 +79,10 @@ facts_by s last features t =
     record {
       own = is_own s.possible t;
       known = is_known s.slots t.apic;
-      slot = place_of s.slots.bound t.apic;
+      slot = slot_among s.slots.bound t.apic;
       held = s.slots.held;
       features = features;
-      look = slice_index_or last (place_of s.slots.bound t.apic) 2;
+      look = slice_index_or last (slot_among s.slots.bound t.apic) 2;
     }
 
 -- the labels of an add that read an arrived byte
@@ -98,11 +98,11 @@ abbrev pub TakesReports : Label → Type 0
 TakesReports l = (l ≡ label.C3) ⊎ ((l ≡ label.C4) ⊎ ((l ≡ label.C6) ⊎ (l ≡ label.T)))
 
 -- a monarch in the collection has one that goes on, and so in an add, which is in a bound slot, and in an eject
-abbrev pub IsIn : Place → ℕ → Collected → Relocating → EjectLed → Type 0
-IsIn (place.At row) bound c d e = Unit {0}
-IsIn place.Collects bound c d e = IsCollecting c
-IsIn place.Adds bound c d e = IsAdding d.led × (d.add.slot < bound)
-IsIn place.Ejects bound c d e = IsEjecting e
+abbrev pub IsIn : Standing → ℕ → CollectNext → Relocating → EjectNext → Type 0
+IsIn (standing.At row) bound c d e = Unit {0}
+IsIn standing.Collects bound c d e = IsCollecting c
+IsIn standing.Adds bound c d e = IsAdding d.next × (d.add.slot < bound)
+IsIn standing.Ejects bound c d e = IsEjecting e
 
 -- collection, adds and ejects go by the same platform
 pub record IsBy (tseg count looks : ℕ) (x2apic late : Bool) (collect : Collecting) (add : Relocating) (eject : Ejecting) : Type 0 where
@@ -115,7 +115,7 @@ pub record IsBy (tseg count looks : ℕ) (x2apic late : Bool) (collect : Collect
   pub looks_late : eject.late ≡ late
 
 -- each bound slot has its byte, the slot whose byte is next is bound, addresses and APIC IDs are in range, and there is room for all possible slots
-pub record IsSound (tseg count looks : ℕ) (x2apic late : Bool) (slot : ℕ) (place : Place) (roster : Roster) (last : List ℕ) (room : ℕ) (collect : Collecting) (add : Relocating) (eject : Ejecting) : Type 0 where
+pub record IsSound (tseg count looks : ℕ) (x2apic late : Bool) (slot : ℕ) (standing : Standing) (roster : Roster) (last : List ℕ) (room : ℕ) (collect : Collecting) (add : Relocating) (eject : Ejecting) : Type 0 where
   pub bound : slot < length roster.slots.bound
   pub read : length last ≡ length roster.slots.bound
   pub at_most : length roster.slots.bound ≤ 512
@@ -124,4 +124,4 @@ pub record IsSound (tseg count looks : ℕ) (x2apic late : Bool) (slot : ℕ) (p
   pub ids : list_all (λ a. nat_le a (greatest x2apic)) roster.possible ≡ true
   pub fits : 512 ≤ room
   pub parts : IsBy tseg count looks x2apic late collect add eject
-  pub inside : IsIn place (length roster.slots.bound) collect.collected add eject.led
+  pub inside : IsIn standing (length roster.slots.bound) collect.next add eject.next

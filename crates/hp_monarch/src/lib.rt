@@ -1,7 +1,7 @@
 //! The monarch, the handler of processor 0 in SMM (own rule): a session from SMI entry to RSM.
 #![tactic(auto)]
 
-mod classes;
+mod decisions;
 mod laws;
 mod rows;
 mod sessions;

@@ -48,7 +48,7 @@ impl Row {
 
 /// Where the monarch stands: at a row of its own, in the collection, in an add, or in an eject.
 #[derive(Clone, Copy)]
-pub enum Place {
+pub enum Standing {
     At(Row),
     Collects,
     Adds,

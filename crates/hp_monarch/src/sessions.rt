@@ -5,7 +5,7 @@ ghost use Rattle.hp_model.specs.declared.labels.Label.TheVariants as labels;
 ghost use Rattle.hp_model.specs.Boot.{value_in};
 ghost use Rattle.hp_model.specs.Handlers.{Seat, next_at, want_at};
 ghost use Rattle.hp_model.specs.Fitting.{FitsWant};
-ghost use Rattle.hp_model.specs.Monarch.{Adds, Ejects, adds, answered, class as class_at, commanded, ejects, facts_of, first_slot, look_at, looked, monarch_start, next_report, next_slot, noted, restarted, told, with_features};
+ghost use Rattle.hp_model.specs.Monarch.{ToAdd, ToEject, adds, answered, decision as decision_at, commanded, ejects, facts_of, first_slot, look_at, looked, monarch_start, next_report, next_slot, noted, restarted, after_tell, with_features};
 ghost use Rattle.hp_model.specs.Platform.{IsFit, is_late};
 ghost use Rattle.hp_model.specs.SharedBytes.{layout_of};
 ghost use Rattle.hp_model.specs.Slots.{known_from};
@@ -13,8 +13,8 @@ ghost use Rattle.hp_collect.specs.Collecting.{report_of};
 ghost use Rattle.hp_monarch.specs.declared.rows.Row.TheVariants as rows;
 ghost use Rattle.hp_monarch.specs.Session.{Fits, ReadsByte, label_of};
 
-use crate::classes::{Class, UNREAD, gather, judge, place};
-use crate::rows::{Place, Row};
+use crate::decisions::{Decision, UNREAD, bound_slot, gather, judge};
+use crate::rows::{Row, Standing};
 use hp_collect::{Collect, Reported, Stage};
 use hp_eject::Eject;
 use hp_model::{
@@ -55,7 +55,7 @@ pub struct Monarch {
     x2apic: bool,
     /// Whether SMIs may come late.
     late: bool,
-    place: Place,
+    standing: Standing,
     /// The slot whose byte is next.
     slot: u32,
     /// Looks left at one arrived byte, before the SMI command is read.
@@ -88,21 +88,21 @@ impl Model for Monarch {
     ghost view = { λ m. record {
       layout = record { tseg = m.tseg; count = m.count; apics = m.slots.possible; polls = m.looks; x2apic = m.x2apic; late = m.late };
       monarch = record {
-        label = label_at m.place m.collect.collected m.add.led m.eject.led;
+        label = label_at m.standing m.collect.next m.add.next m.eject.next;
         slot = m.slot;
         polls = m.polls;
         slots = m.slots.slots;
         last = m.last.items;
         features = m.features;
-        collection = collection_in m.collect.collected;
+        collection = collection_in m.collect.next;
         taken = m.taken;
-        add = add_in m.add.led m.add.add;
-        eject = eject_in m.eject.led m.eject.eject;
+        add = add_in m.add.next m.add.add;
+        eject = eject_in m.eject.next m.eject.eject;
         outcome = m.outcome;
       };
     } };
 
-    ghost invariant = { λ m. IsSound m.tseg m.count m.looks m.x2apic m.late m.slot m.place m.slots m.last.items (vec_capacity m.last) m.collect m.add m.eject };
+    ghost invariant = { λ m. IsSound m.tseg m.count m.looks m.x2apic m.late m.slot m.standing m.slots m.last.items (vec_capacity m.last) m.collect m.add m.eject };
 }
 
 impl Monarch {
@@ -123,7 +123,7 @@ impl Monarch {
             looks: p.polls,
             x2apic: p.x2apic,
             late: p.delivery.is_late(),
-            place: Place::At(Row::S0),
+            standing: Standing::At(Row::S0),
             slot: 0,
             polls: 0,
             slots,
@@ -148,7 +148,7 @@ impl Monarch {
     pub fn restart(&mut self)
         ensures { self.new ≡ record self.old { monarch = restarted self.old.monarch } }
     {
-        self.place = Place::At(Row::S0);
+        self.standing = Standing::At(Row::S0);
         self.slot = 0;
         self.polls = 0;
         forget(self.last.as_mut_slice());
@@ -188,11 +188,11 @@ impl Monarch {
     pub fn label(&self) -> Label
         ensures { result ≡ self.now.monarch.label }
     {
-        match self.place {
-            Place::At(row) => row.label(),
-            Place::Collects => self.collect.label(),
-            Place::Adds => self.add.label(),
-            Place::Ejects => self.eject.label(),
+        match self.standing {
+            Standing::At(row) => row.label(),
+            Standing::Collects => self.collect.label(),
+            Standing::Adds => self.add.label(),
+            Standing::Ejects => self.eject.label(),
         }
     }
 
@@ -200,11 +200,11 @@ impl Monarch {
     pub fn want(&self) -> Want
         ensures { (x : Seat) → want_at self.now.layout x self.now.monarch self.now.monarch.label ≡ Some result }
     {
-        match self.place {
-            Place::At(row) => self.want_in(row),
-            Place::Collects => Want::Do(self.collect.want()),
-            Place::Adds => Want::Do(self.add.want()),
-            Place::Ejects => Want::Do(self.eject.want()),
+        match self.standing {
+            Standing::At(row) => self.want_in(row),
+            Standing::Collects => Want::Do(self.collect.want()),
+            Standing::Adds => Want::Do(self.add.want()),
+            Standing::Ejects => Want::Do(self.eject.want()),
         }
     }
 
@@ -237,10 +237,10 @@ impl Monarch {
         ensures { self.new ≡ record self.old { monarch = first_slot (label_of each) (label_of past) self.old.monarch } }
     {
         if self.slots.count() > 1 {
-            self.place = Place::At(each);
+            self.standing = Standing::At(each);
             self.slot = 1;
         } else {
-            self.place = Place::At(past);
+            self.standing = Standing::At(past);
         }
     }
 
@@ -249,10 +249,10 @@ impl Monarch {
         ensures { self.new ≡ record self.old { monarch = next_slot (label_of each) (label_of past) self.old.monarch } }
     {
         if self.slot + 1 < self.slots.count() {
-            self.place = Place::At(each);
+            self.standing = Standing::At(each);
             self.slot += 1;
         } else {
-            self.place = Place::At(past);
+            self.standing = Standing::At(past);
         }
     }
 
@@ -262,11 +262,11 @@ impl Monarch {
     {
         match self.slots.known_from(slot) {
             Some(slot) => {
-                self.place = Place::At(Row::S3);
+                self.standing = Standing::At(Row::S3);
                 self.slot = slot;
                 self.polls = self.looks;
             }
-            None => self.place = Place::At(Row::S4),
+            None => self.standing = Standing::At(Row::S4),
         }
     }
 
@@ -289,49 +289,49 @@ impl Monarch {
         if command == COLLECT {
             self.collect.restart();
             self.taken = 0;
-            self.place = Place::Collects;
+            self.standing = Standing::Collects;
         } else {
-            self.place = Place::At(Row::E5);
+            self.standing = Standing::At(Row::E5);
         }
     }
 
     /// An add begins: its APIC ID is bound and held. The byte of a new slot wasn't read.
     #[tactic(auto, using(crate::proofs::Adds::add_facts))]
     fn begin_add(&mut self, report: Reported)
-        requires { class_at (facts_of self.old.layout.apics self.old.monarch (report_of report)) (report_of report) ≡ Adds }
+        requires { decision_at (facts_of self.old.layout.apics self.old.monarch (report_of report)) (report_of report) ≡ ToAdd }
         ensures { self.new ≡ record self.old { monarch = adds (report_of report) self.old.monarch } }
     {
         let slot = self.slots.bind(report.apic);
         add_unread(&mut self.last, self.slots.count());
         self.add.restart(report.cpu, report.apic, slot);
-        self.place = Place::Adds;
+        self.standing = Standing::Adds;
     }
 
     /// An eject begins.
     fn begin_eject(&mut self, report: Reported)
-        requires { class_at (facts_of self.old.layout.apics self.old.monarch (report_of report)) (report_of report) ≡ Ejects }
+        requires { decision_at (facts_of self.old.layout.apics self.old.monarch (report_of report)) (report_of report) ≡ ToEject }
         ensures { self.new ≡ record self.old { monarch = ejects (report_of report) self.old.monarch } }
     {
-        let slot = place(&self.slots, report.apic);
+        let slot = bound_slot(&self.slots, report.apic);
         self.eject.restart(report.cpu, report.apic, slot);
-        self.place = Place::Ejects;
+        self.standing = Standing::Ejects;
     }
 
     /// A report is answered: by an outcome, an add or an eject.
     fn answer(&mut self, report: Reported)
         ensures { self.new ≡ record self.old {
           monarch =
-              answered (class_at (facts_of self.old.layout.apics self.old.monarch (report_of report)) (report_of report)) (report_of report) self.old.monarch;
+              answered (decision_at (facts_of self.old.layout.apics self.old.monarch (report_of report)) (report_of report)) (report_of report) self.old.monarch;
         } }
     {
         let facts = gather(&self.slots, self.last.as_slice(), self.features, report);
         match judge(facts, report) {
-            Class::Tells(outcome) => {
+            Decision::Tell(outcome) => {
                 self.outcome = outcome;
-                self.place = Place::At(Row::T);
+                self.standing = Standing::At(Row::T);
             }
-            Class::Adds => self.begin_add(report),
-            Class::Ejects => self.begin_eject(report),
+            Decision::Add => self.begin_add(report),
+            Decision::Eject => self.begin_eject(report),
         }
     }
 
@@ -341,7 +341,7 @@ impl Monarch {
         ensures { self.new ≡ record self.old { monarch = next_report self.old.layout.apics self.old.monarch } }
     {
         let Some(report) = self.collect.report().get(self.taken) else {
-            self.place = Place::At(Row::E5);
+            self.standing = Standing::At(Row::E5);
             return;
         };
         let report = *report;
@@ -351,7 +351,7 @@ impl Monarch {
 
     /// An outcome was told: an APIC ID that was added is known from here on, and one that was ejected is forgotten.
     fn complete(&mut self)
-        ensures { self.new ≡ record self.old { monarch = told self.old.monarch.outcome self.old.monarch } }
+        ensures { self.new ≡ record self.old { monarch = after_tell self.old.monarch.outcome self.old.monarch } }
     {
         match self.outcome {
             Outcome::Added { apic, .. } => self.slots.complete(apic),
@@ -391,28 +391,28 @@ impl Monarch {
         ensures monarch { (x : Seat) → self.new ≡ record self.old { monarch = (next_at self.old.layout x self.old.monarch self.old.monarch.label (value_in answer)).monarch } }
         ensures left { (result ≡ Phase.Left) ↔ (self.old.monarch.label ≡ labels.E7) }
     {
-        match self.place {
-            Place::At(row) => return self.feed_in(row, answer),
-            Place::Collects => {
+        match self.standing {
+            Standing::At(row) => return self.feed_in(row, answer),
+            Standing::Collects => {
                 if let Stage::Ended = self.collect.feed(answer) {
-                    self.place = Place::At(Row::E5);
+                    self.standing = Standing::At(Row::E5);
                     self.take_next();
                 }
             }
-            Place::Adds => {
+            Standing::Adds => {
                 let label = self.add.label();
                 note(self.last.as_mut_slice(), label, self.add.slot(), answer);
                 self.add.feed(answer);
                 if let Some(outcome) = self.add.outcome() {
                     self.outcome = outcome;
-                    self.place = Place::At(Row::T);
+                    self.standing = Standing::At(Row::T);
                 }
             }
-            Place::Ejects => {
+            Standing::Ejects => {
                 self.eject.feed(answer);
                 if let Some(outcome) = self.eject.outcome() {
                     self.outcome = outcome;
-                    self.place = Place::At(Row::T);
+                    self.standing = Standing::At(Row::T);
                 }
             }
         }

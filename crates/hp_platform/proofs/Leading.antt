@@ -21,7 +21,7 @@ use Rattle.hp_model.specs.Monarch.{Monarch}
 use Rattle.hp_model.specs.State.{State, at}
 use Rattle.hp_model.specs.Ports.{write_port, is_on_block, is_fw_cfg_data, is_fw_cfg_selector, is_dma_high, is_dma_low}
 use Rattle.hp_model.specs.Access.{same_access, access_effect}
-use Rattle.hp_model.specs.Firmware.{is_handlers, is_wanted, wanted_in, is_that_access, is_that_outcome, is_rsm, wanted, row_at, with_session, row_led, handlers_led}
+use Rattle.hp_model.specs.Firmware.{is_handlers, is_wanted, wanted_in, is_that_access, is_that_outcome, is_rsm, wanted, label_at, with_session, row_effect, handlers_effect}
 use Rattle.hp_model.specs.Step.{can_do, is_enabled, effect_of, answer_of}
 use Rattle.hp_model.proofs.Same.{same_access-equal}
 use Rattle.hp_machine.specs.Machine.{FitsEvent}
@@ -61,13 +61,13 @@ effect_keeps p s (event.Resume k) = refl
 effect_keeps p s (event.Tell o) = refl
 
 -- a row of a handler leads on
-pub handlers_led-row : (p : Platform) (s : State) (e : Event) (k : ℕ) (t : State) → IsRowEvent k e → is_in_smm (at s k).mode ≡ true →
-    handlers_led p s e t ≡ row_led p s k (answer_of s e) (row_at p s k) t
-handlers_led-row p s (event.Do j a) k t here in_smm =
-    subst (λ (i : ℕ). handlers_led p s (event.Do j a) t ≡ row_led p s i (answer_of s (event.Do j a)) (row_at p s i) t) here
-    (ap (λ (b : Bool). if b then row_led p s j (answer_of s (event.Do j a)) (row_at p s j) t else t) (subst (λ (i : ℕ). is_in_smm (at s i).mode ≡ true) (sym here) in_smm))
-handlers_led-row p s (event.Tell o) k t here in_smm = ap (λ (i : ℕ). row_led p s i Quiet (row_at p s i) t) (sym here)
-handlers_led-row p s _ k t here in_smm = absurd here
+pub handlers_effect-row : (p : Platform) (s : State) (e : Event) (k : ℕ) (t : State) → IsRowEvent k e → is_in_smm (at s k).mode ≡ true →
+    handlers_effect p s e t ≡ row_effect p s k (answer_of s e) (label_at p s k) t
+handlers_effect-row p s (event.Do j a) k t here in_smm =
+    subst (λ (i : ℕ). handlers_effect p s (event.Do j a) t ≡ row_effect p s i (answer_of s (event.Do j a)) (label_at p s i) t) here
+    (ap (λ (b : Bool). if b then row_effect p s j (answer_of s (event.Do j a)) (label_at p s j) t else t) (subst (λ (i : ℕ). is_in_smm (at s i).mode ≡ true) (sym here) in_smm))
+handlers_effect-row p s (event.Tell o) k t here in_smm = ap (λ (i : ℕ). row_effect p s i Quiet (label_at p s i) t) (sym here)
+handlers_effect-row p s _ k t here in_smm = absurd here
 
 -- of the other events SMI entry alone is told to the handlers
 abbrev pub plainly : Event → State → State
@@ -79,10 +79,10 @@ plainly (event.TakeInit k) t = t
 plainly (event.Resume k) t = t
 plainly (event.Tell o) t = t
 
-pub handlers_led-plain : (p : Platform) (s : State) (e : Event) (t : State) → IsPlain s e → handlers_led p s e t ≡ plainly e t
-handlers_led-plain p s (event.Do k a) t plain = ap (λ (b : Bool). if b then row_led p s k (answer_of s (event.Do k a)) (row_at p s k) t else t) plain
-handlers_led-plain p s (event.Tell o) t plain = absurd plain
-handlers_led-plain p s _ t plain = refl
+pub handlers_effect-plain : (p : Platform) (s : State) (e : Event) (t : State) → IsPlain s e → handlers_effect p s e t ≡ plainly e t
+handlers_effect-plain p s (event.Do k a) t plain = ap (λ (b : Bool). if b then row_effect p s k (answer_of s (event.Do k a)) (label_at p s k) t else t) plain
+handlers_effect-plain p s (event.Tell o) t plain = absurd plain
+handlers_effect-plain p s _ t plain = refl
 
 -- a wanted event says what is wanted
 abbrev IsThat : Option Want → Access → Type 0

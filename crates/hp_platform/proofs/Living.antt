@@ -15,7 +15,7 @@ use Rattle.hp_model.specs.Access.{normal}
 use Rattle.hp_model.specs.Block.{Block, ejected_by}
 use Rattle.hp_model.specs.Boot.{is_handed}
 use Rattle.hp_model.specs.Cpu.{page_of}
-use Rattle.hp_model.specs.Following.{told_at, without_agent}
+use Rattle.hp_model.specs.Following.{voice_told, without_agent}
 use Rattle.hp_model.specs.Platform.{IsFit, is_late}
 use Rattle.hp_model.specs.Runs.{actor_of, run, run_from}
 use Rattle.hp_model.specs.State.{State, at, start}
@@ -25,7 +25,7 @@ use Rattle.hp_model.specs.Voices.{Voice}
 use Rattle.hp_agent.specs.Kinds.{hears_at}
 use Rattle.hp_agent.specs.Speaking.{Heard, Speaks, asked}
 use Rattle.hp_platform.specs.Agents.{IsSaid, IsUnasked, Says, without_heard}
-use Rattle.hp_platform.specs.Board.{Board, IsOther, IsReady, Shows, is_step}
+use Rattle.hp_platform.specs.Board.{Board, IsOther, IsReady, StandsFor, is_step}
 use Rattle.hp_platform.specs.Live.{HasMade, IsApplied, IsIdle, IsKept, IsMade, IsReached, IsRefused, Live, agents_of, state_after}
 use Rattle.hp_platform.proofs.Stepping.{IsAsks, asks_is, idle_none, makes_is, unmade}
 use Rattle.hp_platform.proofs.Turning.{accepted, due_step, run_more}
@@ -40,11 +40,11 @@ state_after-more p s [] x = refl
 state_after-more p s (y ∷ xs) x = state_after-more p (after p s y.0).state xs x
 
 -- before the first step
-kept_first : (b : Board) → IsFit b.platform → Shows b (start b.platform) → IsKept b (state_in b [])
+kept_first : (b : Board) → IsFit b.platform → StandsFor b (start b.platform) → IsKept b (state_in b [])
 unfolding state_after run run_from
 kept_first b fit shows = record { fit = fit; reached = record { entries = []; run = refl }; shows = shows }
 
-pub kept_start : (b : Board) (xs : List (Event × Answer)) → xs ≡ [] → IsFit b.platform → Shows b (start b.platform) → IsKept b (state_in b xs)
+pub kept_start : (b : Board) (xs : List (Event × Answer)) → xs ≡ [] → IsFit b.platform → StandsFor b (start b.platform) → IsKept b (state_in b xs)
 kept_start b xs none fit shows = subst (λ (ys : List (Event × Answer)). IsKept b (state_in b ys)) (sym none) (kept_first b fit shows)
 
 pub state_start : (p : Platform) (xs : List (Event × Answer)) → xs ≡ [] → state_after p (start p) xs ≡ start p
@@ -52,11 +52,11 @@ unfolding state_after
 state_start p xs none = ap (state_after p (start p)) none
 
 -- room alone was taken
-pub kept_same : (b c : Board) (xs : List (Event × Answer)) → IsKept b (state_in b xs) → c.platform ≡ b.platform → ((s : State) → Shows b s → Shows c s) → IsKept c (state_in c xs)
+pub kept_same : (b c : Board) (xs : List (Event × Answer)) → IsKept b (state_in b xs) → c.platform ≡ b.platform → ((s : State) → StandsFor b s → StandsFor c s) → IsKept c (state_in c xs)
 kept_same b c xs kept platform same = record {
   fit = subst (λ (p : Platform). IsFit p) (sym platform) kept.fit;
   reached = subst (λ (p : Platform). IsReached p (state_after p (start p) xs)) (sym platform) kept.reached;
-  shows = subst (λ (p : Platform). Shows c (state_after p (start p) xs)) (sym platform) (same (state_in b xs) kept.shows);
+  shows = subst (λ (p : Platform). StandsFor c (state_after p (start p) xs)) (sym platform) (same (state_in b xs) kept.shows);
 }
 
 -- a step can be made
@@ -64,7 +64,7 @@ pub ready_of : (b : Board) (s : State) (x : Event) → IsKept b s → is_step b.
 ready_of b s x kept is = record { state = s; shows = kept.shows; is = is }
 
 -- what a voice says is made outside SMM, after the hand-over
-pub asks_found : (b : Board) (s : State) (a : Actor) (k : ℕ) (x : Access) → IsKept b s → ((t : State) → Shows b t → IsAsks b.platform t a k) → IsOther b (event.Do k x)
+pub asks_found : (b : Board) (s : State) (a : Actor) (k : ℕ) (x : Access) → IsKept b s → ((t : State) → StandsFor b t → IsAsks b.platform t a k) → IsOther b (event.Do k x)
 asks_found b s a k x kept its =
     record {
       handed = ap is_handed kept.shows.stage ∙ (its s kept.shows).handed;
@@ -115,7 +115,7 @@ module _ (b c : Board) (xs ys : List (Event × Answer)) (e : Entry) (kept : IsKe
       entries = kept.reached.entries ++ e ∷ [];
       run = run_more p kept.reached.entries e s t kept.reached.run (accepted p s e.event e is refl (made.answer s kept.shows) (made.address s kept.shows));
     }));
-    shows = subst (λ (u : State). Shows c u) (sym state-is) (made.state s kept.shows);
+    shows = subst (λ (u : State). StandsFor c u) (sym state-is) (made.state s kept.shows);
   }
 
   module _ (voices now : List (Option Voice)) (heard hears : List (Option Heard)) (last next : List Answer) where
@@ -149,7 +149,7 @@ module _ (b c : Board) (xs ys : List (Event × Answer)) (e : Entry) (kept : IsKe
 
     -- the agent of processor k was asked
     pub asks_turn : (a : Actor) (k page : ℕ) (access : Access) (left : Option Voice) → due_of p s a ≡ due.Asks k → page ≡ page_of (at s k).mode
-        → Speaks (told_at voices k) left (asked k page (slice_index_or last k Quiet)) access → e.event ≡ event.Do k (normal access)
+        → Speaks (voice_told voices k) left (asked k page (slice_index_or last k Quiet)) access → e.event ≡ event.Do k (normal access)
         → now ≡ without_agent c.machine.ejected (slice_set voices k left) → hears ≡ without_heard c.machine.ejected (hears_at heard k (asked k page (slice_index_or last k Quiet)) access)
         → next ≡ slice_set last k e.answer → IsMade old new a e
     asks_turn a k page access left asks on speaks event tells hear answers =
@@ -169,7 +169,7 @@ module _ (b c : Board) (xs ys : List (Event × Answer)) (e : Entry) (kept : IsKe
         said = record {
           access = access;
           left = left;
-          speaks = subst (λ (n : ℕ). Speaks (told_at voices k) left (asked k n (slice_index_or last k Quiet)) access) on speaks;
+          speaks = subst (λ (n : ℕ). Speaks (voice_told voices k) left (asked k n (slice_index_or last k Quiet)) access) on speaks;
           event = event;
           voices = tells ∙ ap (λ (o : Option ℕ). without_agent o (slice_set voices k left)) ejected-is;
           heard =

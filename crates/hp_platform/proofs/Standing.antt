@@ -11,28 +11,28 @@ use Rattle.hp_model.specs.declared.outcomes.Outcome.{Outcome}
 use Rattle.hp_model.specs.declared.labels.Label.{Label}
 use Rattle.hp_model.specs.Boot.{is_handed}
 use Rattle.hp_model.specs.Cpu.{address_in, is_in_smm}
-use Rattle.hp_model.specs.Handlers.{row_of, seat_of, want_at, wanted_at}
+use Rattle.hp_model.specs.Handlers.{label_of_mark, seat_of, want_at, wanted_at}
 use Rattle.hp_model.specs.Monarch.{Monarch}
 use Rattle.hp_model.specs.SharedBytes.{Layout, layout_of}
 use Rattle.hp_model.specs.Platform.{apic_of}
 use Rattle.hp_model.specs.State.{State, at}
-use Rattle.hp_model.specs.Firmware.{mark_at, row_at, seat, wanted}
+use Rattle.hp_model.specs.Firmware.{mark_at, label_at, seat, wanted}
 use Rattle.hp_smm.specs.Rows.{row_for, seat_for, want_for}
-use Rattle.hp_smm.specs.declared.handlers.Stand.{Stand}
-use Rattle.hp_platform.specs.Board.{Board, IsRow, IsStand, Shows}
+use Rattle.hp_smm.specs.declared.handlers.SmmCpu.{SmmCpu}
+use Rattle.hp_platform.specs.Board.{Board, IsRow, IsSmmCpu, StandsFor}
 
 abbrev wants : Layout → Monarch → ℕ → ℕ → ℕ → Option Label → Option Want
 wants y r apic smbase base row = wanted_at y r (seat_of y apic smbase base) row
 
-module _ (b : Board) (s : State) (k : ℕ) (x : Stand) (shows : Shows b s) (stands : IsStand b.platform s k x) where
-  pub row-is : row_for b.handlers x ≡ row_at b.platform s k
-  unfolding row_at
+module _ (b : Board) (s : State) (k : ℕ) (x : SmmCpu) (shows : StandsFor b s) (stands : IsSmmCpu b.platform s k x) where
+  pub row-is : row_for b.handlers x ≡ label_at b.platform s k
+  unfolding label_at
   row-is =
-      ap (λ (y : Layout). row_of y b.handlers.monarch x.cpu x.smbase x.mark) shows.layout
-      ∙ ap (λ (r : Monarch). row_of (layout_of b.platform) r x.cpu x.smbase x.mark) shows.monarch
-      ∙ ap (λ (j : ℕ). row_of (layout_of b.platform) s.monarch j x.smbase x.mark) stands.cpu
-      ∙ ap (λ (a : ℕ). row_of (layout_of b.platform) s.monarch k a x.mark) stands.smbase
-      ∙ ap (option_and_then (row_of (layout_of b.platform) s.monarch k (at s k).smbase)) (sym stands.mark)
+      ap (λ (y : Layout). label_of_mark y b.handlers.monarch x.cpu x.smbase x.mark) shows.layout
+      ∙ ap (λ (r : Monarch). label_of_mark (layout_of b.platform) r x.cpu x.smbase x.mark) shows.monarch
+      ∙ ap (λ (j : ℕ). label_of_mark (layout_of b.platform) s.monarch j x.smbase x.mark) stands.cpu
+      ∙ ap (λ (a : ℕ). label_of_mark (layout_of b.platform) s.monarch k a x.mark) stands.smbase
+      ∙ ap (option_and_then (label_of_mark (layout_of b.platform) s.monarch k (at s k).smbase)) (sym stands.mark)
 
   pub want-is : want_for b.handlers x ≡ wanted b.platform s k
   want-is =
@@ -63,21 +63,21 @@ unfolding mark_at
 marked_in_smm s k v e = in_smm_by _ (at s k).present (at s k).mode v e
 
 pub none_wanted : (p : Platform) (s : State) (k : ℕ) → mark_at s k ≡ None → wanted p s k ≡ None
-unfolding row_at
-none_wanted p s k e = ap (λ (o : Option ℕ). wanted_at (layout_of p) s.monarch (seat p s k) (option_and_then (row_of (layout_of p) s.monarch k (at s k).smbase) o)) e
+unfolding label_at
+none_wanted p s k e = ap (λ (o : Option ℕ). wanted_at (layout_of p) s.monarch (seat p s k) (option_and_then (label_of_mark (layout_of p) s.monarch k (at s k).smbase) o)) e
 
 pub ruleset standing = (row_none, row_some, none_wanted)
 
 -- what a row wants, found
-stood_at : (p : Platform) (s : State) (k : ℕ) (x : Stand) → x.cpu ≡ k → IsStand p s k x → IsStand p s x.cpu x
-stood_at p s k x is stands = subst (λ (j : ℕ). IsStand p s j x) (sym is) stands
+stood_at : (p : Platform) (s : State) (k : ℕ) (x : SmmCpu) → x.cpu ≡ k → IsSmmCpu p s k x → IsSmmCpu p s x.cpu x
+stood_at p s k x is stands = subst (λ (j : ℕ). IsSmmCpu p s j x) (sym is) stands
 
-pub access_found : (b : Board) (x : Stand) (l : Label) (k : ℕ) (a : Access) → is_handed b.boot.stage ≡ true → ((s : State) → Shows b s → IsStand b.platform s k x) → x.cpu ≡ k →
+pub access_found : (b : Board) (x : SmmCpu) (l : Label) (k : ℕ) (a : Access) → is_handed b.boot.stage ≡ true → ((s : State) → StandsFor b s → IsSmmCpu b.platform s k x) → x.cpu ≡ k →
     row_for b.handlers x ≡ Some l → x.smbase ≤ 0x90000000 → IsRow b x l (event.Do k a)
 access_found b x l k a handed stands cpu label smbase =
     record { handed = handed; stands = λ s shows. stood_at b.platform s k x cpu (stands s shows); label = label; smbase = smbase; event = sym cpu }
 
-pub outcome_found : (b : Board) (x : Stand) (l : Label) (o : Outcome) → is_handed b.boot.stage ≡ true → ((s : State) → Shows b s → IsStand b.platform s 0 x) → x.cpu ≡ 0 →
+pub outcome_found : (b : Board) (x : SmmCpu) (l : Label) (o : Outcome) → is_handed b.boot.stage ≡ true → ((s : State) → StandsFor b s → IsSmmCpu b.platform s 0 x) → x.cpu ≡ 0 →
     row_for b.handlers x ≡ Some l → x.smbase ≤ 0x90000000 → IsRow b x l (event.Tell o)
 outcome_found b x l o handed stands cpu label smbase =
     record { handed = handed; stands = λ s shows. stood_at b.platform s 0 x cpu (stands s shows); label = label; smbase = smbase; event = cpu }

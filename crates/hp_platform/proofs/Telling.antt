@@ -12,7 +12,7 @@ use Rattle.hp_model.specs.declared.entries.Entry.{Entry}
 use Rattle.hp_model.specs.declared.turns.Due.{Due}
 use Rattle.hp_model.specs.declared.turns.Due.TheVariants as due
 use Rattle.hp_model.specs.Block.{ejected_by}
-use Rattle.hp_model.specs.Following.{told_at, without_agent}
+use Rattle.hp_model.specs.Following.{voice_told, without_agent}
 use Rattle.hp_model.specs.Runs.{address_of, run}
 use Rattle.hp_model.specs.Schedule.{Scene, act, does, entry_of, made_by, makes_none, question, question_in, said_by, voice_at, without_voice}
 use Rattle.hp_model.specs.State.{State}
@@ -24,7 +24,7 @@ use Rattle.hp_agent.specs.Speaking.{Speaks}
 use Rattle.hp_platform.specs.declared.worlds.Turn.{Turn}
 use Rattle.hp_platform.specs.declared.worlds.Turn.TheVariants.{Made, Idle}
 use Rattle.hp_platform.specs.Board.{is_step}
-use Rattle.hp_platform.specs.World.{Acts, IsIdle, IsMade, IsSaid, IsStepOf, IsTurned, IsUnasked, Says, Tells, World}
+use Rattle.hp_platform.specs.World.{Acts, IsIdle, IsMade, IsSaid, IsStepOf, IsTurned, IsUnasked, Says, StandsFor, World}
 use Rattle.hp_platform.proofs.Stepping.{asks_is, makes_is}
 use Rattle.hp_platform.proofs.Turning.{accepted, run_more}
 
@@ -52,7 +52,7 @@ step_is p s x t e = by (is_step p s x) e
     by true e = refl
     by false e = cc
 
-module _ (old new : World) (w : Scene) (tells : Tells old w) (platform : new.platform ≡ old.platform) where
+module _ (old new : World) (w : Scene) (tells : StandsFor old w) (platform : new.platform ≡ old.platform) where
   abbrev p0 : Platform
   p0 = old.platform
 
@@ -104,13 +104,13 @@ module _ (old new : World) (w : Scene) (tells : Tells old w) (platform : new.pla
 
   -- the voice of processor k had
   module _ (a : Actor) (e : Entry) (k : ℕ) (made : IsMade old new a e) (said : IsSaid old new w.state k e (gone e.event)) where
-    told : told_at old.voices k ≡ Some (voice_at w k)
-    told = ap (λ (vs : List (Option Voice)). told_at vs k) tells.voices ∙ told-is w.voices k
+    told : voice_told old.voices k ≡ Some (voice_at w k)
+    told = ap (λ (vs : List (Option Voice)). voice_told vs k) tells.voices ∙ told-is w.voices k
 
     speaks : Speaks (Some (voice_at w k)) said.left (question w k) said.access
     speaks =
         subst (λ (o : Option Voice). Speaks o said.left (question w k) said.access) told
-        (subst (λ (vs : List Answer). Speaks (told_at old.voices k) said.left (question_in w.state k vs) said.access) tells.last said.speaks)
+        (subst (λ (vs : List Answer). Speaks (voice_told old.voices k) said.left (question_in w.state k vs) said.access) tells.last said.speaks)
 
     abbrev said_event : Event
     said_event = event.Do k (normal (said_by w k).access)
@@ -165,6 +165,6 @@ module _ (old new : World) (w : Scene) (tells : Tells old w) (platform : new.pla
           stays (event.Do k (normal (said_by w k).access)) (slice_set w.voices k (said_by w k).voice) (slice_set w.last k)
           ((idle.none w.state tells.is).none (event.Do k (normal (said_by w k).access)) (inl (sym a_is)))
 
-pub acts : (old new : World) (a : Actor) (turn : Turn) (w : Scene) → Tells old w → new.platform ≡ old.platform → IsTurned old new a turn → Acts new (act old.platform w a) turn
+pub acts : (old new : World) (a : Actor) (turn : Turn) (w : Scene) → StandsFor old w → new.platform ≡ old.platform → IsTurned old new a turn → Acts new (act old.platform w a) turn
 acts old new a (Made e) w tells platform made = entry_acts old new w tells platform a e made
 acts old new a Idle w tells platform idle = idle_acts old new w tells platform a idle

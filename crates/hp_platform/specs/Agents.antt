@@ -11,7 +11,7 @@ use Rattle.hp_model.specs.declared.turns.Due.{Due}
 use Rattle.hp_model.specs.declared.turns.Due.TheVariants as due
 use Rattle.hp_model.specs.Access.{normal}
 use Rattle.hp_model.specs.Block.{ejected_by}
-use Rattle.hp_model.specs.Following.{told_at, without_agent}
+use Rattle.hp_model.specs.Following.{voice_told, without_agent}
 use Rattle.hp_model.specs.Platform.{is_late}
 use Rattle.hp_model.specs.Runs.{IsStepBy, address_of}
 use Rattle.hp_model.specs.Schedule.{question_in}
@@ -36,7 +36,7 @@ without_heard (Some k) heard = slice_set heard k None
 pub record IsSaid (old new : Agents) (s : State) (k : ℕ) (e : Entry) (ejected : Option ℕ) : Type 0 where
   pub access : Access
   pub left : Option Voice
-  pub speaks : Speaks (told_at old.voices k) left (question_in s k old.last) access
+  pub speaks : Speaks (voice_told old.voices k) left (question_in s k old.last) access
   pub event : e.event ≡ event.Do k (normal access)
   pub voices : new.voices ≡ without_agent ejected (slice_set old.voices k left)
   pub heard : new.heard ≡ without_heard ejected (hears_at old.heard k (question_in s k old.last) access)

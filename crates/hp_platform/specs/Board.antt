@@ -17,10 +17,10 @@ use Rattle.hp_model.specs.Access.{stands_in_smm}
 use Rattle.hp_model.specs.Firmware.{mark_at, is_wanted}
 use Rattle.hp_model.specs.Step.{is_enabled}
 use Rattle.hp_boot.specs.Booting.{Booting}
-use Rattle.hp_machine.specs.Machine.{Machine, IsState}
+use Rattle.hp_machine.specs.Machine.{Machine, StandsFor as MachineStandsFor}
 use Rattle.hp_monarch.specs.Session.{Session}
 use Rattle.hp_smm.specs.Rows.{row_for}
-use Rattle.hp_smm.specs.declared.handlers.Stand.{Stand}
+use Rattle.hp_smm.specs.declared.handlers.SmmCpu.{SmmCpu}
 use Rattle.hp_platform.specs.declared.findings.Found.{Found}
 use Rattle.hp_platform.specs.declared.findings.Found.TheVariants.{Boot, Row, Plain}
 use Rattle.hp_platform.specs.declared.findings.Finding.{Finding}
@@ -39,15 +39,15 @@ pub record IsOf (p : Platform) (ids : List ℕ) (y : Layout) : Type 0 where
   pub layout : y ≡ layout_of p
 
 -- the machine stands for the state, the boot stands where it does, and the handlers keep its record of the monarch
-pub record Shows (b : Board) (s : State) : Type 0 where
-  pub state : IsState b.platform b.machine s
+pub record StandsFor (b : Board) (s : State) : Type 0 where
+  pub state : MachineStandsFor b.platform b.machine s
   pub mib : b.boot.mib ≡ b.platform.tseg_mib
   pub stage : b.boot.stage ≡ s.stage
   pub layout : b.handlers.layout ≡ layout_of b.platform
   pub monarch : b.handlers.monarch ≡ s.monarch
 
 -- what the handlers are told of a processor in SMM
-pub record IsStand (p : Platform) (s : State) (k : ℕ) (x : Stand) : Type 0 where
+pub record IsSmmCpu (p : Platform) (s : State) (k : ℕ) (x : SmmCpu) : Type 0 where
   pub cpu : x.cpu ≡ k
   pub apic : x.apic ≡ apic_of p k
   pub smbase : x.smbase ≡ (at s k).smbase
@@ -60,7 +60,7 @@ is_step p s e = is_enabled p s e && is_wanted p s e
 -- a state that the board shows has the event as a step
 pub record IsReady (b : Board) (e : Event) : Type 0 where
   pub state : State
-  pub shows : Shows b state
+  pub shows : StandsFor b state
   pub is : is_step b.platform state e ≡ true
 
 -- the event is what a row of this processor makes: an access, or of processor 0 an outcome that is told
@@ -84,16 +84,16 @@ IsPlain s (Resume k) = ⊤
 IsPlain s (Tell o) = ⊥
 
 -- what was found of a row: where its processor stands, and its label
-pub record IsRow (b : Board) (x : Stand) (l : Label) (e : Event) : Type 0 where
+pub record IsRow (b : Board) (x : SmmCpu) (l : Label) (e : Event) : Type 0 where
   pub handed : is_handed b.boot.stage ≡ true
-  pub stands : (s : State) → Shows b s → IsStand b.platform s x.cpu x
+  pub stands : (s : State) → StandsFor b s → IsSmmCpu b.platform s x.cpu x
   pub label : row_for b.handlers x ≡ Some l
   pub smbase : x.smbase ≤ 0x90000000
   pub event : IsRowEvent x.cpu e
 
 pub record IsOther (b : Board) (e : Event) : Type 0 where
   pub handed : is_handed b.boot.stage ≡ true
-  pub plain : (s : State) → Shows b s → IsPlain s e
+  pub plain : (s : State) → StandsFor b s → IsPlain s e
 
 abbrev pub IsFound : Board → Found → Type 0
 IsFound b (Boot e) = is_booting b.boot.stage ≡ true
@@ -117,15 +117,15 @@ IsFinding b (finding.Makes f) = IsFound b f
 IsFinding b (finding.Asks k) = ⊤
 
 -- a processor that is in SMM goes on at this instruction address, with this base
-abbrev pub goes_on : ℕ → ℕ → Cpu → Cpu
-goes_on address base c = if stands_in_smm c then moved address base c else c
+abbrev pub moved_to : ℕ → ℕ → Cpu → Cpu
+moved_to address base c = if stands_in_smm c then moved address base c else c
 
 -- SMI entry of processor 0 begins a session; no other event is told to the handlers but as an answer
-abbrev pub told : Event → Session → Session
-told (Insert k) h = h
-told (Remove k) h = h
-told (Do k a) h = h
-told (TakeSmi k) h = if k == 0 then record h { monarch = restarted h.monarch } else h
-told (TakeInit k) h = h
-told (Resume k) h = h
-told (Tell o) h = h
+abbrev pub session_after : Event → Session → Session
+session_after (Insert k) h = h
+session_after (Remove k) h = h
+session_after (Do k a) h = h
+session_after (TakeSmi k) h = if k == 0 then record h { monarch = restarted h.monarch } else h
+session_after (TakeInit k) h = h
+session_after (Resume k) h = h
+session_after (Tell o) h = h

@@ -15,7 +15,7 @@ use Rattle.hp_agent.specs.Speaking.{Heard}
 use Rattle.hp_platform.specs.declared.worlds.Turn.{Turn}
 use Rattle.hp_platform.specs.declared.worlds.Turn.TheVariants.{Made, Idle}
 use Rattle.hp_platform.specs.Agents.{Agents, HasNone, IsGiven, IsStepOf}
-use Rattle.hp_platform.specs.Board.{Board, Shows}
+use Rattle.hp_platform.specs.Board.{Board, StandsFor}
 
 pub record Live : Type 0 where
   pub platform : Platform
@@ -74,13 +74,13 @@ state_after p s (x ∷ xs) = state_after p (after p s x.0).state xs
 pub record IsKept (b : Board) (s : State) : Type 0 where
   pub fit : IsFit b.platform
   pub reached : IsReached b.platform s
-  pub shows : Shows b s
+  pub shows : StandsFor b s
 
 -- what making a step says of the board, of the steps that were made, and of the step's entry
 pub record HasMade (b c : Board) (xs ys : List (Event × Answer)) (e : Entry) : Type 0 where
   pub platform : c.platform ≡ b.platform
   pub steps : ys ≡ xs ++ (e.event, e.answer) ∷ []
-  pub address : (s : State) → Shows b s → e.at ≡ address_of s e.event
-  pub answer : (s : State) → Shows b s → e.answer ≡ answer_of s e.event
-  pub state : (s : State) → Shows b s → Shows c (after b.platform s e.event).state
+  pub address : (s : State) → StandsFor b s → e.at ≡ address_of s e.event
+  pub answer : (s : State) → StandsFor b s → e.answer ≡ answer_of s e.event
+  pub state : (s : State) → StandsFor b s → StandsFor c (after b.platform s e.event).state
   pub ejected : c.machine.ejected ≡ ejected_by b.machine.block c.machine.block

@@ -157,7 +157,7 @@ pub record IsSound (w : World) : Type 0 where
   pub noted : IsNoted w.platform w.entries w.asked w.idle
 
 -- all agents tell their voices: then the world stands for a scene of the schedule
-pub record Tells (w : World) (scene : Scene) : Type 0 where
+pub record StandsFor (w : World) (scene : Scene) : Type 0 where
   pub is : run w.platform w.entries ≡ Some scene.state
   pub voices : w.voices ≡ map (λ v. Some v) scene.voices
   pub last : w.last ≡ scene.last
@@ -169,4 +169,4 @@ entries_in Idle = []
 -- a turn made these entries, and then the world stands for this scene
 pub record Acts (w : World) (m : Scheduled) (turn : Turn) : Type 0 where
   pub entries : m.entries ≡ entries_in turn
-  pub scene : Tells w m.scene
+  pub scene : StandsFor w m.scene

@@ -8,16 +8,16 @@ ghost use Rattle.hp_model.specs.Firmware.{mark_at, wanted};
 ghost use Rattle.hp_model.specs.Platform.{IsFit, apic_of};
 ghost use Rattle.hp_model.specs.Runs.{address_of as address_in};
 ghost use Rattle.hp_model.specs.State.{State, at, start};
-ghost use Rattle.hp_machine.specs.Machine.{IsState};
+ghost use Rattle.hp_machine.specs.Machine.{StandsFor as MachineStandsFor};
 ghost use Rattle.hp_reloc.specs.Relocating.{greatest};
 ghost use Rattle.hp_smm.specs.Rows.{row_for};
-ghost use Rattle.hp_platform.specs.Board.{IsStand, Shows};
+ghost use Rattle.hp_platform.specs.Board.{IsSmmCpu, StandsFor};
 
 use hp_boot::{Boot, BootStage};
 use hp_image::image;
 use hp_machine::Machine;
 use hp_model::{BootFact, Cpu, Event, Label, Mode, NoMemory, Platform, Want};
-use hp_smm::{Handlers, Stand};
+use hp_smm::{Handlers, SmmCpu};
 use std::alloc::Global;
 use std::marker::Model;
 
@@ -50,34 +50,34 @@ pub(crate) fn is_in_smm(cpu: &Cpu) -> bool
 
 /// The APIC ID of a possible processor.
 #[tactic(auto, using(crate::proofs::Ids::low))]
-fn apic_at(p: &Platform, k: u32) -> u32
+fn apic_at(p: &Platform, cpu: u32) -> u32
     requires fit { IsFit p.now }
-    requires place { k < length p.now.apic }
-    ensures value { result ≡ apic_of p.now k }
+    requires place { cpu < length p.now.apic }
+    ensures value { result ≡ apic_of p.now cpu }
     ensures low { result ≤ greatest p.now.x2apic }
 {
-    p.apic.0[k as usize]
+    p.apic.0[cpu as usize]
 }
 
 /// What the handlers are told of a processor of this machine; None where it isn't in SMM.
-fn stand_of(machine: &Machine, p: &Platform, k: u32) -> Option<Stand>
+fn smm_cpu_of(machine: &Machine, p: &Platform, cpu: u32) -> Option<SmmCpu>
     requires fit { IsFit p.now }
     requires apic { machine.now.apic ≡ p.now.apic }
-    ensures some { (s : State) → IsState p.now machine.now s → IfSome result (IsStand p.now s k) }
-    ensures none { (s : State) → IsState p.now machine.now s → result ≡ None → mark_at s k ≡ None }
-    ensures cpu { IfSome result (λ x. x.cpu ≡ k) }
+    ensures some { (s : State) → MachineStandsFor p.now machine.now s → IfSome result (IsSmmCpu p.now s cpu) }
+    ensures none { (s : State) → MachineStandsFor p.now machine.now s → result ≡ None → mark_at s cpu ≡ None }
+    ensures cpu { IfSome result (λ x. x.cpu ≡ cpu) }
     ensures apic { IfSome result (λ x. x.apic ≤ greatest p.now.x2apic) }
 {
-    let Some(mark) = machine.mark_at(k) else {
+    let Some(mark) = machine.mark_at(cpu) else {
         return None;
     };
-    let cpu = machine.cpu(k);
-    let apic = apic_at(p, k);
-    Some(Stand {
-        cpu: k,
+    let processor = machine.cpu(cpu);
+    let apic = apic_at(p, cpu);
+    Some(SmmCpu {
+        cpu,
         apic,
-        smbase: cpu.smbase,
-        base: cpu.base,
+        smbase: processor.smbase,
+        base: processor.base,
         mark,
     })
 }
@@ -87,7 +87,7 @@ impl Board {
     pub(crate) fn new(alloc: Global, p: &Platform) -> Result<Board, NoMemory>
         requires { IsFit p.now }
         ensures platform { IfOk result (λ b. b.platform ≡ p.now) }
-        ensures start { IfOk result (λ b. Shows b (start p.now)) }
+        ensures start { IfOk result (λ b. StandsFor b (start p.now)) }
     {
         let platform = p.copy(alloc)?;
         let cells = image(alloc, p)?;
@@ -125,59 +125,59 @@ impl Board {
     }
 
     /// The page where a processor runs outside SMM, 0 elsewhere.
-    pub(crate) fn page(&self, k: u32) -> u32
-        ensures { (s : State) → Shows self.now s → result ≡ page_of (at s k).mode }
+    pub(crate) fn page(&self, cpu: u32) -> u32
+        ensures { (s : State) → StandsFor self.now s → result ≡ page_of (at s cpu).mode }
     {
-        match self.machine.cpu(k).mode {
+        match self.machine.cpu(cpu).mode {
             Mode::Running(page) | Mode::Halted(page) => page,
             Mode::Wait | Mode::Smm(_) => 0,
         }
     }
 
     /// What the handlers are told of a processor; None where it isn't in SMM.
-    fn stand(&self, k: u32) -> Option<Stand>
-        ensures some { (s : State) → Shows self.now s → IfSome result (IsStand self.now.platform s k) }
-        ensures none { (s : State) → Shows self.now s → result ≡ None → mark_at s k ≡ None }
-        ensures cpu { IfSome result (λ x. x.cpu ≡ k) }
+    fn smm_cpu(&self, cpu: u32) -> Option<SmmCpu>
+        ensures some { (s : State) → StandsFor self.now s → IfSome result (IsSmmCpu self.now.platform s cpu) }
+        ensures none { (s : State) → StandsFor self.now s → result ≡ None → mark_at s cpu ≡ None }
+        ensures cpu { IfSome result (λ x. x.cpu ≡ cpu) }
         ensures apic { IfSome result (λ x. x.apic ≤ greatest self.now.platform.x2apic) }
     {
-        stand_of(&self.machine, &self.platform, k)
+        smm_cpu_of(&self.machine, &self.platform, cpu)
     }
 
     /// The row of a processor in SMM: where it stands, its label, and what it wants. None where it isn't in SMM, or no handler's
     /// row is due.
     #[tactic(auto, using(crate::proofs::Standing::standing))]
-    pub(crate) fn row(&self, k: u32) -> Option<(Stand, Label, Want)>
-        ensures wanted { (s : State) → Shows self.now s → option_map (λ row. row.2) result ≡ wanted self.now.platform s k }
-        ensures stands { (s : State) → Shows self.now s → IfSome result (λ row. IsStand self.now.platform s k row.0) }
-        ensures cpu { IfSome result (λ row. row.0.cpu ≡ k) }
+    pub(crate) fn row(&self, cpu: u32) -> Option<(SmmCpu, Label, Want)>
+        ensures wanted { (s : State) → StandsFor self.now s → option_map (λ row. row.2) result ≡ wanted self.now.platform s cpu }
+        ensures stands { (s : State) → StandsFor self.now s → IfSome result (λ row. IsSmmCpu self.now.platform s cpu row.0) }
+        ensures cpu { IfSome result (λ row. row.0.cpu ≡ cpu) }
         ensures label { IfSome result (λ row. row_for self.now.handlers row.0 ≡ Some row.1) }
         ensures smbase { IfSome result (λ row. row.0.smbase ≤ 0x90000000) }
     {
-        let Some(stand) = self.stand(k) else {
+        let Some(smm_cpu) = self.smm_cpu(cpu) else {
             return None;
         };
-        match self.handlers.row(&stand) {
-            Some((label, want)) => Some((stand, label, want)),
+        match self.handlers.row(&smm_cpu) {
+            Some((label, want)) => Some((smm_cpu, label, want)),
             None => None,
         }
     }
 
     /// The instruction address of a processor, where it is in SMM.
-    pub(crate) fn address(&self, k: u32) -> Option<u32>
-        ensures { (s : State) → Shows self.now s → result ≡ smm_address (at s k) }
+    pub(crate) fn address(&self, cpu: u32) -> Option<u32>
+        ensures { (s : State) → StandsFor self.now s → result ≡ smm_address (at s cpu) }
     {
-        self.machine.address(k)
+        self.machine.address(cpu)
     }
 
     /// The instruction address of the event's actor, where it is in SMM.
     pub(crate) fn address_of(&self, e: &Event) -> Option<u32>
-        ensures { (s : State) → Shows self.now s → result ≡ address_in s e.now }
+        ensures { (s : State) → StandsFor self.now s → result ≡ address_in s e.now }
     {
         match *e {
             Event::Insert(_) | Event::Remove(_) => None,
-            Event::Do(k, _) | Event::TakeSmi(k) | Event::TakeInit(k) | Event::Resume(k) => {
-                self.machine.address(k)
+            Event::Do(cpu, _) | Event::TakeSmi(cpu) | Event::TakeInit(cpu) | Event::Resume(cpu) => {
+                self.machine.address(cpu)
             }
             Event::Tell(_) => self.machine.address(0),
         }
@@ -194,7 +194,7 @@ impl Board {
     pub(crate) fn reserve(&mut self) -> Result<(), NoMemory>
         ensures room { OnOk result (272 ≤ self.new.machine.memory.spare) }
         ensures platform { self.new.platform ≡ self.old.platform }
-        ensures unchanged { (s : State) → Shows self.old s → Shows self.new s }
+        ensures unchanged { (s : State) → StandsFor self.old s → StandsFor self.new s }
     {
         match self.machine.reserve() {
             Ok(()) => Ok(()),

@@ -7,13 +7,13 @@ ghost use Rattle.hp_model.specs.Firmware.{is_rsm, is_that_access, is_that_outcom
 ghost use Rattle.hp_model.specs.State.{State};
 ghost use Rattle.hp_model.specs.Step.{can_do};
 ghost use Rattle.hp_model.specs.Turn.{boot_due as due_in_boot, cpu_due as due_of_cpu, due_of, handed_due as due_after_boot, makes_if, smm_due};
-ghost use Rattle.hp_platform.specs.Board.{IsFinding, IsFound, Shows, due_by, event_of, is_step};
+ghost use Rattle.hp_platform.specs.Board.{IsFinding, IsFound, StandsFor, due_by, event_of, is_step};
 
 use crate::boards::{Board, is_in_smm};
 use crate::comparing::{same_access, same_outcome};
 use hp_boot::BootStage;
 use hp_model::{Access, Actor, Event, Label, Outcome, Want};
-use hp_smm::Stand;
+use hp_smm::SmmCpu;
 
 /// A step that is due, with what was found of it.
 #[derive(Clone, Copy)]
@@ -21,7 +21,7 @@ pub(crate) enum Found {
     /// The boot's next access.
     Boot(Event),
     /// A row of a handler: where its processor stands, its label, and the event that it wants.
-    Row(Stand, Label, Event),
+    Row(SmmCpu, Label, Event),
     /// A step whose answer no handler takes.
     Plain(Event),
 }
@@ -50,7 +50,7 @@ impl Found {
 
 impl Board {
     fn makes_if(&self, found: Found) -> Finding
-        ensures due { (s : State) → Shows self.now s → due_by result ≡ makes_if self.now.platform s (event_of found) }
+        ensures due { (s : State) → StandsFor self.now s → due_by result ≡ makes_if self.now.platform s (event_of found) }
         ensures found { IsFound self.now found → IsFinding self.now result }
     {
         if self.machine.enabled(&found.event()) {
@@ -62,7 +62,7 @@ impl Board {
 
     fn boot_due(&self, actor: Actor) -> Finding
         requires { is_booting self.now.boot.stage ≡ true }
-        ensures due { (s : State) → Shows self.now s → due_by result ≡ due_of self.now.platform s actor }
+        ensures due { (s : State) → StandsFor self.now s → due_by result ≡ due_of self.now.platform s actor }
         ensures found { IsFinding self.now result }
     {
         match actor {
@@ -72,59 +72,59 @@ impl Board {
     }
 
     #[tactic(auto, using(crate::proofs::Standing::rows_found))]
-    fn smm_due(&self, k: u32) -> Finding
+    fn smm_due(&self, cpu: u32) -> Finding
         requires { is_handed self.now.boot.stage ≡ true }
-        ensures due { (s : State) → Shows self.now s → due_by result ≡ smm_due self.now.platform s k (wanted self.now.platform s k) }
+        ensures due { (s : State) → StandsFor self.now s → due_by result ≡ smm_due self.now.platform s cpu (wanted self.now.platform s cpu) }
         ensures found { IsFinding self.now result }
     {
-        match self.row(k) {
-            Some((stand, label, Want::Do(access))) => {
-                self.makes_if(Found::Row(stand, label, Event::Do(k, access)))
+        match self.row(cpu) {
+            Some((smm_cpu, label, Want::Do(access))) => {
+                self.makes_if(Found::Row(smm_cpu, label, Event::Do(cpu, access)))
             }
-            Some((stand, label, Want::Tell(outcome))) if k == 0 => {
-                self.makes_if(Found::Row(stand, label, Event::Tell(outcome)))
+            Some((smm_cpu, label, Want::Tell(outcome))) if cpu == 0 => {
+                self.makes_if(Found::Row(smm_cpu, label, Event::Tell(outcome)))
             }
-            Some((_, _, Want::Resume)) => self.makes_if(Found::Plain(Event::Resume(k))),
+            Some((_, _, Want::Resume)) => self.makes_if(Found::Plain(Event::Resume(cpu))),
             Some((_, _, Want::Tell(_))) | None => Finding::Idle,
         }
     }
 
-    fn cpu_due(&self, k: u32) -> Finding
+    fn cpu_due(&self, cpu: u32) -> Finding
         requires { is_handed self.now.boot.stage ≡ true }
-        ensures due { (s : State) → Shows self.now s → due_by result ≡ due_of_cpu self.now.platform s k }
+        ensures due { (s : State) → StandsFor self.now s → due_by result ≡ due_of_cpu self.now.platform s cpu }
         ensures found { IsFinding self.now result }
     {
-        if !self.platform.delivery.is_late() && self.machine.enabled(&Event::TakeSmi(k)) {
-            return Finding::Makes(Found::Plain(Event::TakeSmi(k)));
+        if !self.platform.delivery.is_late() && self.machine.enabled(&Event::TakeSmi(cpu)) {
+            return Finding::Makes(Found::Plain(Event::TakeSmi(cpu)));
         }
-        if self.machine.enabled(&Event::TakeInit(k)) {
-            return Finding::Makes(Found::Plain(Event::TakeInit(k)));
+        if self.machine.enabled(&Event::TakeInit(cpu)) {
+            return Finding::Makes(Found::Plain(Event::TakeInit(cpu)));
         }
-        if is_in_smm(&self.machine.cpu(k)) {
-            return self.smm_due(k);
+        if is_in_smm(&self.machine.cpu(cpu)) {
+            return self.smm_due(cpu);
         }
-        if self.machine.enabled(&Event::Do(k, Access::Halt)) {
-            return Finding::Asks(k);
+        if self.machine.enabled(&Event::Do(cpu, Access::Halt)) {
+            return Finding::Asks(cpu);
         }
         Finding::Idle
     }
 
     fn handed_due(&self, actor: Actor) -> Finding
         requires { is_handed self.now.boot.stage ≡ true }
-        ensures due { (s : State) → Shows self.now s → due_by result ≡ due_after_boot self.now.platform s actor }
+        ensures due { (s : State) → StandsFor self.now s → due_by result ≡ due_after_boot self.now.platform s actor }
         ensures found { IsFinding self.now result }
     {
         match actor {
-            Actor::Insert(k) => self.makes_if(Found::Plain(Event::Insert(k))),
-            Actor::Remove(k) => self.makes_if(Found::Plain(Event::Remove(k))),
-            Actor::Cpu(k) => self.cpu_due(k),
-            Actor::Smi(k) => self.makes_if(Found::Plain(Event::TakeSmi(k))),
+            Actor::Insert(cpu) => self.makes_if(Found::Plain(Event::Insert(cpu))),
+            Actor::Remove(cpu) => self.makes_if(Found::Plain(Event::Remove(cpu))),
+            Actor::Cpu(cpu) => self.cpu_due(cpu),
+            Actor::Smi(cpu) => self.makes_if(Found::Plain(Event::TakeSmi(cpu))),
         }
     }
 
     /// What the actor's turn comes to.
     pub(crate) fn due(&self, actor: Actor) -> Finding
-        ensures due { (s : State) → Shows self.now s → due_by result ≡ due_of self.now.platform s actor }
+        ensures due { (s : State) → StandsFor self.now s → due_by result ≡ due_of self.now.platform s actor }
         ensures found { IsFinding self.now result }
     {
         match self.boot.stage() {
@@ -137,7 +137,7 @@ impl Board {
     /// How the boot makes this event, where that is its next access.
     fn boot_step(&self, e: &Event) -> Option<Found>
         requires { is_booting self.now.boot.stage ≡ true }
-        ensures wanted { (s : State) → Shows self.now s → is_some result ≡ is_wanted self.now.platform s e.now }
+        ensures wanted { (s : State) → StandsFor self.now s → is_some result ≡ is_wanted self.now.platform s e.now }
         ensures event { IfSome result (λ f. event_of f ≡ e.now) }
         ensures found { IfSome result (IsFound self.now) }
     {
@@ -149,15 +149,15 @@ impl Board {
 
     /// How the row of a processor in SMM makes this access, where the row wants it.
     #[tactic(auto, using(crate::proofs::Standing::rows_found))]
-    fn access_row(&self, k: u32, access: Access) -> Option<Found>
+    fn access_row(&self, cpu: u32, access: Access) -> Option<Found>
         requires { is_handed self.now.boot.stage ≡ true }
-        ensures wanted { (s : State) → Shows self.now s → is_some result ≡ is_that_access (wanted self.now.platform s k) access }
-        ensures event { IfSome result (λ f. event_of f ≡ Do k access) }
+        ensures wanted { (s : State) → StandsFor self.now s → is_some result ≡ is_that_access (wanted self.now.platform s cpu) access }
+        ensures event { IfSome result (λ f. event_of f ≡ Do cpu access) }
         ensures found { IfSome result (IsFound self.now) }
     {
-        match self.row(k) {
-            Some((stand, label, Want::Do(wanted))) if same_access(access, wanted) => {
-                Some(Found::Row(stand, label, Event::Do(k, access)))
+        match self.row(cpu) {
+            Some((smm_cpu, label, Want::Do(wanted))) if same_access(access, wanted) => {
+                Some(Found::Row(smm_cpu, label, Event::Do(cpu, access)))
             }
             Some(_) | None => None,
         }
@@ -167,27 +167,27 @@ impl Board {
     #[tactic(auto, using(crate::proofs::Standing::rows_found))]
     fn outcome_row(&self, outcome: Outcome) -> Option<Found>
         requires { is_handed self.now.boot.stage ≡ true }
-        ensures wanted { (s : State) → Shows self.now s → is_some result ≡ is_that_outcome (wanted self.now.platform s 0) outcome }
+        ensures wanted { (s : State) → StandsFor self.now s → is_some result ≡ is_that_outcome (wanted self.now.platform s 0) outcome }
         ensures event { IfSome result (λ f. event_of f ≡ Tell outcome) }
         ensures found { IfSome result (IsFound self.now) }
     {
         match self.row(0) {
-            Some((stand, label, Want::Tell(wanted))) if same_outcome(outcome, wanted) => {
-                Some(Found::Row(stand, label, Event::Tell(outcome)))
+            Some((smm_cpu, label, Want::Tell(wanted))) if same_outcome(outcome, wanted) => {
+                Some(Found::Row(smm_cpu, label, Event::Tell(outcome)))
             }
             Some(_) | None => None,
         }
     }
 
     /// How RSM is made, where the row of a processor in SMM wants it.
-    fn resume_row(&self, k: u32) -> Option<Found>
+    fn resume_row(&self, cpu: u32) -> Option<Found>
         requires { is_handed self.now.boot.stage ≡ true }
-        ensures wanted { (s : State) → Shows self.now s → is_some result ≡ is_rsm (wanted self.now.platform s k) }
-        ensures event { IfSome result (λ f. event_of f ≡ Resume k) }
+        ensures wanted { (s : State) → StandsFor self.now s → is_some result ≡ is_rsm (wanted self.now.platform s cpu) }
+        ensures event { IfSome result (λ f. event_of f ≡ Resume cpu) }
         ensures found { IfSome result (IsFound self.now) }
     {
-        match self.row(k) {
-            Some((_, _, Want::Resume)) => Some(Found::Plain(Event::Resume(k))),
+        match self.row(cpu) {
+            Some((_, _, Want::Resume)) => Some(Found::Plain(Event::Resume(cpu))),
             Some(_) | None => None,
         }
     }
@@ -197,25 +197,27 @@ impl Board {
     fn handed_step(&self, e: &Event) -> Option<Found>
         requires handed { is_handed self.now.boot.stage ≡ true }
         requires enabled { can_do self.now.machine.late (length self.now.machine.apic) self.now.machine.cpus e.now ≡ true }
-        ensures wanted { (s : State) → Shows self.now s → is_some result ≡ is_wanted self.now.platform s e.now }
+        ensures wanted { (s : State) → StandsFor self.now s → is_some result ≡ is_wanted self.now.platform s e.now }
         ensures event { IfSome result (λ f. event_of f ≡ e.now) }
         ensures found { IfSome result (IsFound self.now) }
     {
         match *e {
-            Event::Do(k, access) if is_in_smm(&self.machine.cpu(k)) => self.access_row(k, access),
+            Event::Do(cpu, access) if is_in_smm(&self.machine.cpu(cpu)) => self.access_row(
+                cpu, access,
+            ),
             Event::Insert(_)
             | Event::Remove(_)
             | Event::Do(_, _)
             | Event::TakeSmi(_)
             | Event::TakeInit(_) => Some(Found::Plain(*e)),
-            Event::Resume(k) => self.resume_row(k),
+            Event::Resume(cpu) => self.resume_row(cpu),
             Event::Tell(outcome) => self.outcome_row(outcome),
         }
     }
 
     /// How the step of this event is made; None where the event is no step now.
     pub(crate) fn step_of(&self, e: &Event) -> Option<Found>
-        ensures is { (s : State) → Shows self.now s → is_some result ≡ is_step self.now.platform s e.now }
+        ensures is { (s : State) → StandsFor self.now s → is_some result ≡ is_step self.now.platform s e.now }
         ensures event { IfSome result (λ f. event_of f ≡ e.now) }
         ensures found { IfSome result (IsFound self.now) }
     {

@@ -56,10 +56,10 @@ pub(crate) fn possible(p: &Platform) -> usize
 }
 
 /// The answer in the place of a processor; `Quiet` past the last place.
-fn answer_at(last: &[Answer], k: u32) -> Answer
-    ensures { result ≡ slice_index_or last.now k Quiet }
+fn answer_at(last: &[Answer], cpu: u32) -> Answer
+    ensures { result ≡ slice_index_or last.now cpu Quiet }
 {
-    let place = k as usize;
+    let place = cpu as usize;
     if place < last.len() {
         last[place]
     } else {
@@ -68,10 +68,10 @@ fn answer_at(last: &[Answer], k: u32) -> Answer
 }
 
 /// The answer to what an agent was asked for.
-fn note_answer(last: &mut Vec<Answer>, k: u32, answer: Answer)
-    ensures { last.new.items ≡ slice_set last.old.items k answer }
+fn note_answer(last: &mut Vec<Answer>, cpu: u32, answer: Answer)
+    ensures { last.new.items ≡ slice_set last.old.items cpu answer }
 {
-    let place = k as usize;
+    let place = cpu as usize;
     if place < last.len() {
         last[place] = answer;
     }
@@ -82,8 +82,8 @@ fn drop_ejected<A: Agent>(agents: &mut Agents<A>, ejected: Option<u32>)
     ensures voices { agents.new.voices ≡ without_agent ejected agents.old.voices }
     ensures heard { agents.new.heard ≡ without_heard ejected agents.old.heard }
 {
-    if let Some(k) = ejected {
-        agents.drop_of(k);
+    if let Some(cpu) = ejected {
+        agents.drop_of(cpu);
     }
 }
 
@@ -149,14 +149,14 @@ impl<A: Agent> Live<A> {
                 drop_ejected(&mut self.agents, self.board.ejected());
                 Ok(Turn::Made(entry))
             }
-            Finding::Asks(k) => {
-                let page = self.board.page(k);
+            Finding::Asks(cpu) => {
+                let page = self.board.page(cpu);
                 let access = self
                     .agents
-                    .next(k, page, answer_at(self.last.as_slice(), k));
-                let found = Found::Plain(Event::Do(k, normal(access)));
+                    .next(cpu, page, answer_at(self.last.as_slice(), cpu));
+                let found = Found::Plain(Event::Do(cpu, normal(access)));
                 let entry = make(&mut self.board, &mut self.steps, &found);
-                note_answer(&mut self.last, k, entry.answer);
+                note_answer(&mut self.last, cpu, entry.answer);
                 drop_ejected(&mut self.agents, self.board.ejected());
                 Ok(Turn::Made(entry))
             }
@@ -192,10 +192,10 @@ impl<A: Agent> Live<A> {
     }
 
     /// The instruction address of a processor, 32 bits, where it is in SMM; else None, and so past the last processor.
-    pub fn address(&self, k: u32) -> Option<u32>
-        ensures { result ≡ smm_address (at self.now.state k) }
+    pub fn address(&self, cpu: u32) -> Option<u32>
+        ensures { result ≡ smm_address (at self.now.state cpu) }
     {
-        self.board.address(k)
+        self.board.address(cpu)
     }
 
     /// The instruction address that an entry of this event would have now.

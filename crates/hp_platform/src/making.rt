@@ -7,20 +7,20 @@ ghost use Rattle.hp_model.specs.declared.platforms.Platform.{Platform as APlatfo
 ghost use Rattle.hp_model.specs.Cpu.{cpu_at};
 ghost use Rattle.hp_model.specs.State.{State};
 ghost use Rattle.hp_model.specs.Step.{after as step_after, answer_of, can_do};
-ghost use Rattle.hp_machine.specs.Machine.{FitsEvent, IsState, IsStep};
-ghost use Rattle.hp_platform.specs.Board.{IsFound, IsOther, IsReady, IsRow, Shows, event_of, goes_on, told};
+ghost use Rattle.hp_machine.specs.Machine.{FitsEvent, StandsFor as MachineStandsFor, IsStep};
+ghost use Rattle.hp_platform.specs.Board.{IsFound, IsOther, IsReady, IsRow, StandsFor, event_of, moved_to, session_after};
 
 use crate::boards::{Board, is_in_smm};
 use crate::findings::Found;
 use hp_machine::Machine;
 use hp_model::{Answer, Event, Label, NoMemory};
-use hp_smm::{Handlers, Stand};
+use hp_smm::{Handlers, SmmCpu};
 
 /// The machine's part of a step. Room for it was taken.
 fn step(machine: &mut Machine, event: &Event) -> Answer
     requires room { 272 ≤ machine.old.memory.spare }
     requires enabled { can_do machine.old.late (length machine.old.apic) machine.old.cpus event.now ≡ true }
-    ensures step { (p : APlatform) (s : State) → IsState p machine.old s → IsStep p machine.new s event.now result }
+    ensures step { (p : APlatform) (s : State) → MachineStandsFor p machine.old s → IsStep p machine.new s event.now result }
     ensures fits { FitsEvent event.now result }
     ensures ejected { machine.new.ejected ≡ ejected_by machine.old.block machine.new.block }
 {
@@ -32,20 +32,20 @@ fn step(machine: &mut Machine, event: &Event) -> Answer
 
 /// A processor goes on at this instruction address, with this base, if it is in SMM.
 #[tactic(auto, using(crate::proofs::Setting::setting))]
-fn go_on(machine: &mut Machine, k: u32, address: u32, base: u32)
-    ensures { machine.new ≡ record machine.old { cpus = slice_set machine.old.cpus k (goes_on address base (cpu_at machine.old.cpus k)) } }
+fn move_to(machine: &mut Machine, cpu: u32, address: u32, base: u32)
+    ensures { machine.new ≡ record machine.old { cpus = slice_set machine.old.cpus cpu (moved_to address base (cpu_at machine.old.cpus cpu)) } }
 {
-    if is_in_smm(&machine.cpu(k)) {
-        machine.go(k, address, base);
+    if is_in_smm(&machine.cpu(cpu)) {
+        machine.go(cpu, address, base);
     }
 }
 
 /// SMI entry is told to the handlers.
 fn tell(handlers: &mut Handlers, event: &Event)
-    ensures { handlers.new ≡ told event.now handlers.old }
+    ensures { handlers.new ≡ session_after event.now handlers.old }
 {
-    if let Event::TakeSmi(k) = *event {
-        handlers.entered(k);
+    if let Event::TakeSmi(cpu) = *event {
+        handlers.entered(cpu);
     }
 }
 
@@ -56,8 +56,8 @@ impl Board {
         requires ready { IsReady self.old event.now }
         requires booting { is_booting self.old.boot.stage ≡ true }
         ensures platform { self.new.platform ≡ self.old.platform }
-        ensures state { (s : State) → Shows self.old s → Shows self.new (step_after self.old.platform s event.now).state }
-        ensures answer { (s : State) → Shows self.old s → result ≡ answer_of s event.now }
+        ensures state { (s : State) → StandsFor self.old s → StandsFor self.new (step_after self.old.platform s event.now).state }
+        ensures answer { (s : State) → StandsFor self.old s → result ≡ answer_of s event.now }
         ensures ejected { self.new.machine.ejected ≡ ejected_by self.old.machine.block self.new.machine.block }
     {
         let answer = step(&mut self.machine, event);
@@ -68,18 +68,18 @@ impl Board {
     }
 
     /// A row of a handler: its answer leads the processor on.
-    fn make_row(&mut self, stand: &Stand, label: Label, event: &Event) -> Answer
+    fn make_row(&mut self, smm_cpu: &SmmCpu, label: Label, event: &Event) -> Answer
         requires room { 272 ≤ self.old.machine.memory.spare }
         requires ready { IsReady self.old event.now }
-        requires row { IsRow self.old stand.now label event.now }
+        requires row { IsRow self.old smm_cpu.now label event.now }
         ensures platform { self.new.platform ≡ self.old.platform }
-        ensures state { (s : State) → Shows self.old s → Shows self.new (step_after self.old.platform s event.now).state }
-        ensures answer { (s : State) → Shows self.old s → result ≡ answer_of s event.now }
+        ensures state { (s : State) → StandsFor self.old s → StandsFor self.new (step_after self.old.platform s event.now).state }
+        ensures answer { (s : State) → StandsFor self.old s → result ≡ answer_of s event.now }
         ensures ejected { self.new.machine.ejected ≡ ejected_by self.old.machine.block self.new.machine.block }
     {
         let answer = step(&mut self.machine, event);
-        let (address, base) = self.handlers.feed(stand, label, answer);
-        go_on(&mut self.machine, stand.cpu, address, base);
+        let (address, base) = self.handlers.feed(smm_cpu, label, answer);
+        move_to(&mut self.machine, smm_cpu.cpu, address, base);
         answer
     }
 
@@ -89,8 +89,8 @@ impl Board {
         requires ready { IsReady self.old event.now }
         requires other { IsOther self.old event.now }
         ensures platform { self.new.platform ≡ self.old.platform }
-        ensures state { (s : State) → Shows self.old s → Shows self.new (step_after self.old.platform s event.now).state }
-        ensures answer { (s : State) → Shows self.old s → result ≡ answer_of s event.now }
+        ensures state { (s : State) → StandsFor self.old s → StandsFor self.new (step_after self.old.platform s event.now).state }
+        ensures answer { (s : State) → StandsFor self.old s → result ≡ answer_of s event.now }
         ensures ejected { self.new.machine.ejected ≡ ejected_by self.old.machine.block self.new.machine.block }
     {
         let answer = step(&mut self.machine, event);
@@ -104,13 +104,13 @@ impl Board {
         requires ready { IsReady self.old (event_of found.now) }
         requires found { IsFound self.old found.now }
         ensures platform { self.new.platform ≡ self.old.platform }
-        ensures state { (s : State) → Shows self.old s → Shows self.new (step_after self.old.platform s (event_of found.now)).state }
-        ensures answer { (s : State) → Shows self.old s → result ≡ answer_of s (event_of found.now) }
+        ensures state { (s : State) → StandsFor self.old s → StandsFor self.new (step_after self.old.platform s (event_of found.now)).state }
+        ensures answer { (s : State) → StandsFor self.old s → result ≡ answer_of s (event_of found.now) }
         ensures ejected { self.new.machine.ejected ≡ ejected_by self.old.machine.block self.new.machine.block }
     {
         match *found {
             Found::Boot(event) => self.make_boot(&event),
-            Found::Row(stand, label, event) => self.make_row(&stand, label, &event),
+            Found::Row(smm_cpu, label, event) => self.make_row(&smm_cpu, label, &event),
             Found::Plain(event) => self.make_plain(&event),
         }
     }

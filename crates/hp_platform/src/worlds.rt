@@ -70,8 +70,8 @@ fn place_of(count: usize, a: Actor) -> Option<usize>
     ensures { result ≡ asked_place count a }
 {
     match a {
-        Actor::Cpu(k) | Actor::Smi(k) if k as usize >= count => None,
-        Actor::Cpu(k) | Actor::Smi(k) => Some(k as usize),
+        Actor::Cpu(cpu) | Actor::Smi(cpu) if cpu as usize >= count => None,
+        Actor::Cpu(cpu) | Actor::Smi(cpu) => Some(cpu as usize),
         Actor::Insert(_) | Actor::Remove(_) => Some(count),
     }
 }
@@ -119,8 +119,10 @@ fn place_in(p: &Platform, a: Actor) -> Option<usize>
 {
     let count = possible(p);
     match a {
-        Actor::Cpu(k) if (k as usize) < count => Some(k as usize),
-        Actor::Smi(k) if p.delivery.is_late() && (k as usize) < count => Some(count + k as usize),
+        Actor::Cpu(cpu) if (cpu as usize) < count => Some(cpu as usize),
+        Actor::Smi(cpu) if p.delivery.is_late() && (cpu as usize) < count => Some(
+            count + cpu as usize,
+        ),
         _ => None,
     }
 }

@@ -8,7 +8,7 @@ use Rattle.hp_model.specs.State.{State, start}
 use Rattle.hp_model.specs.Runs.{run, run_on, run_from}
 use Rattle.hp_reading.specs.Lines.{entry_of, end_of}
 use Rattle.hp_reading.specs.Header.{head_of}
-use Rattle.hp_reading.specs.Trace.{cut, ended, by_entry, entries_of, Told, told_by, trace_of}
+use Rattle.hp_reading.specs.Trace.{cut, ended, by_entry, entries_of, TraceContent, content_by, trace_of}
 use Rattle.hp_reading.specs.Fault.{Fault, Step, End, at_line, end_fault, step_fault, line_fault, fault_from, behind_header, fault_in, fault_of, IsRunsTrace}
 use Rattle.hp_reading.proofs.Front.{mapped}
 
@@ -94,9 +94,9 @@ passes_no_fault (l ∷ ls) line n p s es e runs = by (entry_of l) (λ t fs read 
 
 -- a header before them
 record PassesAll (ls : List (List ℕ)) (rest : List ℕ) : Type 0 where
-  told : Told
-  read : told_by ls rest ≡ Some told
-  runs : IsSome (run told.platform told.entries)
+  content : TraceContent
+  read : content_by ls rest ≡ Some content
+  runs : IsSome (run content.platform content.entries)
 
 all_pass : (ls : List (List ℕ)) (rest : List ℕ) → fault_in ls rest ≡ None → PassesAll ls rest
 unfolding run
@@ -106,7 +106,7 @@ all_pass (l ∷ ls) rest e = by (head_of l) refl e
   where
     header : (p : Platform) (rest : List ℕ) → head_of l ≡ Some p → rest ≡ [] → Passes 0 p (start p) ls rest → PassesAll (l ∷ ls) rest
     header p [] is whole more = record {
-      told = record { platform = p; entries = more.entries };
+      content = record { platform = p; entries = more.entries };
       read = rw is (ap (option_map (λ es. record { platform = p; entries = es })) more.read);
       runs = more.runs;
     }
@@ -116,7 +116,7 @@ all_pass (l ∷ ls) rest e = by (head_of l) refl e
     by None is e = some-none _ e
     by (Some p) is e = let more = no_fault_passes ls 2 0 p (start p) rest e in header p rest is more.whole more
 
-all_passed : (ls : List (List ℕ)) (rest : List ℕ) (t : Told) → told_by ls rest ≡ Some t → IsSome (run t.platform t.entries) → fault_in ls rest ≡ None
+all_passed : (ls : List (List ℕ)) (rest : List ℕ) (t : TraceContent) → content_by ls rest ≡ Some t → IsSome (run t.platform t.entries) → fault_in ls rest ≡ None
 unfolding run
 all_passed [] rest t e runs = absurd (none-some t e)
 all_passed (l ∷ ls) (c ∷ rest) t e runs = absurd (none-some t e)
@@ -132,10 +132,10 @@ unfolding fault_of trace_of
 faults_are_none text = (there, back)
   where
     there : fault_of text ≡ None → IsRunsTrace text
-    there e = let all = all_pass (cut text).lines (cut text).rest e in record { told = all.told; read = all.read; runs = all.runs }
+    there e = let all = all_pass (cut text).lines (cut text).rest e in record { content = all.content; read = all.read; runs = all.runs }
 
     back : IsRunsTrace text → fault_of text ≡ None
-    back is = all_passed (cut text).lines (cut text).rest is.told is.read is.runs
+    back is = all_passed (cut text).lines (cut text).rest is.content is.read is.runs
 
 -- what a line makes of the faults behind it, as a loop over the lines meets it
 pub fault_goes_on : (line n : ℕ) (p : Platform) (s t : State) (l : List ℕ) (ls : List (List ℕ)) (rest : List ℕ) (e : Entry) → entry_of l ≡ Some e → run_on p s e ≡ Some t

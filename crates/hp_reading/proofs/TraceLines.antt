@@ -14,7 +14,7 @@ use Rattle.hp_reading.specs.Lines.{most64, one_decimal, entry_of, end_of}
 use Rattle.hp_reading.specs.Lines as lines
 use Rattle.hp_reading.specs.Written.{is_well_formed, IsEnd}
 use Rattle.hp_reading.specs.Header.{head_of}
-use Rattle.hp_reading.specs.Trace.{onto, with_byte, cut, ended, by_entry, entries_of, Told, told_by, trace_of, IsTrace}
+use Rattle.hp_reading.specs.Trace.{onto, with_byte, cut, ended, by_entry, entries_of, TraceContent, content_by, trace_of, IsTrace}
 use Rattle.hp_reading.proofs.Front.{mapped}
 use Rattle.hp_reading.proofs.Rows.{row_is, one-filled, one_is}
 use Rattle.hp_reading.proofs.OutcomeLines.{to_64, from_64}
@@ -199,11 +199,11 @@ reads_trace p es fit h few =
     let gives : Gives 0 es body = rw count at (gives_all es 0 h (omega (arith, few))) in
     let is : cut (trace_text p es) ≡ record { lines = spell (head_pieces p) ∷ (cut body).lines; rest = (cut body).rest } =
     ap cut (header_text p body) ∙ cut-line (spell (head_pieces p)) body (none-header p) in
-    ap (λ c. told_by c.lines c.rest) is
-    ∙ (ap (told_by (spell (head_pieces p) ∷ (cut body).lines)) gives.rest
+    ap (λ c. content_by c.lines c.rest) is
+    ∙ (ap (content_by (spell (head_pieces p) ∷ (cut body).lines)) gives.rest
     ∙ rw (reads_header p fit) (ap (option_map (λ es. record { platform = p; entries = es })) gives.lines))
 
-trace_is : (text : List ℕ) (t : Told) (ls : List (List ℕ)) (rest : List ℕ) → joined ls rest ≡ text → told_by ls rest ≡ Some t → IsTrace text t
+trace_is : (text : List ℕ) (t : TraceContent) (ls : List (List ℕ)) (rest : List ℕ) → joined ls rest ≡ text → content_by ls rest ≡ Some t → IsTrace text t
 trace_is text t [] rest is e = absurd (none-some t e)
 trace_is text t (l ∷ ls) (c ∷ rest) is e = absurd (none-some t e)
 trace_is text t (l ∷ ls) [] is e =
@@ -225,7 +225,7 @@ trace_is text t (l ∷ ls) [] is e =
     })))
 
 -- the texts that are read as a trace are the traces of platforms that fit
-pub traces_are_read : (text : List ℕ) (t : Told) → (trace_of text ≡ Some t) ↔ IsTrace text t
+pub traces_are_read : (text : List ℕ) (t : TraceContent) → (trace_of text ≡ Some t) ↔ IsTrace text t
 unfolding trace_of
 traces_are_read text t = (there, back)
   where

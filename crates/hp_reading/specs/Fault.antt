@@ -6,7 +6,7 @@ use Rattle.hp_model.specs.State.{State, start}
 use Rattle.hp_model.specs.Runs.{run, run_on}
 use Rattle.hp_reading.specs.Lines.{entry_of, end_of}
 use Rattle.hp_reading.specs.Header.{head_of}
-use Rattle.hp_reading.specs.Trace.{cut, Told, trace_of}
+use Rattle.hp_reading.specs.Trace.{cut, TraceContent, trace_of}
 
 -- a line isn't in the grammar where it stands; its entry is no step; the end line is missing there, has another number or has text after it
 pub data Cause : Type 0 where
@@ -60,6 +60,6 @@ fault_of text = fault_in (cut text).lines (cut text).rest
 
 -- the text is a trace, and its entries are a run
 pub record IsRunsTrace (text : List ℕ) : Type 0 where
-  pub told : Told
-  pub read : trace_of text ≡ Some told
-  pub runs : IsSome (run told.platform told.entries)
+  pub content : TraceContent
+  pub read : trace_of text ≡ Some content
+  pub runs : IsSome (run content.platform content.entries)

@@ -42,21 +42,21 @@ entries_of n [] = None
 entries_of n (l ∷ ls) = by_entry (entry_of l) (λ e. option_map (λ es. e ∷ es) (entries_of (n + 1) ls)) (ended n ls (end_of l))
 
 -- a platform and a list of entries
-pub record Told : Type 0 where
+pub record TraceContent : Type 0 where
   pub platform : Platform
   pub entries : List Entry
 
-abbrev pub told_by : List (List ℕ) → List ℕ → Option Told
-told_by [] rest = None
-told_by (head ∷ ls) [] = option_and_then (λ p. option_map (λ es. record { platform = p; entries = es }) (entries_of 0 ls)) (head_of head)
-told_by (head ∷ ls) (c ∷ rest) = None
+abbrev pub content_by : List (List ℕ) → List ℕ → Option TraceContent
+content_by [] rest = None
+content_by (head ∷ ls) [] = option_and_then (λ p. option_map (λ es. record { platform = p; entries = es }) (entries_of 0 ls)) (head_of head)
+content_by (head ∷ ls) (c ∷ rest) = None
 
 -- what a whole text tells, None where it isn't in the grammar
-unfoldable pub trace_of : List ℕ → Option Told
-trace_of text = told_by (cut text).lines (cut text).rest
+unfoldable pub trace_of : List ℕ → Option TraceContent
+trace_of text = content_by (cut text).lines (cut text).rest
 
 -- the text is the trace of a platform that fits and of entries that lines can say
-pub record IsTrace (text : List ℕ) (t : Told) : Type 0 where
+pub record IsTrace (text : List ℕ) (t : TraceContent) : Type 0 where
   pub fit : IsFit t.platform
   pub well_formed : list_all is_well_formed t.entries ≡ true
   pub few : length t.entries < 2 ^ 64

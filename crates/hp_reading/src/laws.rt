@@ -6,7 +6,7 @@ ghost use Rattle.hp_model.specs.declared.platforms.Platform.{Platform};
 ghost use Rattle.hp_reading.specs.Fault.{fault_of, IsRunsTrace};
 ghost use Rattle.hp_reading.specs.Header.{head_of, IsHeader};
 ghost use Rattle.hp_reading.specs.Lines.{entry_of, end_of};
-ghost use Rattle.hp_reading.specs.Trace.{trace_of, Told, IsTrace};
+ghost use Rattle.hp_reading.specs.Trace.{trace_of, TraceContent, IsTrace};
 ghost use Rattle.hp_reading.specs.Written.{IsLine, IsEnd};
 
 /// The texts that are read as an entry are exactly those that, with a line feed, are its line; and these are of entries that a line can say. So each
@@ -28,7 +28,7 @@ pub fn headers_are_read_as_spelled()
 /// The whole texts that are read, cut at their line feeds, are exactly the traces of platforms that fit and of entries that lines can say. So a text of
 /// the grammar spells one platform and one list of entries.
 pub fn traces_are_read_as_spelled()
-    ensures { (text : List ℕ) (told : Told) → (trace_of text ≡ Some told) ↔ IsTrace text told }
+    ensures { (text : List ℕ) (told : TraceContent) → (trace_of text ≡ Some told) ↔ IsTrace text told }
 {}
 
 /// The first fault of a text is none exactly where the text is the trace of a platform that fits and its entries are a run.

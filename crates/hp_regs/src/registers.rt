@@ -117,21 +117,21 @@ impl Block {
         None
     }
 
-    /// The host inserted processor `s`: it is enabled and has an insert event. `s` is a possible processor.
-    pub fn insert_event(&mut self, s: u32)
-        requires { s < length self.old.slots }
-        ensures { self.new ≡ with_insert self.old s }
+    /// The host inserted processor `cpu`: it is enabled and has an insert event. `cpu` is a possible processor.
+    pub fn insert_event(&mut self, cpu: u32)
+        requires { cpu < length self.old.slots }
+        ensures { self.new ≡ with_insert self.old cpu }
     {
-        insert_at(self.slots.as_mut_slice(), s as usize);
+        insert_at(self.slots.as_mut_slice(), cpu as usize);
     }
 
-    /// The host requests the removal of processor `s`: it has a remove event, and stays enabled until it is ejected.
-    /// `s` is a possible processor.
-    pub fn remove_event(&mut self, s: u32)
-        requires { s < length self.old.slots }
-        ensures { self.new ≡ with_removal self.old s }
+    /// The host requests the removal of processor `cpu`: it has a remove event, and stays enabled until it is ejected.
+    /// `cpu` is a possible processor.
+    pub fn remove_event(&mut self, cpu: u32)
+        requires { cpu < length self.old.slots }
+        ensures { self.new ≡ with_removal self.old cpu }
     {
-        request_removal_at(self.slots.as_mut_slice(), s as usize);
+        request_removal_at(self.slots.as_mut_slice(), cpu as usize);
     }
 
     /// Whether the two blocks are the same, register for register.

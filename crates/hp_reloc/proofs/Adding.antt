@@ -8,7 +8,7 @@ use Rattle.std.proofs.lemmas.List.{length-append}
 use Rattle.std.proofs.lemmas.List.Folds.{list_all-append, list_any-append}
 use Rattle.hp_model.specs.Block.{is_in}
 use Rattle.hp_model.specs.Platform.{all_distinct}
-use Rattle.hp_model.specs.Slots.{place_of}
+use Rattle.hp_model.specs.Slots.{slot_among}
 use Rattle.hp_reloc.specs.Roster.{IsSound}
 use Rattle.hp_model.proofs.Counts.{pigeons}
 
@@ -21,7 +21,7 @@ pub in_added : (xs : List ℕ) (apic : ℕ) → is_in apic (xs ++ apic ∷ []) �
 in_added [] apic = grind (arith, nat_tests)
 in_added (x ∷ xs) apic = grind (arith, nat_tests, in_added xs apic)
 
-pub place_added : (xs : List ℕ) (apic : ℕ) → is_in apic xs ≡ false → place_of (xs ++ apic ∷ []) apic ≡ length xs
+pub place_added : (xs : List ℕ) (apic : ℕ) → is_in apic xs ≡ false → slot_among (xs ++ apic ∷ []) apic ≡ length xs
 place_added [] apic h = grind (arith, nat_tests)
 place_added (x ∷ xs) apic h = grind (arith, nat_tests, place_added xs apic)
 
@@ -61,9 +61,9 @@ sound_more bound known possible room room_known more more_known apic s out is r 
 pub ruleset adding_facts = (in_added, place_added)
 
 -- no slot was found, so it isn't bound
-pub not_bound : (apic : ℕ) (seen bound : List ℕ) → None ≡ (if is_in apic seen then Some (place_of seen apic) else None) → seen ≡ bound → is_in apic bound ≡ false
+pub not_bound : (apic : ℕ) (seen bound : List ℕ) → None ≡ (if is_in apic seen then Some (slot_among seen apic) else None) → seen ≡ bound → is_in apic bound ≡ false
 not_bound apic seen bound h e = rw (← e) (by_test (is_in apic seen) h)
   where
-    by_test : (b : Bool) → None ≡ cond b (Some (place_of seen apic)) None → b ≡ false
+    by_test : (b : Bool) → None ≡ cond b (Some (slot_among seen apic)) None → b ≡ false
     by_test true g = absurd cc
     by_test false g = refl

@@ -7,7 +7,7 @@ use Rattle.hp_model.specs.declared.outcomes.Outcome.{Outcome}
 use Rattle.hp_model.specs.declared.outcomes.Outcome.TheVariants as outcome
 use Rattle.hp_model.specs.declared.outcomes.Step.{Step}
 use Rattle.hp_model.specs.declared.outcomes.Step.TheVariants as step
-use Rattle.hp_model.specs.Add.{Add, Led, AddsAt, Ends}
+use Rattle.hp_model.specs.Add.{Add, AddNext, AddsAt, Ends}
 use Rattle.hp_model.specs.Fitting.{FitsWant}
 use Rattle.hp_model.specs.Handlers.{Seat, want_at}
 use Rattle.hp_model.specs.Monarch.{Monarch}
@@ -22,38 +22,38 @@ pub record Relocating : Type 0 where
   pub polls : ℕ  -- how often a byte is looked at, at most
   pub x2apic : Bool  -- whether APIC IDs have 32 bits
   pub add : Add
-  pub led : Led
+  pub next : AddNext
 
 -- the add's record after it was led
-abbrev pub add_in : Led → Add → Add
+abbrev pub add_in : AddNext → Add → Add
 add_in (AddsAt l b) a = b
 add_in (Ends o) a = a
 
 -- what is answered of it
-abbrev pub step_of : Led → Step
+abbrev pub step_of : AddNext → Step
 step_of (AddsAt l a) = step.Go
 step_of (Ends (outcome.Added cpu apic slot)) = step.Added
 step_of (Ends (outcome.Ejected cpu apic slot)) = step.Ejected
 step_of (Ends (outcome.Refused why)) = step.Refused why
 
 -- it stands at a label
-abbrev pub IsGoing : Led → Type 0
+abbrev pub IsGoing : AddNext → Type 0
 IsGoing (AddsAt l a) = Unit {0}
 IsGoing (Ends o) = ⊥
 
 -- the answer fits what it wants: of the layout only TSEG and x2APIC, and of the monarch's record only the add matters
-abbrev pub Fits : ℕ → Bool → Led → Answer → Type 0
+abbrev pub Fits : ℕ → Bool → AddNext → Answer → Type 0
 Fits tseg x2apic (AddsAt l a) answer = (y : Layout) (x : Seat) (r : Monarch) → y.tseg ≡ tseg → y.x2apic ≡ x2apic → r.add ≡ a → FitsWant (want_at y x r l) answer
 Fits tseg x2apic (Ends o) answer = ⊥
 
 -- its outcome, once there is one
-abbrev pub outcome_of : Led → Option Outcome
+abbrev pub outcome_of : AddNext → Option Outcome
 outcome_of (AddsAt l a) = None
 outcome_of (Ends o) = Some o
 
 -- it is led on
-abbrev pub goes_on : Led → Relocating → Relocating
-goes_on d r = record r { add = add_in d r.add; led = d }
+abbrev pub at_next : AddNext → Relocating → Relocating
+at_next d r = record r { add = add_in d r.add; next = d }
 
 abbrev pub label_of : Row → Label
 label_of row.NB = label.NB
@@ -77,9 +77,9 @@ pub record IsOfAdd (l : Label) : Type 0 where
   pub is : l ≡ label_of row
 
 -- where it is, with this record
-abbrev pub led_at : Standing → Add → Led
-led_at (At row) a = AddsAt (label_of row) a
-led_at (Ended o) a = Ends o
+abbrev pub next_of : Standing → Add → AddNext
+next_of (At row) a = AddsAt (label_of row) a
+next_of (Ended o) a = Ends o
 
 -- no add ends by an eject
 abbrev pub is_of_add : Standing → Bool

@@ -11,10 +11,10 @@ ghost use Rattle.hp_model.specs.Add.{AddsAt, add_of, begun, failed, looks, saw_a
 ghost use Rattle.hp_model.specs.Bare.{layout_at};
 ghost use Rattle.hp_model.specs.Boot.{value_in};
 ghost use Rattle.hp_model.specs.Handlers.{Seat, next_at, want_at};
-ghost use Rattle.hp_model.specs.Monarch.{Monarch, led};
+ghost use Rattle.hp_model.specs.Monarch.{Monarch, after_add};
 ghost use Rattle.hp_model.specs.Platform.{IsFit, high_half, tseg as first_of_tseg};
 ghost use Rattle.hp_model.specs.SharedBytes.{Layout, arrived_byte as arrived_byte_of, gate, release_byte as release_byte_of, tile_in};
-ghost use Rattle.hp_reloc.specs.Relocating.{Fits, IsGoing, IsOfAdd, add_in, goes_on, greatest, label_of, outcome_of, step_of};
+ghost use Rattle.hp_reloc.specs.Relocating.{Fits, IsGoing, IsOfAdd, add_in, at_next, greatest, label_of, outcome_of, step_of};
 
 use crate::first::{SMI, destination};
 use crate::rows::Row;
@@ -62,11 +62,11 @@ impl Model for Reloc {
 
     ghost Value = { Relocating };
 
-    ghost use Rattle.hp_reloc.specs.Relocating.{IsSmall, led_at};
+    ghost use Rattle.hp_reloc.specs.Relocating.{IsSmall, next_of};
 
     ghost view = { λ r.
         let a : Add = record { cpu = r.cpu; apic = r.apic; slot = r.slot; attempt = r.attempt; polls = r.left; seen = r.seen } in
-        record { tseg = r.tseg; polls = r.polls; x2apic = r.x2apic; add = a; led = led_at r.standing a } };
+        record { tseg = r.tseg; polls = r.polls; x2apic = r.x2apic; add = a; next = next_of r.standing a } };
 
     ghost invariant = { λ r. IsSmall r.tseg r.x2apic r.apic r.slot r.attempt r.standing };
 }
@@ -93,7 +93,7 @@ impl Reloc {
         ensures polls { result.polls ≡ p.now.polls }
         ensures x2apic { result.x2apic ≡ p.now.x2apic }
         ensures add { result.add ≡ add_of cpu apic slot }
-        ensures led { result.led ≡ AddsAt NB (add_of cpu apic slot) }
+        ensures next { result.next ≡ AddsAt NB (add_of cpu apic slot) }
     {
         Reloc {
             tseg: tseg(p),
@@ -113,7 +113,7 @@ impl Reloc {
     pub fn restart(&mut self, cpu: u32, apic: u32, slot: u32)
         requires apic { apic ≤ greatest self.old.x2apic }
         requires slot { slot < 512 }
-        ensures { self.new ≡ record self.old { add = add_of cpu apic slot; led = AddsAt NB (add_of cpu apic slot) } }
+        ensures { self.new ≡ record self.old { add = add_of cpu apic slot; next = AddsAt NB (add_of cpu apic slot) } }
     {
         self.cpu = cpu;
         self.apic = apic;
@@ -126,8 +126,8 @@ impl Reloc {
 
     /// Its outcome: none while it goes on.
     pub fn outcome(&self) -> Option<Outcome>
-        ensures value { result ≡ outcome_of self.now.led }
-        ensures going { (result ≡ None) ↔ IsGoing self.now.led }
+        ensures value { result ≡ outcome_of self.now.next }
+        ensures going { (result ≡ None) ↔ IsGoing self.now.next }
     {
         match self.standing {
             Standing::At(_) => None,
@@ -137,8 +137,8 @@ impl Reloc {
 
     /// Where it stands, while it goes on.
     fn row(&self) -> Row
-        requires { IsGoing self.now.led }
-        ensures { self.now.led ≡ AddsAt (label_of result) self.now.add }
+        requires { IsGoing self.now.next }
+        ensures { self.now.next ≡ AddsAt (label_of result) self.now.add }
     {
         match self.standing {
             Standing::At(row) => row,
@@ -148,8 +148,8 @@ impl Reloc {
 
     /// The label where it stands, while it goes on.
     pub fn label(&self) -> Label
-        requires { IsGoing self.now.led }
-        ensures value { self.now.led ≡ AddsAt result self.now.add }
+        requires { IsGoing self.now.next }
+        ensures value { self.now.next ≡ AddsAt result self.now.add }
         ensures adds { IsOfAdd result }
     {
         self.row().label()
@@ -196,9 +196,9 @@ impl Reloc {
 
     /// What it wants where it stands, while it goes on.
     pub fn want(&self) -> Access
-        requires { IsGoing self.now.led }
+        requires { IsGoing self.now.next }
         ensures { (y : Layout) (x : Seat) (r : Monarch) (l : Label) → y.tseg ≡ self.now.tseg → y.x2apic ≡ self.now.x2apic →
-            self.now.led ≡ AddsAt l r.add → want_at y x r l ≡ Some (wants.Do result) }
+            self.now.next ≡ AddsAt l r.add → want_at y x r l ≡ Some (wants.Do result) }
     {
         match self.row() {
             Row::NB => Access::store_byte(self.release(), 0),
@@ -221,14 +221,14 @@ impl Reloc {
 
     /// On at this row.
     fn go_to(&mut self, row: Row)
-        ensures { self.new ≡ goes_on (AddsAt (label_of row) self.old.add) self.old }
+        ensures { self.new ≡ at_next (AddsAt (label_of row) self.old.add) self.old }
     {
         self.standing = Standing::At(row);
     }
 
     /// The first attempt begins.
     fn begin(&mut self)
-        ensures { self.new ≡ goes_on (begun self.old.add) self.old }
+        ensures { self.new ≡ at_next (begun self.old.add) self.old }
     {
         self.attempt = 1;
         self.go_to(Row::N0);
@@ -236,7 +236,7 @@ impl Reloc {
 
     /// From this row on bytes are looked at.
     fn look_from(&mut self, row: Row)
-        ensures { self.new ≡ goes_on (looks (label_of row) self.old.polls self.old.add) self.old }
+        ensures { self.new ≡ at_next (looks (label_of row) self.old.polls self.old.add) self.old }
     {
         self.left = self.polls;
         self.go_to(row);
@@ -244,7 +244,7 @@ impl Reloc {
 
     /// An attempt has failed: the next one begins, and the third ends the add.
     fn fail(&mut self, why: Refusal)
-        ensures { self.new ≡ goes_on (failed (outcomes.Refused why) self.old.add) self.old }
+        ensures { self.new ≡ at_next (failed (outcomes.Refused why) self.old.add) self.old }
     {
         if self.attempt < ATTEMPTS {
             self.attempt += 1;
@@ -256,7 +256,7 @@ impl Reloc {
 
     /// The flag was read, first of a pair.
     fn see_flag(&mut self, flag: u64)
-        ensures { self.new ≡ goes_on (saw_flag flag self.old.add) self.old }
+        ensures { self.new ≡ at_next (saw_flag flag self.old.add) self.old }
     {
         if flag == 1 {
             self.seen = true;
@@ -268,7 +268,7 @@ impl Reloc {
 
     /// The arrived byte was read, second of a pair.
     fn see_pair(&mut self, arrived: u64)
-        ensures { self.new ≡ goes_on (saw_pair arrived self.old.add) self.old }
+        ensures { self.new ≡ at_next (saw_pair arrived self.old.add) self.old }
     {
         if arrived == 1 || self.left <= 1 {
             self.seen = arrived == 1;
@@ -281,7 +281,7 @@ impl Reloc {
 
     /// The gate is closed again.
     fn shut(&mut self)
-        ensures { self.new ≡ goes_on (shut self.old.add) self.old }
+        ensures { self.new ≡ at_next (shut self.old.add) self.old }
     {
         if self.seen {
             self.go_to(Row::N10);
@@ -295,7 +295,7 @@ impl Reloc {
 
     /// The arrived byte was read after it was cleared.
     fn see_arrival(&mut self, arrived: u64)
-        ensures { self.new ≡ goes_on (saw_arrival arrived self.old.add) self.old }
+        ensures { self.new ≡ at_next (saw_arrival arrived self.old.add) self.old }
     {
         if arrived == 1 {
             self.standing = Standing::Ended(Outcome::Added {
@@ -316,7 +316,7 @@ impl Reloc {
 
     /// What its last answer led to.
     fn step(&self) -> Step
-        ensures step { result ≡ step_of self.now.led }
+        ensures step { result ≡ step_of self.now.next }
         ensures of_add { result ≢ steps.Ejected }
     {
         match self.standing {
@@ -330,13 +330,13 @@ impl Reloc {
     /// The answer to what it wants, while it goes on, and where it leads: `Added` or `Refused` ends the add, and `Ejected` never
     /// comes. A byte that is neither 0 nor 1 counts as 0.
     pub fn feed(&mut self, answer: Answer) -> Step
-        requires { Fits self.old.tseg self.old.x2apic self.old.led answer }
-        ensures led { (y : Layout) (x : Seat) (r : Monarch) (l : Label) → y.polls ≡ self.old.polls →
-            self.old.led ≡ AddsAt l r.add → (next_at y x r l (value_in answer)).monarch
-            ≡ record (led self.new.led r) { last = (next_at y x r l (value_in answer)).monarch.last } }
-        ensures add { self.new.add ≡ add_in self.new.led self.old.add }
+        requires { Fits self.old.tseg self.old.x2apic self.old.next answer }
+        ensures next { (y : Layout) (x : Seat) (r : Monarch) (l : Label) → y.polls ≡ self.old.polls →
+            self.old.next ≡ AddsAt l r.add → (next_at y x r l (value_in answer)).monarch
+            ≡ record (after_add self.new.next r) { last = (next_at y x r l (value_in answer)).monarch.last } }
+        ensures add { self.new.add ≡ add_in self.new.next self.old.add }
         ensures slot { self.new.add.slot ≡ self.old.add.slot }
-        ensures step { result ≡ step_of self.new.led }
+        ensures step { result ≡ step_of self.new.next }
         ensures of_add { result ≢ steps.Ejected }
         ensures stays { (self.new.tseg ≡ self.old.tseg) × ((self.new.polls ≡ self.old.polls) × (self.new.x2apic ≡ self.old.x2apic)) }
     {

@@ -4,7 +4,7 @@ ghost use Rattle.std.specs.Prelude.{◌≡◌, ◌<◌, ◌≤◌, ◌+◌, ◌�
 ghost use Rattle.std.specs.List.{list_all};
 ghost use Rattle.hp_model.specs.Block.{is_in};
 ghost use Rattle.hp_model.specs.Platform.{IsFit, no_id};
-ghost use Rattle.hp_model.specs.Slots.{bind as bind_slot, boot_ids, completed, first_true, forgotten, is_known, known_from as known_slot_from, place_of, slot_in, slots_start, with_slot};
+ghost use Rattle.hp_model.specs.Slots.{bind as bind_slot, boot_ids, completed, first_true, forgotten, is_known, known_from as known_slot_from, slot_among, slot_in, slots_start, with_slot};
 ghost use Rattle.hp_reloc.specs.Roster.{IsFree};
 
 use hp_model::{NoMemory, Platform};
@@ -41,7 +41,7 @@ impl Model for Slots {
 #[tactic(auto, using(crate::proofs::Places::place_facts))]
 fn place_among(ids: &[u32], apic: u32) -> Option<u32>
     requires { length ids.now ≤ 512 }
-    ensures { result ≡ (if is_in apic ids.now then Some (place_of ids.now apic) else None) }
+    ensures { result ≡ (if is_in apic ids.now then Some (slot_among ids.now apic) else None) }
 {
     for (place, id) in ids.iter().enumerate() {
         if *id == apic {

@@ -22,12 +22,12 @@ use Rattle.hp_model.specs.Cpu.{moved, is_in_smm, address_in, smm_address}
 use Rattle.hp_model.specs.Boot.{is_handed, value_in}
 use Rattle.hp_model.specs.Labels.{Part, First, Relocated, Monarch as Monarchs, part_of, mark_of}
 use Rattle.hp_model.specs.SharedBytes.{Layout, layout_of, tile_in, arrived_byte}
-use Rattle.hp_model.specs.Slots.{place_of}
+use Rattle.hp_model.specs.Slots.{slot_among}
 use Rattle.hp_model.specs.Monarch.{Monarch, is_that}
-use Rattle.hp_model.specs.Handlers.{Next, want_at, next_at, wanted_at, slot_at, is_tile, runs_at, is_due, address_of_label}
+use Rattle.hp_model.specs.Handlers.{Next, want_at, next_at, wanted_at, slot_at, is_tile, runs_at, is_current, address_of_label}
 use Rattle.hp_model.specs.State.{State, at}
 use Rattle.hp_model.specs.Access.{access_effect, answer_to, stands_in_smm}
-use Rattle.hp_model.specs.Firmware.{row_at, seat, is_that_access, is_that_outcome, go_on, with_next, row_led}
+use Rattle.hp_model.specs.Firmware.{label_at, seat, is_that_access, is_that_outcome, moved_in_smm, with_next, row_effect}
 use Rattle.hp_sealed.specs.Left.{Sound, Locked, is_guarded}
 use Rattle.hp_sealed.specs.Sealed.{is_other_tile, Recorded}
 use Rattle.hp_sealed.proofs.Left.{left_then}
@@ -38,13 +38,13 @@ use Rattle.hp_model.proofs.Same.{same_access-equal}
 use Rattle.hp_sealed.proofs.Starts.{set_all, first_set}
 use Rattle.hp_sealed.proofs.Places.{default_locked, guarded_locked, tseg_locked, kept_guarded, slot_of}
 use Rattle.hp_safety.proofs.Needs.{Need, Ejecting, Nothing, Passing, Loaded, Saved, Adding, Opening, Open, Looking, Telling, need_of, is_aloft, is_open, IsSlot, Facts, FirstNeeds, MonarchNeeds, Needs}
-use Rattle.hp_safety.proofs.Invariant.{is_adding, facts_of, AtCell, Stands, Saves, IsGated, Holding, is_added, is_settled, is_past, Invariant, SeatedBy, Seated}
+use Rattle.hp_safety.proofs.Invariant.{is_adding, facts_of, AtCell, IsAtCell, Saves, IsGated, Holding, is_added, is_settled, is_past, Invariant, CpuPartsBy, CpuParts}
 use Rattle.hp_safety.proofs.Aloft.{aloft_past, aloft_first}
 use Rattle.hp_safety.proofs.Writes.{Writes, Leaves, writes_first, writes_same, leaves_left, gated_first, first_by, is_watched}
 use Rattle.hp_safety.proofs.Rows.{WritesOf, Spares, row_writes, row_spares}
 use Rattle.hp_safety.proofs.Placing.{place_same}
 use Rattle.hp_safety.proofs.RowLeads.{Arriving, Leads, LeadsOn, settled_still, settled_shut, row_leads}
-use Rattle.hp_safety.proofs.Keeps.{gathered, smm_present, seated, seated_left, seated_absent, seated_calm, at_slot_grows, that_is, seated_other, AtRow, row_stands, row_first, due_label_is}
+use Rattle.hp_safety.proofs.Keeps.{gathered, smm_present, cpu_parts, cpu_parts_left, cpu_parts_absent, cpu_parts_calm, at_slot_grows, that_is, cpu_parts_other, AtRow, row_stands, row_first, current_label_is}
 
 -- watched bytes are locked
 watched_locked : (p : Platform) (l : Locks) (x : ℕ) → Sound p → Locked p l → is_watched p x ≡ true → is_locked l x ≡ true
@@ -66,14 +66,14 @@ watched_locked p l x sound locks g = elim (or_cases (first_by (tseg p) p.low_mem
 pub monarch_met : (p : Platform) (m : List Write) (s : State) → Invariant p m s → (need_of s.monarch.label ≡ Nothing → ⊥) → MonarchNeeds (facts_of p s.monarch s.writes (apic_of p 0) (at s 0).base) (need_of s.monarch.label)
 monarch_met p m s h busy = by_address (smm_address (at s 0)) refl (h.stand.each 0)
   where
-    by_part : (l : Label) (q : Part) → part_of l ≡ q → runs_at (layout_of p) q 0 (at s 0).smbase ≡ true → is_due s.monarch (part_of l) l ≡ true → Needs (facts_of p s.monarch s.writes (apic_of p 0) (at s 0).base) q (need_of l) → MonarchNeeds (facts_of p s.monarch s.writes (apic_of p 0) (at s 0).base) (need_of s.monarch.label)
+    by_part : (l : Label) (q : Part) → part_of l ≡ q → runs_at (layout_of p) q 0 (at s 0).smbase ≡ true → is_current s.monarch (part_of l) l ≡ true → Needs (facts_of p s.monarch s.writes (apic_of p 0) (at s 0).base) q (need_of l) → MonarchNeeds (facts_of p s.monarch s.writes (apic_of p 0) (at s 0).base) (need_of s.monarch.label)
     by_part l First side runs due met = absurd cc
     by_part l Relocated side runs due met = absurd cc
-    by_part l Monarchs side runs due met = subst (λ x. MonarchNeeds (facts_of p s.monarch s.writes (apic_of p 0) (at s 0).base) (need_of x)) (sym (due_label_is s.monarch l due side)) met
+    by_part l Monarchs side runs due met = subst (λ x. MonarchNeeds (facts_of p s.monarch s.writes (apic_of p 0) (at s 0).base) (need_of x)) (sym (current_label_is s.monarch l due side)) met
 
-    by_address : (o : Option ℕ) → smm_address (at s 0) ≡ o → Stands p s.monarch s.writes 0 (at s 0).smbase (at s 0).base o → MonarchNeeds (facts_of p s.monarch s.writes (apic_of p 0) (at s 0).base) (need_of s.monarch.label)
+    by_address : (o : Option ℕ) → smm_address (at s 0) ≡ o → IsAtCell p s.monarch s.writes 0 (at s 0).smbase (at s 0).base o → MonarchNeeds (facts_of p s.monarch s.writes (apic_of p 0) (at s 0).base) (need_of s.monarch.label)
     by_address None e stands = absurd (busy (h.rests e))
-    by_address (Some a) e stands = by_part stands.0 (part_of stands.0) refl stands.1.runs stands.1.due stands.1.met
+    by_address (Some a) e stands = by_part stands.0 (part_of stands.0) refl stands.1.runs stands.1.current stands.1.met
 
 -- where it looks for an arrived byte
 pub looks_at : (p : Platform) (m : List Write) (s : State) → Invariant p m s → need_of s.monarch.label ≡ Looking → IsSlot (count_of p) s.monarch.add.slot × (is_adding s.monarch ≡ true)
@@ -95,8 +95,8 @@ keeps_outside p m s k a sound h =
     let writes : Writes p s.monarch.slots s.writes t.writes = writes_first p s.monarch.slots s.writes t.writes left.first in
     gathered p m t (ap is_handed does.stage ∙ h.handed)
     (record { marks = h.locked.marks; registers = does.locks h.locked.registers; kept = λ x g. left_then x m s.writes t.writes (h.locked.kept x g) (writes.cells x (kept_guarded p x g)) })
-    (λ j. subst (λ r. Seated p r t.writes j (at t j)) (sym does.monarch)
-    (seated_left p s.monarch s.writes t.writes j (at t j) sound writes (seated_calm p s.monarch s.writes j (at s j) (at t j) (does.cpus j) (seated p m s j h))))
+    (λ j. subst (λ r. CpuParts p r t.writes j (at t j)) (sym does.monarch)
+    (cpu_parts_left p s.monarch s.writes t.writes j (at t j) sound writes (cpu_parts_calm p s.monarch s.writes j (at s j) (at t j) (does.cpus j) (cpu_parts p m s j h))))
     (does.first.present ∙ h.slots.first)
     (subst (λ r. IsGated p r t.writes) (sym does.monarch) (gated_first p s.monarch s.writes t.writes left.first h.gated))
     (λ e. ap (λ (r : Monarch). need_of r.label) does.monarch ∙ h.rests (sym does.first.address ∙ e))
@@ -106,10 +106,10 @@ keeps_outside p m s k a sound h =
     (h.settled (settled_still p s.monarch s.writes t.writes (λ n. left.arrivals s.monarch.add.slot (looked_small p m s sound h n)) (subst (λ r. is_settled p r t.writes ≡ true) does.monarch e)) j))
 
 -- the access of a row, and then where it leads
-due_next : (r : Monarch) (l : Label) (q : Part) → (q ≡ Monarchs → r.label ≡ l) → is_due r q l ≡ true
-due_next r l First e = refl
-due_next r l Relocated e = refl
-due_next r l Monarchs e = rw (e refl) (same_mark (mark_of l))
+current_next : (r : Monarch) (l : Label) (q : Part) → (q ≡ Monarchs → r.label ≡ l) → is_current r q l ≡ true
+current_next r l First e = refl
+current_next r l Relocated e = refl
+current_next r l Monarchs e = rw (e refl) (same_mark (mark_of l))
   where
     same_mark : (n : ℕ) → (n == n) ≡ true
     same_mark n = grind (arith, nat_tests)
@@ -160,7 +160,7 @@ pub record IsAloft (p : Platform) (s : State) (j : ℕ) : Type 0 where
 pub past_aloft : (p : Platform) (m : List Write) (s : State) (j : ℕ) → Sound p → Invariant p m s → is_past (smm_address (at s j)) ≡ true → IsAloft p s j
 past_aloft p m s j sound h e = by_address (smm_address (at s j)) refl (h.stand.each j) e
   where
-    by_address : (o : Option ℕ) → smm_address (at s j) ≡ o → Stands p s.monarch s.writes j (at s j).smbase (at s j).base o → is_past o ≡ true → IsAloft p s j
+    by_address : (o : Option ℕ) → smm_address (at s j) ≡ o → IsAtCell p s.monarch s.writes j (at s j).smbase (at s j).base o → is_past o ≡ true → IsAloft p s j
     by_address None is stands f = absurd cc
     by_address (Some a) is stands f =
         let l = stands.0 in
@@ -194,17 +194,17 @@ alone p m s k l sound h here arriving j = by_past (is_past (smm_address (at s j)
         let r = s.monarch in
         let b = (at s k).smbase in
         let looks = looks_at p m s h arriving.looks in
-        let adds = and_parts (is_that r.slots.held r.add.apic) (r.add.slot == place_of r.slots.bound r.add.apic) looks.1 in
+        let adds = and_parts (is_that r.slots.held r.add.apic) (r.add.slot == slot_among r.slots.bound r.add.apic) looks.1 in
         let held : r.slots.held ≡ Some r.add.apic = that_is r.slots.held r.add.apic adds.0 in
         let same_id : r.add.apic ≡ apic_of p j = same_Some r.add.apic (apic_of p j) (sym held ∙ up.held) in
-        let slot : r.add.slot ≡ place_of r.slots.bound (apic_of p j) = eqb-true r.add.slot (place_of r.slots.bound r.add.apic) adds.1 ∙ ap (place_of r.slots.bound) same_id in
+        let slot : r.add.slot ≡ slot_among r.slots.bound (apic_of p j) = eqb-true r.add.slot (slot_among r.slots.bound r.add.apic) adds.1 ∙ ap (slot_among r.slots.bound) same_id in
         let runs : runs_at (layout_of p) Relocated k b ≡ true = subst (λ x. runs_at (layout_of p) (part_of x) k b ≡ true) arriving.first here.cell.runs in
         let tiled = slot_of p b (and_parts (not (k == 0)) (is_other_tile (layout_of p) b) runs).1 in
         let there = smm_present (at s k) here.address here.is in
         let here_too = smm_present (at s j) up.address up.is in
         elim (h.slots.slotted k there) [
           | inl e ↦ far (tseg p) b tiled.slot sound.above tiled.is e
-          | inr own ↦ (let own_slot : slot_at (layout_of p) b ≡ place_of r.slots.bound (apic_of p k) = slot_plain (tseg p) (place_of r.slots.bound (apic_of p k)) b own.1 in
+          | inr own ↦ (let own_slot : slot_at (layout_of p) b ≡ slot_among r.slots.bound (apic_of p k) = slot_plain (tseg p) (slot_among r.slots.bound (apic_of p k)) b own.1 in
               let ids : apic_of p k ≡ apic_of p j = place_same r.slots.bound (apic_of p k) (apic_of p j) own.0 (h.holding.in_bound (apic_of p j) up.held) (sym own_slot ∙ (arriving.slot ∙ slot)) in
               let one : k ≡ j = ids_differ p.apic k j sound.distinct (h.slots.possible k there) (h.slots.possible j here_too) ids in
               far (tseg p) b tiled.slot sound.above tiled.is (subst (λ i. (at s i).smbase ≡ 0x30000) (sym one) up.base))
@@ -219,47 +219,47 @@ keeps_led p m s u k l n sound h here writes stays does leads =
     let y = layout_of p in
     let b = (at s k).smbase in
     let t = with_next k b n u in
-    let each : (j : ℕ) → Seated p s.monarch u.writes j (at u j) = λ j. seated_left p s.monarch s.writes u.writes j (at u j) sound writes (seated_calm p s.monarch s.writes j (at s j) (at u j) (does.cpus j) (seated p m s j h)) in
+    let each : (j : ℕ) → CpuParts p s.monarch u.writes j (at u j) = λ j. cpu_parts_left p s.monarch s.writes u.writes j (at u j) sound writes (cpu_parts_calm p s.monarch s.writes j (at s j) (at u j) (does.cpus j) (cpu_parts p m s j h)) in
     let address : smm_address (at u k) ≡ Some here.address = stays.address ∙ here.is in
     let present : (at u k).present ≡ true = smm_present (at u k) here.address address in
     let to : Cpu = moved (address_of_label b n.label) n.base (at u k) in
-    let goes : go_on b n (at u k) ≡ to = rw (smm_stands (at u k) here.address address) refl in
+    let goes : moved_in_smm b n (at u k) ≡ to = rw (smm_stands (at u k) here.address address) refl in
     let lands : smm_address to ≡ Some (address_of_label b n.label) = rw present refl in
     let runs : runs_at y (part_of n.label) k b ≡ true = rw leads.side here.cell.runs in
-    let stands : Stands p n.monarch u.writes k b n.base (Some (address_of_label b n.label)) = (n.label, record { runs = runs; due = due_next n.monarch n.label (part_of n.label) (λ e. leads.due (sym leads.side ∙ e)); here = refl; met = leads.met }) in
+    let stands : IsAtCell p n.monarch u.writes k b n.base (Some (address_of_label b n.label)) = (n.label, record { runs = runs; current = current_next n.monarch n.label (part_of n.label) (λ e. leads.current (sym leads.side ∙ e)); here = refl; met = leads.met }) in
     let saves : Saves u.writes (at u k).smbase (Some here.address) = subst (Saves u.writes (at u k).smbase) address (each k).saves in
-    let sits : Seated p n.monarch u.writes k to =
-    subst (λ o. SeatedBy p n.monarch u.writes k (at u k).present (at u k).smbase n.base o) (sym lands)
+    let sits : CpuParts p n.monarch u.writes k to =
+    subst (λ o. CpuPartsBy p n.monarch u.writes k (at u k).present (at u k).smbase n.base o) (sym lands)
     (record {
       based = (each k).based;
       possible = (each k).possible;
       slotted = λ e. at_slot_grows p s.monarch.slots n.monarch.slots (apic_of p k) (at u k).smbase leads.follows.grows ((each k).slotted e);
-      stands = subst (λ c. Stands p n.monarch u.writes k c n.base (Some (address_of_label b n.label))) (sym stays.smbase) stands;
+      stands = subst (λ c. IsAtCell p n.monarch u.writes k c n.base (Some (address_of_label b n.label))) (sym stays.smbase) stands;
       saves = saves;
     }) in
-    let first : (at t 0).present ≡ true = first_set u.cpus k (go_on b n (at u k)) (does.first.present ∙ h.slots.first) (λ e. subst (λ c. c.present ≡ true) (sym goes) present) in
+    let first : (at t 0).present ≡ true = first_set u.cpus k (moved_in_smm b n (at u k)) (does.first.present ∙ h.slots.first) (λ e. subst (λ c. c.present ≡ true) (sym goes) present) in
     let none_past : (is_settled p n.monarch u.writes ≡ true) → ((j : ℕ) → is_past (smm_address (at s j)) ≡ false) × (is_open (need_of s.monarch.label) ≡ false) = λ e. elim (leads.settled e) [
       | inl was ↦ (h.settled was, settled_shut (value_from (byte_at s.writes) (arrived_byte y s.monarch.add.slot) 1 == 1) (is_added s.monarch.outcome) (need_of s.monarch.label) was)
       | inr arriving ↦ (alone p m s k l sound h here arriving, ap is_open arriving.looks)
     ] in
     gathered p m t (ap is_handed does.stage ∙ h.handed)
     (record { marks = h.locked.marks; registers = does.locks h.locked.registers; kept = λ x g. left_then x m s.writes u.writes (h.locked.kept x g) (writes.cells x (kept_guarded p x g)) })
-    (set_all (Seated p n.monarch u.writes) u.cpus k (go_on b n (at u k)) (seated_absent p n.monarch u.writes k) (subst (Seated p n.monarch u.writes k) (sym goes) sits)
+    (set_all (CpuParts p n.monarch u.writes) u.cpus k (moved_in_smm b n (at u k)) (cpu_parts_absent p n.monarch u.writes k) (subst (CpuParts p n.monarch u.writes k) (sym goes) sits)
     (λ j other. elim (is_monarchs (part_of l)) [
-      | inl e ↦ seated_other p s.monarch n.monarch u.writes j (at u j) sound h.holding leads.follows.grows (not_zero y (part_of l) k b j e here.cell.runs other)
+      | inl e ↦ cpu_parts_other p s.monarch n.monarch u.writes j (at u j) sound h.holding leads.follows.grows (not_zero y (part_of l) k b j e here.cell.runs other)
           (elim leads.follows.holds [ inl was ↦ inl (past_calm (at s j) (at u j) (does.cpus j) (h.settled was j)) | inr holds ↦ inr holds ]) (each j)
-      | inr apart ↦ subst (λ r. Seated p r u.writes j (at u j)) (sym (leads.others apart)) (each j)
+      | inr apart ↦ subst (λ r. CpuParts p r u.writes j (at u j)) (sym (leads.others apart)) (each j)
     ]))
     first
     leads.gated
-    (set_all (λ j c. j ≡ 0 → c.present ≡ true → smm_address c ≡ None → need_of n.monarch.label ≡ Nothing) u.cpus k (go_on b n (at u k)) (λ i e f. absurd cc)
+    (set_all (λ j c. j ≡ 0 → c.present ≡ true → smm_address c ≡ None → need_of n.monarch.label ≡ Nothing) u.cpus k (moved_in_smm b n (at u k)) (λ i e f. absurd cc)
     (λ i e f. absurd (let g : Some (address_of_label b n.label) ≡ None = sym (ap smm_address goes ∙ lands) ∙ f in cc))
     (λ j other i e f. ap (λ (r : Monarch). need_of r.label) (leads.others (λ mine. not_zero y (part_of l) k b j mine here.cell.runs other i))
     ∙ h.rests (sym does.first.address ∙ subst (λ x. smm_address (at u x) ≡ None) i f)) 0 refl first)
     (leads.follows.small, leads.follows.placed)
     leads.follows.holding
     (λ e j. let calm = none_past e in
-    set_all (λ i c. is_past (smm_address c) ≡ false) u.cpus k (go_on b n (at u k)) refl
+    set_all (λ i c. is_past (smm_address c) ≡ false) u.cpus k (moved_in_smm b n (at u k)) refl
     (ap is_past (ap smm_address goes ∙ lands) ∙ (aloft_past p k b n.label sound runs ∙ down (is_aloft (need_of n.label)) refl (calm.0 k) calm.1))
     (λ i other. past_calm (at s i) (at u i) (does.cpus i) (calm.0 i)) j)
   where
@@ -293,19 +293,19 @@ slot_small p s k l sound here = by_part (part_of l) here.cell.runs
     by_part Monarchs e = at_first (tseg p) b (eqb-true b (tile p 0) (and_parts (k == 0) (b == tile p 0) e).1)
 
 -- a row's access, made
-keeps_made : (p : Platform) (m : List Write) (s : State) (k : ℕ) (a : Access) (l : Label) (w : Option Want) → Sound p → Invariant p m s → AtRow p s k l → WritesOf p s.monarch.slots k s w → Spares p k s w → LeadsOn p k s (seat p s k) s.monarch l w → is_that_access w a ≡ true → Invariant p m (row_led p s k (answer_to true a s) (Some l) (access_effect p k true a s))
+keeps_made : (p : Platform) (m : List Write) (s : State) (k : ℕ) (a : Access) (l : Label) (w : Option Want) → Sound p → Invariant p m s → AtRow p s k l → WritesOf p s.monarch.slots k s w → Spares p k s w → LeadsOn p k s (seat p s k) s.monarch l w → is_that_access w a ≡ true → Invariant p m (row_effect p s k (answer_to true a s) (Some l) (access_effect p k true a s))
 keeps_made p m s k a l None sound h here writes spares leads e = absurd cc
 keeps_made p m s k a l (Some (want.Do b)) sound h here writes spares leads e =
-    subst (λ c. Invariant p m (row_led p s k (answer_to true c s) (Some l) (access_effect p k true c s))) (sym (same_access-equal a b e))
+    subst (λ c. Invariant p m (row_effect p s k (answer_to true c s) (Some l) (access_effect p k true c s))) (sym (same_access-equal a b e))
     (keeps_led p m s (access_effect p k true b s) k l (next_at (layout_of p) (seat p s k) s.monarch l (value_in (answer_to true b s))) sound h here writes spares (acts p k true b s) leads)
 keeps_made p m s k a l (Some (want.Tell o)) sound h here writes spares leads e = absurd cc
 keeps_made p m s k a l (Some want.Resume) sound h here writes spares leads e = absurd cc
 
 -- where the row of whoever stands there leads
 pub row_next : (p : Platform) (m : List Write) (s : State) (k : ℕ) (l : Label) → Sound p → Invariant p m s → AtRow p s k l → LeadsOn p k s (seat p s k) s.monarch l (want_at (layout_of p) (seat p s k) s.monarch l)
-row_next p m s k l sound h here = row_leads p k s (seat p s k) s.monarch sound h.locked.registers h.recorded h.holding h.gated (looked_small p m s sound h) (sound.ids k) (slot_small p s k l sound here) l (due_label_is s.monarch l here.cell.due) here.cell.met
+row_next p m s k l sound h here = row_leads p k s (seat p s k) s.monarch sound h.locked.registers h.recorded h.holding h.gated (looked_small p m s sound h) (sound.ids k) (slot_small p s k l sound here) l (current_label_is s.monarch l here.cell.current) here.cell.met
 
-pub keeps_access : (p : Platform) (m : List Write) (s : State) (k : ℕ) (a : Access) (o : Option Label) → Sound p → Invariant p m s → row_at p s k ≡ o → is_that_access (wanted_at (layout_of p) s.monarch (seat p s k) o) a ≡ true → Invariant p m (row_led p s k (answer_to true a s) o (access_effect p k true a s))
+pub keeps_access : (p : Platform) (m : List Write) (s : State) (k : ℕ) (a : Access) (o : Option Label) → Sound p → Invariant p m s → label_at p s k ≡ o → is_that_access (wanted_at (layout_of p) s.monarch (seat p s k) o) a ≡ true → Invariant p m (row_effect p s k (answer_to true a s) o (access_effect p k true a s))
 keeps_access p m s k a None sound h is e = absurd cc
 keeps_access p m s k a (Some l) sound h is e =
     let x = seat p s k in
@@ -316,14 +316,14 @@ keeps_access p m s k a (Some l) sound h is e =
     (row_next p m s k l sound h here) e
 
 -- an outcome, told
-keeps_said : (p : Platform) (m : List Write) (s : State) (o : Outcome) (l : Label) (w : Option Want) → Sound p → Invariant p m s → AtRow p s 0 l → LeadsOn p 0 s (seat p s 0) s.monarch l w → is_that_outcome w o ≡ true → Invariant p m (row_led p s 0 Quiet (Some l) s)
+keeps_said : (p : Platform) (m : List Write) (s : State) (o : Outcome) (l : Label) (w : Option Want) → Sound p → Invariant p m s → AtRow p s 0 l → LeadsOn p 0 s (seat p s 0) s.monarch l w → is_that_outcome w o ≡ true → Invariant p m (row_effect p s 0 Quiet (Some l) s)
 keeps_said p m s o l None sound h here leads e = absurd cc
 keeps_said p m s o l (Some (want.Do a)) sound h here leads e = absurd cc
 keeps_said p m s o l (Some (want.Tell t)) sound h here leads e =
     keeps_led p m s s 0 l (next_at (layout_of p) (seat p s 0) s.monarch l (value_in Quiet)) sound h here (writes_same p s.monarch.slots s.writes) (stays_same (at s 0)) (acts p 0 true Nop s) leads
 keeps_said p m s o l (Some want.Resume) sound h here leads e = absurd cc
 
-pub keeps_told : (p : Platform) (m : List Write) (s : State) (o : Outcome) (l : Option Label) → Sound p → Invariant p m s → row_at p s 0 ≡ l → is_that_outcome (wanted_at (layout_of p) s.monarch (seat p s 0) l) o ≡ true → Invariant p m (row_led p s 0 Quiet l s)
+pub keeps_told : (p : Platform) (m : List Write) (s : State) (o : Outcome) (l : Option Label) → Sound p → Invariant p m s → label_at p s 0 ≡ l → is_that_outcome (wanted_at (layout_of p) s.monarch (seat p s 0) l) o ≡ true → Invariant p m (row_effect p s 0 Quiet l s)
 keeps_told p m s o None sound h is e = absurd cc
 keeps_told p m s o (Some l) sound h is e =
     let here = row_stands p m s 0 l sound h is in

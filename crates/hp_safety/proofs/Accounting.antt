@@ -23,12 +23,12 @@ use Rattle.hp_model.specs.Cpu.{is_in_smm, smm_address, address_in, is_outside, m
 use Rattle.hp_model.specs.Boot.{Stage, Boots, Refused, Handed, is_handed, value_in}
 use Rattle.hp_model.specs.Labels.{Part, First, Relocated, Monarch as Monarchs, part_of, index_of}
 use Rattle.hp_model.specs.SharedBytes.{layout_of, gate}
-use Rattle.hp_model.specs.Slots.{place_of}
+use Rattle.hp_model.specs.Slots.{slot_among}
 use Rattle.hp_model.specs.Monarch.{Monarch, restarted, is_that}
 use Rattle.hp_model.specs.Handlers.{Next, want_at, wanted_at, next_at, runs_at, address_of_label}
 use Rattle.hp_model.specs.State.{State, at}
 use Rattle.hp_model.specs.Access.{access_effect, answer_to}
-use Rattle.hp_model.specs.Firmware.{row_at, seat, is_that_access, is_that_outcome, is_rsm, is_handlers, wanted_in, row_led, handlers_led, firmware_led, with_session}
+use Rattle.hp_model.specs.Firmware.{label_at, seat, is_that_access, is_that_outcome, is_rsm, is_handlers, wanted_in, row_effect, handlers_effect, firmware_effect, with_session}
 use Rattle.hp_model.specs.Step.{After, answer_of, is_enabled, effect_of, enter_smm, step}
 use Rattle.hp_model.specs.Runs.{address_of}
 use Rattle.hp_model.specs.Events.{access_in, is_entry_of, is_resume_of}
@@ -43,7 +43,7 @@ use Rattle.hp_safety.proofs.Needs.{Nothing, need_of, is_aloft}
 use Rattle.hp_safety.proofs.Invariant.{facts_of, Invariant}
 use Rattle.hp_safety.proofs.Aloft.{aloft_first}
 use Rattle.hp_safety.proofs.Ties.{Free, tie_of, Session, session_more, bound_more, TiedAt, Tied}
-use Rattle.hp_safety.proofs.Keeps.{that_is, AtRow, row_stands, due_label_is}
+use Rattle.hp_safety.proofs.Keeps.{that_is, AtRow, row_stands, current_label_is}
 use Rattle.hp_safety.proofs.RowLeads.{LeadsOn}
 use Rattle.hp_safety.proofs.Accesses.{is_monarchs, row_next}
 use Rattle.hp_safety.proofs.Entering.{may_outside}
@@ -160,17 +160,17 @@ module _ (p : Platform) (m : List Write) (s : State) (k : ℕ) (l : Label) (soun
   row_tied B S v n is others stored bounds answer tied = elim (is_monarchs (part_of l)) [
     | inl mine ↦
         let r = s.monarch in
-        let label = due_label_is r l here.cell.due mine in
+        let label = current_label_is r l here.cell.current mine in
         subst (λ (x : Next). Tied (bound_more p B e) (session_more p S e) x.monarch) (sym is)
         (subst (λ b. Tied b (session_more p S e) (next_at (layout_of p) (seat p s k) r l v).monarch) (sym (row_bound B r.add.apic mine stored))
         (subst (λ x. Tied (bound_after l r.add.apic B) x (next_at (layout_of p) (seat p s k) r l v).monarch) (sym (row_session S v mine bounds answer))
         (row_ties B S (layout_of p) (seat p s k) r v (facts_of p r s.writes (apic_of p k) (at s k).base) l mine (λ f. label)
-        (λ f. h.holding.in_bound r.add.apic (that_is r.slots.held r.add.apic (and_parts (is_that r.slots.held r.add.apic) (r.add.slot == place_of r.slots.bound r.add.apic) f).0)) refl here.cell.met
+        (λ f. h.holding.in_bound r.add.apic (that_is r.slots.held r.add.apic (and_parts (is_that r.slots.held r.add.apic) (r.add.slot == slot_among r.slots.bound r.add.apic) f).0)) refl here.cell.met
         (subst (λ x. TiedAt B S r (tie_of x)) label tied))))
     | inr other ↦ subst (Tied (bound_more p B e) (session_more p S e)) (sym (others other)) (still p B S s.monarch e (none_other other) bounds tied)
   ]
 
-  tied_made : (B : List ℕ) (S : Session) (a : Access) (w : Option Want) → e.event ≡ Do k a → e.answer ≡ answer_to true a s → want_at (layout_of p) (seat p s k) s.monarch l ≡ w → LeadsOn p k s (seat p s k) s.monarch l w → is_that_access w a ≡ true → Tied B S s.monarch → Tied (bound_more p B e) (session_more p S e) (row_led p s k (answer_to true a s) (Some l) (access_effect p k true a s)).monarch
+  tied_made : (B : List ℕ) (S : Session) (a : Access) (w : Option Want) → e.event ≡ Do k a → e.answer ≡ answer_to true a s → want_at (layout_of p) (seat p s k) s.monarch l ≡ w → LeadsOn p k s (seat p s k) s.monarch l w → is_that_access w a ≡ true → Tied B S s.monarch → Tied (bound_more p B e) (session_more p S e) (row_effect p s k (answer_to true a s) (Some l) (access_effect p k true a s)).monarch
   tied_made B S a None event answer is leads f tied = absurd cc
   tied_made B S a (Some (want.Do b)) event answer is leads f tied =
       let same = same_access-equal a b f in
@@ -182,7 +182,7 @@ module _ (p : Platform) (m : List Write) (s : State) (k : ℕ) (l : Label) (soun
   tied_made B S a (Some (want.Tell o)) event answer is leads f tied = absurd cc
   tied_made B S a (Some want.Resume) event answer is leads f tied = absurd cc
 
-  tied_told : (B : List ℕ) (S : Session) (o : Outcome) (w : Option Want) → e.event ≡ Tell o → e.answer ≡ Quiet → want_at (layout_of p) (seat p s k) s.monarch l ≡ w → LeadsOn p k s (seat p s k) s.monarch l w → is_that_outcome w o ≡ true → Tied B S s.monarch → Tied (bound_more p B e) (session_more p S e) (row_led p s k Quiet (Some l) s).monarch
+  tied_told : (B : List ℕ) (S : Session) (o : Outcome) (w : Option Want) → e.event ≡ Tell o → e.answer ≡ Quiet → want_at (layout_of p) (seat p s k) s.monarch l ≡ w → LeadsOn p k s (seat p s k) s.monarch l w → is_that_outcome w o ≡ true → Tied B S s.monarch → Tied (bound_more p B e) (session_more p S e) (row_effect p s k Quiet (Some l) s).monarch
   tied_told B S o None event answer is leads f tied = absurd cc
   tied_told B S o (Some (want.Do a)) event answer is leads f tied = absurd cc
   tied_told B S o (Some (want.Tell t)) event answer is leads f tied =
@@ -212,7 +212,7 @@ module _ (p : Platform) (m : List Write) (s : State) (k : ℕ) (l : Label) (soun
       first : part_of l ≡ Monarchs → Returns l → Tied (bound_more p B e) (session_more p S e) s.monarch
       first mine (inl up) = absurd (let both = sym mine ∙ aloft_first l (ap is_aloft up) in cc)
       first mine (inr n) =
-          let label = due_label_is s.monarch l here.cell.due mine in
+          let label = current_label_is s.monarch l here.cell.current mine in
           let free : tie_of s.monarch.label ≡ Free = ap tie_of label ∙ n.2 in
           let bound : bound_more p B e ≡ B = row_bound B 0 mine (λ seven. absurd (let g : tie_of N7 ≡ Free = sym (ap tie_of seven) ∙ n.2 in cc)) ∙ not_seven n.2 in
           subst (TiedAt (bound_more p B e) (session_more p S e) s.monarch) (sym free) (subst (TiedAt B S s.monarch) free tied ∙ sym bound)
@@ -236,15 +236,15 @@ tied_smi p m s k e B S h may event place tied =
     neither true f = absurd cc
     neither false f = refl
 
-tied_event : (p : Platform) (m : List Write) (s : State) (e : Entry) (v : Event) (B : List ℕ) (S : Session) → Sound p → Invariant p m s → e.event ≡ v → address_of s v ≡ e.at → e.answer ≡ answer_of s v → is_enabled p s v ≡ true → is_handlers p s v ≡ true → Tied B S s.monarch → Tied (bound_more p B e) (session_more p S e) (handlers_led p s v (effect_of p s v)).monarch
+tied_event : (p : Platform) (m : List Write) (s : State) (e : Entry) (v : Event) (B : List ℕ) (S : Session) → Sound p → Invariant p m s → e.event ≡ v → address_of s v ≡ e.at → e.answer ≡ answer_of s v → is_enabled p s v ≡ true → is_handlers p s v ≡ true → Tied B S s.monarch → Tied (bound_more p B e) (session_more p S e) (handlers_effect p s v (effect_of p s v)).monarch
 tied_event p m s e (Insert k) B S sound h event place answer may wanted tied = still p B S s.monarch e (none_outside p e (sym place)) (ap bounds event) tied
 tied_event p m s e (Remove k) B S sound h event place answer may wanted tied = still p B S s.monarch e (none_outside p e (sym place)) (ap bounds event) tied
 tied_event p m s e (Do k a) B S sound h event place answer may wanted tied = by_mode (is_in_smm (at s k).mode) refl wanted answer
   where
-    by_mode : (b : Bool) → is_in_smm (at s k).mode ≡ b → (not b || is_that_access (wanted_at (layout_of p) s.monarch (seat p s k) (row_at p s k)) a) ≡ true → e.answer ≡ answer_to b a s → Tied (bound_more p B e) (session_more p S e) (cond b (row_led p s k (answer_to b a s) (row_at p s k) (access_effect p k b a s)) (access_effect p k b a s)).monarch
-    by_mode true mode f g = by_row (row_at p s k) refl f
+    by_mode : (b : Bool) → is_in_smm (at s k).mode ≡ b → (not b || is_that_access (wanted_at (layout_of p) s.monarch (seat p s k) (label_at p s k)) a) ≡ true → e.answer ≡ answer_to b a s → Tied (bound_more p B e) (session_more p S e) (cond b (row_effect p s k (answer_to b a s) (label_at p s k) (access_effect p k b a s)) (access_effect p k b a s)).monarch
+    by_mode true mode f g = by_row (label_at p s k) refl f
       where
-        by_row : (o : Option Label) → row_at p s k ≡ o → is_that_access (wanted_at (layout_of p) s.monarch (seat p s k) o) a ≡ true → Tied (bound_more p B e) (session_more p S e) (row_led p s k (answer_to true a s) o (access_effect p k true a s)).monarch
+        by_row : (o : Option Label) → label_at p s k ≡ o → is_that_access (wanted_at (layout_of p) s.monarch (seat p s k) o) a ≡ true → Tied (bound_more p B e) (session_more p S e) (row_effect p s k (answer_to true a s) o (access_effect p k true a s)).monarch
         by_row None is f = absurd cc
         by_row (Some l) is f =
             let here = row_stands p m s k l sound h is in
@@ -253,20 +253,20 @@ tied_event p m s e (Do k a) B S sound h event place answer may wanted tied = by_
         subst (Tied (bound_more p B e) (session_more p S e)) (sym (acts p k false a s).monarch) (still p B S s.monarch e (none_outside p e (sym place ∙ outside_none (at s k) mode)) (ap bounds event) tied)
 tied_event p m s e (TakeSmi k) B S sound h event place answer may wanted tied = tied_smi p m s k e B S h may event (sym place ∙ may_outside (at s k) may) tied
 tied_event p m s e (TakeInit k) B S sound h event place answer may wanted tied = still p B S s.monarch e (none_outside p e (sym place ∙ init_outside (at s k) may)) (ap bounds event) tied
-tied_event p m s e (Resume k) B S sound h event place answer may wanted tied = by_row (row_at p s k) refl wanted
+tied_event p m s e (Resume k) B S sound h event place answer may wanted tied = by_row (label_at p s k) refl wanted
   where
-    by_row : (o : Option Label) → row_at p s k ≡ o → is_rsm (wanted_at (layout_of p) s.monarch (seat p s k) o) ≡ true → Tied (bound_more p B e) (session_more p S e) s.monarch
+    by_row : (o : Option Label) → label_at p s k ≡ o → is_rsm (wanted_at (layout_of p) s.monarch (seat p s k) o) ≡ true → Tied (bound_more p B e) (session_more p S e) s.monarch
     by_row None is f = absurd cc
     by_row (Some l) is f = tied_rsm p m s k l sound h (row_stands p m s k l sound h is) e place B S event f tied
-tied_event p m s e (Tell o) B S sound h event place answer may wanted tied = by_row (row_at p s 0) refl wanted
+tied_event p m s e (Tell o) B S sound h event place answer may wanted tied = by_row (label_at p s 0) refl wanted
   where
-    by_row : (t : Option Label) → row_at p s 0 ≡ t → is_that_outcome (wanted_at (layout_of p) s.monarch (seat p s 0) t) o ≡ true → Tied (bound_more p B e) (session_more p S e) (row_led p s 0 Quiet t s).monarch
+    by_row : (t : Option Label) → label_at p s 0 ≡ t → is_that_outcome (wanted_at (layout_of p) s.monarch (seat p s 0) t) o ≡ true → Tied (bound_more p B e) (session_more p S e) (row_effect p s 0 Quiet t s).monarch
     by_row None is f = absurd cc
     by_row (Some l) is f =
         let here = row_stands p m s 0 l sound h is in
         tied_told p m s 0 l sound h here e place B S o (want_at (layout_of p) (seat p s 0) s.monarch l) event answer refl (row_next p m s 0 l sound h here) f tied
 
-tied_led : (p : Platform) (m : List Write) (s : State) (e : Entry) (g : Stage) (B : List ℕ) (S : Session) → Sound p → Invariant p m s → is_handed g ≡ true → address_of s e.event ≡ e.at → e.answer ≡ answer_of s e.event → is_enabled p s e.event ≡ true → wanted_in p s g e.event ≡ true → Tied B S s.monarch → Tied (bound_more p B e) (session_more p S e) (firmware_led p s g e.event (effect_of p s e.event)).monarch
+tied_led : (p : Platform) (m : List Write) (s : State) (e : Entry) (g : Stage) (B : List ℕ) (S : Session) → Sound p → Invariant p m s → is_handed g ≡ true → address_of s e.event ≡ e.at → e.answer ≡ answer_of s e.event → is_enabled p s e.event ≡ true → wanted_in p s g e.event ≡ true → Tied B S s.monarch → Tied (bound_more p B e) (session_more p S e) (firmware_effect p s g e.event (effect_of p s e.event)).monarch
 tied_led p m s e (Boots done supported) B S sound h handed place answer may wanted tied = absurd cc
 tied_led p m s e (Refused fact) B S sound h handed place answer may wanted tied = absurd cc
 tied_led p m s e (Handed requested) B S sound h handed place answer may wanted tied = tied_event p m s e e.event B S sound h refl place answer may wanted tied

@@ -1,4 +1,4 @@
--- The law: each outcome answers the session's first report without one, by the class that the entries give it.
+-- The law: each outcome answers the session's first report without one, by the decision that the entries give it.
 use Rattle.std.specs.Prelude.{slice_index_or, if◌then◌else◌}
 use Rattle.std.proofs.Common.{ℕ, zero, suc, ◌≡◌, ◌<◌, ◌==◌, ◌⊎◌, inl, inr, Bool, true, false, List, [], ◌∷◌, length, replicate, Option, Some, None, refl, sym, ap, subst, ◌∙◌, arith}
 use Rattle.std.proofs.lemmas.Bool.{eqb-true}
@@ -11,7 +11,7 @@ use Rattle.hp_model.specs.declared.labels.Label.TheVariants.{T}
 use Rattle.hp_model.specs.Platform.{IsFit, apic_of}
 use Rattle.hp_model.specs.Block.{is_in}
 use Rattle.hp_model.specs.Labels.{index_of}
-use Rattle.hp_model.specs.Slots.{slots_start, boot_ids, place_of, is_known as known_in}
+use Rattle.hp_model.specs.Slots.{slots_start, boot_ids, slot_among, is_known as known_in}
 use Rattle.hp_model.specs.Monarch.{Monarch}
 use Rattle.hp_model.specs.State.{State, at, start}
 use Rattle.hp_model.specs.Firmware.{seat}
@@ -40,8 +40,8 @@ use Rattle.hp_safety.proofs.Held.{HeldTied, held_on, Knows, knows_first, knows_o
 use Rattle.hp_safety.proofs.FactRows.{known_out}
 use Rattle.hp_safety.proofs.Looks.{length-unread}
 use Rattle.hp_safety.proofs.Facts.{FactsTied, known_more, facts_on}
-use Rattle.hp_safety.proofs.Classes.{ClassAt}
-use Rattle.hp_safety.proofs.Outcoming.{class_now, OutcomesTied, outcomes_on}
+use Rattle.hp_safety.proofs.Decisions.{DecisionAt}
+use Rattle.hp_safety.proofs.Outcoming.{decision_now, OutcomesTied, outcomes_on}
 
 -- the boot processors are known at the start
 index_true : (n k : ℕ) → k < n → slice_index_or (replicate n true) k false ≡ true
@@ -56,7 +56,7 @@ known_start p a placed = by_bound (is_in a (boot_ids p)) refl
     by_bound true is =
         let below = place_below (boot_ids p) a is in
         let size : length (boot_ids p) ≡ length p.boot = length-map p.boot (apic_of p) in
-        index_true (length p.boot) (place_of (boot_ids p) a) (omega (arith, below, size))
+        index_true (length p.boot) (slot_among (boot_ids p) a) (omega (arith, below, size))
     by_bound false is = known_out p (slots_start p) a placed is
 
 facts_sealed : (p : Platform) (past : List Transition) (s : State) → ((a : ℕ) → known_by p (entries_of past) a ≡ is_in a (boot_ids p)) → IsSealed p s → FactsTied p past s
@@ -72,7 +72,7 @@ facts_sealed p past s known z =
     }
 
 outcomes_sealed : (p : Platform) (past : List Transition) (s : State) → IsSealed p s → OutcomesTied p past s
-outcomes_sealed p past s z = subst (λ (r : Monarch). ClassAt (class_now p past) (open_triple p (entries_of past)) r (turn_of r.label)) (sym z.cpus.begun) tt
+outcomes_sealed p past s z = subst (λ (r : Monarch). DecisionAt (decision_now p past) (open_triple p (entries_of past)) r (turn_of r.label)) (sym z.cpus.begun) tt
 
 -- what is known of each state, with what reports are judged by, and what outcomes follow from
 abbrev pub Judges : Platform → List Transition → State → Type 0
@@ -127,15 +127,15 @@ module _ (p : Platform) (fits : IsFit p) where
           )
 
   -- what is told
-  told_answers : (past : List Transition) (s : State) (e : Entry) (r : Monarch) (o : Outcome) → OutcomesTied p past s → MonarchStep p s e r → outcome_in e.event ≡ Some o → answers_by (class_now p past) o (open_triple p (entries_of past)) ≡ true
+  told_answers : (past : List Transition) (s : State) (e : Entry) (r : Monarch) (o : Outcome) → OutcomesTied p past s → MonarchStep p s e r → outcome_in e.event ≡ Some o → answers_by (decision_now p past) o (open_triple p (entries_of past)) ≡ true
   told_answers past s e r o classed (inl x) is = absurd (let both = sym x.told ∙ is in cc)
   told_answers past s e r o classed (inr (inl w)) is = by_told (index_of w.label == 34) refl (sym (row_says p (seat p s 0) s.monarch s.writes (apic_of p 0) (at s 0).base e.event w.label w.met w.wanted) ∙ is)
     where
-      by_told : (c : Bool) → (index_of w.label == 34) ≡ c → (if c then Some s.monarch.outcome else None) ≡ Some o → answers_by (class_now p past) o (open_triple p (entries_of past)) ≡ true
+      by_told : (c : Bool) → (index_of w.label == 34) ≡ c → (if c then Some s.monarch.outcome else None) ≡ Some o → answers_by (decision_now p past) o (open_triple p (entries_of past)) ≡ true
       by_told true f g =
           let label = same_index w.label T w.side (eqb-true (index_of w.label) 34 f) in
-          let says = subst (λ l. ClassAt (class_now p past) (open_triple p (entries_of past)) s.monarch (turn_of l)) (w.here ∙ label) classed in
-          subst (λ x. answers_by (class_now p past) x (open_triple p (entries_of past)) ≡ true) (same_Some s.monarch.outcome o g) says
+          let says = subst (λ l. DecisionAt (decision_now p past) (open_triple p (entries_of past)) s.monarch (turn_of l)) (w.here ∙ label) classed in
+          subst (λ x. answers_by (decision_now p past) x (open_triple p (entries_of past)) ≡ true) (same_Some s.monarch.outcome o g) says
       by_told false f g = absurd cc
   told_answers past s e r o classed (inr (inr (inl b))) is = absurd (let both = sym (ap outcome_in b.event) ∙ is in cc)
   told_answers past s e r o classed (inr (inr (inr x))) is = absurd (let both = sym (ap outcome_in x.event) ∙ is in cc)

@@ -7,10 +7,10 @@ use Rattle.hp_model.specs.declared.labels.Label.TheVariants.{F1, F2, F3, F4, F5,
 use Rattle.hp_model.specs.Labels.{Monarch as Monarchs, part_of, index_of}
 use Rattle.hp_model.specs.SharedBytes.{Layout}
 use Rattle.hp_model.specs.Slots.{known_from}
-use Rattle.hp_model.specs.Collection.{Report, Collection, CollectsAt, CollectedAll, next_processor, found, judged, reported, collection_start}
+use Rattle.hp_model.specs.Collection.{Report, Collection, CollectsAt, CollectEnds, next_processor, found, judged, reported, collection_start}
 use Rattle.hp_model.specs.Add.{Add, AddsAt, Ends, failed, looks, is_last_look, saw_flag, saw_pair, shut, saw_arrival}
 use Rattle.hp_model.specs.Eject.{Eject, EjectsAt, awaits, saw_parked, handed_to_block, saw_status}
-use Rattle.hp_model.specs.Monarch.{Monarch, at_label, first_slot, next_slot, look_at, looked, noted, commanded, Class, Tells, Adds, Ejects, class, facts_of as facts_by, took, answered, taken_up, next_report, collected, led, eject_led, told}
+use Rattle.hp_model.specs.Monarch.{Monarch, at_label, first_slot, next_slot, look_at, looked, noted, commanded, Decision, ToTell, ToAdd, ToEject, decision, facts_of as facts_by, took, answered, taken_up, next_report, after_collection, after_add, after_eject, after_tell}
 use Rattle.hp_model.specs.Handlers.{Seat, next_at}
 use Rattle.hp_model.specs.Step.{is_after_broadcast}
 use Rattle.hp_sealed.proofs.Left.{pick}
@@ -98,50 +98,50 @@ calls_looked polls v r is = pick (IsAt Called) ((v == 1) || nat_le r.polls 1) (l
 calls_commanded : (v : ℕ) (r : Monarch) → IsAt Called (commanded v r)
 calls_commanded v r = pick (IsAt Called) (v == 4) (record r { label = C1; collection = collection_start; taken = 0 }) (at_label E5 r) refl refl
 
-calls_answered : (c : Class) (t : Report) (r : Monarch) → IsAt Called (answered c t r)
-calls_answered (Tells o) t r = refl
-calls_answered Adds t r = refl
-calls_answered Ejects t r = refl
+calls_answered : (c : Decision) (t : Report) (r : Monarch) → IsAt Called (answered c t r)
+calls_answered (ToTell o) t r = refl
+calls_answered ToAdd t r = refl
+calls_answered ToEject t r = refl
 
 calls_report : (ids : List ℕ) (r : Monarch) → IsAt Called (next_report ids r)
 calls_report ids r = by_rest (drop r.taken r.collection.reports)
   where
     by_rest : (ts : List Report) → IsAt Called (taken_up ids ts r)
     by_rest [] = refl
-    by_rest (t ∷ ts) = calls_answered (class (facts_by ids r t) t) t (took r)
+    by_rest (t ∷ ts) = calls_answered (decision (facts_by ids r t) t) t (took r)
 
-calls_processor : (ids : List ℕ) (count : ℕ) (c : Collection) (r : Monarch) → IsAt Called (collected ids (next_processor count c) r)
-calls_processor ids count c r = pick (λ x. IsAt Called (collected ids x r)) (nat_lt (c.cpu + 1) count) (CollectsAt C1 (record c { cpu = c.cpu + 1 })) (CollectedAll (record c { cpu = c.cpu + 1 })) refl (calls_report ids (record r { collection = record c { cpu = c.cpu + 1 } }))
+calls_processor : (ids : List ℕ) (count : ℕ) (c : Collection) (r : Monarch) → IsAt Called (after_collection ids (next_processor count c) r)
+calls_processor ids count c r = pick (λ x. IsAt Called (after_collection ids x r)) (nat_lt (c.cpu + 1) count) (CollectsAt C1 (record c { cpu = c.cpu + 1 })) (CollectEnds (record c { cpu = c.cpu + 1 })) refl (calls_report ids (record r { collection = record c { cpu = c.cpu + 1 } }))
 
-calls_found : (ids : List ℕ) (count v : ℕ) (r : Monarch) → IsAt Called (collected ids (found count v r.collection) r)
-calls_found ids count v r = pick (λ x. IsAt Called (collected ids x r)) (nat_lt v r.collection.cpu || not (nat_lt v count)) (CollectedAll r.collection) (CollectsAt C4 (record r.collection { cpu = v })) (calls_report ids (record r { collection = r.collection })) refl
+calls_found : (ids : List ℕ) (count v : ℕ) (r : Monarch) → IsAt Called (after_collection ids (found count v r.collection) r)
+calls_found ids count v r = pick (λ x. IsAt Called (after_collection ids x r)) (nat_lt v r.collection.cpu || not (nat_lt v count)) (CollectEnds r.collection) (CollectsAt C4 (record r.collection { cpu = v })) (calls_report ids (record r { collection = r.collection })) refl
 
-calls_judged : (ids : List ℕ) (count v : ℕ) (r : Monarch) → IsAt Called (collected ids (judged count v r.collection) r)
-calls_judged ids count v r = pick (λ x. IsAt Called (collected ids x r)) (bit_and v 0x12 == 0) (next_processor count r.collection) (CollectsAt C5 (record r.collection { status = v })) (calls_processor ids count r.collection r) refl
+calls_judged : (ids : List ℕ) (count v : ℕ) (r : Monarch) → IsAt Called (after_collection ids (judged count v r.collection) r)
+calls_judged ids count v r = pick (λ x. IsAt Called (after_collection ids x r)) (bit_and v 0x12 == 0) (next_processor count r.collection) (CollectsAt C5 (record r.collection { status = v })) (calls_processor ids count r.collection r) refl
 
-calls_reported : (ids : List ℕ) (count v : ℕ) (r : Monarch) → IsAt Called (collected ids (reported count v r.collection) r)
+calls_reported : (ids : List ℕ) (count v : ℕ) (r : Monarch) → IsAt Called (after_collection ids (reported count v r.collection) r)
 calls_reported ids count v r = calls_processor ids count (record r.collection { reports = r.collection.reports ++ record { cpu = r.collection.cpu; status = r.collection.status; apic = v } ∷ [] }) r
 
-calls_failed : (why : Outcome) (a : Add) (r : Monarch) → IsAt Called (led (failed why a) r)
-calls_failed why a r = pick (λ x. IsAt Called (led x r)) (nat_lt a.attempt 3) (AddsAt N0 (record a { attempt = a.attempt + 1 })) (Ends why) refl refl
+calls_failed : (why : Outcome) (a : Add) (r : Monarch) → IsAt Called (after_add (failed why a) r)
+calls_failed why a r = pick (λ x. IsAt Called (after_add x r)) (nat_lt a.attempt 3) (AddsAt N0 (record a { attempt = a.attempt + 1 })) (Ends why) refl refl
 
-calls_flag : (v : ℕ) (a : Add) (r : Monarch) → IsAt Called (led (saw_flag v a) r)
-calls_flag v a r = pick (λ x. IsAt Called (led x r)) (v == 1) (AddsAt N9 (record a { seen = true })) (AddsAt N8b a) refl refl
+calls_flag : (v : ℕ) (a : Add) (r : Monarch) → IsAt Called (after_add (saw_flag v a) r)
+calls_flag v a r = pick (λ x. IsAt Called (after_add x r)) (v == 1) (AddsAt N9 (record a { seen = true })) (AddsAt N8b a) refl refl
 
-calls_pair : (v : ℕ) (a : Add) (r : Monarch) → IsAt Called (led (saw_pair v a) r)
-calls_pair v a r = pick (λ x. IsAt Called (led x r)) (v == 1) (AddsAt N9 (record a { seen = true })) _ refl (pick (λ x. IsAt Called (led x r)) (is_last_look a) (AddsAt N9 (record a { seen = false })) (looks N8a (a.polls - 1) a) refl refl)
+calls_pair : (v : ℕ) (a : Add) (r : Monarch) → IsAt Called (after_add (saw_pair v a) r)
+calls_pair v a r = pick (λ x. IsAt Called (after_add x r)) (v == 1) (AddsAt N9 (record a { seen = true })) _ refl (pick (λ x. IsAt Called (after_add x r)) (is_last_look a) (AddsAt N9 (record a { seen = false })) (looks N8a (a.polls - 1) a) refl refl)
 
-calls_shut : (a : Add) (r : Monarch) → IsAt Called (led (shut a) r)
-calls_shut a r = pick (λ x. IsAt Called (led x r)) a.seen (AddsAt N10 a) _ refl (calls_failed _ a r)
+calls_shut : (a : Add) (r : Monarch) → IsAt Called (after_add (shut a) r)
+calls_shut a r = pick (λ x. IsAt Called (after_add x r)) a.seen (AddsAt N10 a) _ refl (calls_failed _ a r)
 
-calls_arrival : (v : ℕ) (a : Add) (r : Monarch) → IsAt Called (led (saw_arrival v a) r)
-calls_arrival v a r = pick (λ x. IsAt Called (led x r)) (v == 1) (Ends _) _ refl (pick (λ x. IsAt Called (led x r)) (is_last_look a) _ (looks N11 (a.polls - 1) a) (calls_failed _ a r) refl)
+calls_arrival : (v : ℕ) (a : Add) (r : Monarch) → IsAt Called (after_add (saw_arrival v a) r)
+calls_arrival v a r = pick (λ x. IsAt Called (after_add x r)) (v == 1) (Ends _) _ refl (pick (λ x. IsAt Called (after_add x r)) (is_last_look a) _ (looks N11 (a.polls - 1) a) (calls_failed _ a r) refl)
 
-calls_parked : (v : ℕ) (j : Eject) (r : Monarch) → IsAt Called (eject_led (saw_parked v j) r)
-calls_parked v j r = pick (λ x. IsAt Called (eject_led x r)) (v == 1) (EjectsAt E4a j) _ refl (pick (λ x. IsAt Called (eject_led x r)) (nat_le j.polls 1) (EjectsAt E3 j) (awaits (j.polls - 1) j) refl refl)
+calls_parked : (v : ℕ) (j : Eject) (r : Monarch) → IsAt Called (after_eject (saw_parked v j) r)
+calls_parked v j r = pick (λ x. IsAt Called (after_eject x r)) (v == 1) (EjectsAt E4a j) _ refl (pick (λ x. IsAt Called (after_eject x r)) (nat_le j.polls 1) (EjectsAt E3 j) (awaits (j.polls - 1) j) refl refl)
 
-calls_status : (v : ℕ) (j : Eject) (r : Monarch) → IsAt Called (eject_led (saw_status v j) r)
-calls_status v j r = pick (λ x. IsAt Called (eject_led x r)) (bit_and v 0x10 == 0x10) (EjectsAt E4h (record j { status = v })) (EjectsAt E4c j) refl refl
+calls_status : (v : ℕ) (j : Eject) (r : Monarch) → IsAt Called (after_eject (saw_status v j) r)
+calls_status v j r = pick (λ x. IsAt Called (after_eject x r)) (bit_and v 0x10 == 0x10) (EjectsAt E4h (record j { status = v })) (EjectsAt E4c j) refl refl
 
 calls_handed : (late : Bool) (r : Monarch) → IsAt Called (at_label (handed_to_block late) r)
 calls_handed late r = pick (λ l. IsAt Called (at_label l r)) late E4f E4c refl refl
@@ -201,7 +201,7 @@ row_calls y q r v f l mine is met = row_of_each (λ l. part_of l ≡ Monarchs �
   e4f = λ g e. refl;
   e4g = λ g e. calls_status v r.eject r;
   e4h = λ g e. refl;
-  t = λ g e. calls_report y.apics (told r.outcome r);
+  t = λ g e. calls_report y.apics (after_tell r.outcome r);
   e5 = λ g e. calls_first E6 E7 Past r refl refl;
   e6 = λ g e. calls_next E6 E7 Past r refl refl;
   e7 = λ g e. ap stage_of (e refl);

@@ -28,7 +28,7 @@ use Rattle.hp_model.specs.Handlers.{Seat, Next, runs_at, want_at, wanted_at, nex
 use Rattle.hp_model.specs.State.{State, at, set_cpu}
 use Rattle.hp_model.specs.Ports.{writes_block, is_on_block, is_fw_cfg_data, is_fw_cfg_selector, is_dma_high, is_dma_low, write_block, start_transfer, write_ich9}
 use Rattle.hp_model.specs.Access.{stands_in_smm, access_effect, answer_to}
-use Rattle.hp_model.specs.Firmware.{row_at, seat, is_that_access, is_handlers, wanted_in, go_on, with_next, row_led, handlers_led, firmware_led}
+use Rattle.hp_model.specs.Firmware.{label_at, seat, is_that_access, is_handlers, wanted_in, moved_in_smm, with_next, row_effect, handlers_effect, firmware_effect}
 use Rattle.hp_model.specs.Step.{After, is_enabled, effect_of, insert, enter_smm, leave_smm, after}
 use Rattle.hp_model.specs.Runs.{run_on, address_of}
 use Rattle.hp_model.specs.Transitions.{Transition, transitions, at_each, places, has_left, left_in}
@@ -162,7 +162,7 @@ remains_set s t k d is here j = subst (λ cs. Keeps (at s j) (cpu_at cs j)) (sym
 
 remains_next : (s u : State) (k b : ℕ) (n : Next) → ((j : ℕ) → Stays (at s j) (at u j)) → Remains s (with_next k b n u)
 remains_next s u k b n stays j f =
-    remains_set u (with_next k b n u) k (go_on b n (at u k)) refl (pick (Keeps (at u k)) (stands_in_smm (at u k)) (moved (address_of_label b n.label) n.base (at u k)) (at u k) (λ g. g) (λ g. g)) j ((stays j).present ∙ f)
+    remains_set u (with_next k b n u) k (moved_in_smm b n (at u k)) refl (pick (Keeps (at u k)) (stands_in_smm (at u k)) (moved (address_of_label b n.label) n.base (at u k)) (at u k) (λ g. g) (λ g. g)) j ((stays j).present ∙ f)
 
 -- or it was by a write of the register block
 abbrev Departs : Platform → State → Entry → State → Type 0
@@ -179,11 +179,11 @@ departs_outside p s k a e event place = by_writes (writes_block a) refl
     by_writes true w = inr (either_last (is_at p E4b e) (interferes e) (rw (place, event, w) refl))
     by_writes false w = inl (λ j f. (stays_unblocked p k false a s w j).present ∙ f)
 
-departs_row : (p : Platform) (m : List Write) (s : State) (k : ℕ) (l : Label) (e : Entry) (a : Access) (w : Option Want) → Sound p → Invariant p m s → AtRow p s k l → smm_address (at s k) ≡ e.at → want_at (layout_of p) (seat p s k) s.monarch l ≡ w → is_that_access w a ≡ true → Departs p s e (row_led p s k (answer_to true a s) (Some l) (access_effect p k true a s))
+departs_row : (p : Platform) (m : List Write) (s : State) (k : ℕ) (l : Label) (e : Entry) (a : Access) (w : Option Want) → Sound p → Invariant p m s → AtRow p s k l → smm_address (at s k) ≡ e.at → want_at (layout_of p) (seat p s k) s.monarch l ≡ w → is_that_access w a ≡ true → Departs p s e (row_effect p s k (answer_to true a s) (Some l) (access_effect p k true a s))
 departs_row p m s k l e a None sound h here place is f = absurd cc
 departs_row p m s k l e a (Some (want.Do b)) sound h here place is f = by_label (same_label l E4b) refl
   where
-    by_label : (c : Bool) → same_label l E4b ≡ c → Departs p s e (row_led p s k (answer_to true a s) (Some l) (access_effect p k true a s))
+    by_label : (c : Bool) → same_label l E4b ≡ c → Departs p s e (row_effect p s k (answer_to true a s) (Some l) (access_effect p k true a s))
     by_label true same =
         let label : l ≡ E4b = label_same l E4b (eqb-true (mark_of l) (mark_of E4b) same) in
         let mine : part_of l ≡ Monarchs = ap part_of label in
@@ -196,15 +196,15 @@ departs_row p m s k l e a (Some (want.Do b)) sound h here place is f = by_label 
 departs_row p m s k l e a (Some (want.Tell o)) sound h here place is f = absurd cc
 departs_row p m s k l e a (Some want.Resume) sound h here place is f = absurd cc
 
-departs_event : (p : Platform) (m : List Write) (s : State) (e : Entry) (v : Event) → Sound p → Invariant p m s → e.event ≡ v → address_of s v ≡ e.at → is_enabled p s v ≡ true → is_handlers p s v ≡ true → Departs p s e (handlers_led p s v (effect_of p s v))
+departs_event : (p : Platform) (m : List Write) (s : State) (e : Entry) (v : Event) → Sound p → Invariant p m s → e.event ≡ v → address_of s v ≡ e.at → is_enabled p s v ≡ true → is_handlers p s v ≡ true → Departs p s e (handlers_effect p s v (effect_of p s v))
 departs_event p m s e (Insert k) sound h event place may wanted = inl (remains_set s (insert k s) k inserted refl (λ f. refl))
 departs_event p m s e (Remove k) sound h event place may wanted = inl (λ j f. f)
 departs_event p m s e (Do k a) sound h event place may wanted = by_mode (is_in_smm (at s k).mode) refl wanted
   where
-    by_mode : (b : Bool) → is_in_smm (at s k).mode ≡ b → (not b || is_that_access (wanted_at (layout_of p) s.monarch (seat p s k) (row_at p s k)) a) ≡ true → Departs p s e (cond b (row_led p s k (answer_to b a s) (row_at p s k) (access_effect p k b a s)) (access_effect p k b a s))
-    by_mode true mode f = by_row (row_at p s k) refl f
+    by_mode : (b : Bool) → is_in_smm (at s k).mode ≡ b → (not b || is_that_access (wanted_at (layout_of p) s.monarch (seat p s k) (label_at p s k)) a) ≡ true → Departs p s e (cond b (row_effect p s k (answer_to b a s) (label_at p s k) (access_effect p k b a s)) (access_effect p k b a s))
+    by_mode true mode f = by_row (label_at p s k) refl f
       where
-        by_row : (o : Option Label) → row_at p s k ≡ o → is_that_access (wanted_at (layout_of p) s.monarch (seat p s k) o) a ≡ true → Departs p s e (row_led p s k (answer_to true a s) o (access_effect p k true a s))
+        by_row : (o : Option Label) → label_at p s k ≡ o → is_that_access (wanted_at (layout_of p) s.monarch (seat p s k) o) a ≡ true → Departs p s e (row_effect p s k (answer_to true a s) o (access_effect p k true a s))
         by_row None is f = absurd cc
         by_row (Some l) is f = departs_row p m s k l e a (want_at (layout_of p) (seat p s k) s.monarch l) sound h (row_stands p m s k l sound h is) place refl f
     by_mode false mode f = departs_outside p s k a e event (sym place ∙ outside_none (at s k) mode)
@@ -212,13 +212,13 @@ departs_event p m s e (TakeSmi k) sound h event place may wanted =
     inl (pick (Remains s) (k == 0) (record (enter_smm k s) { monarch = restarted s.monarch }) (enter_smm k s) (remains_set s (record (enter_smm k s) { monarch = restarted s.monarch }) k (take_smi (at s k)) refl (λ f. f)) (remains_set s (enter_smm k s) k (take_smi (at s k)) refl (λ f. f)))
 departs_event p m s e (TakeInit k) sound h event place may wanted = inl (remains_set s (set_cpu k (take_init (at s k)) s) k (take_init (at s k)) refl (λ f. f))
 departs_event p m s e (Resume k) sound h event place may wanted = inl (remains_set s (leave_smm k s) k (resumed (saved_smbase s.locks s.writes (at s k)) (saved_rip s.locks s.writes (at s k)) (at s k)) refl (λ f. f))
-departs_event p m s e (Tell o) sound h event place may wanted = inl (by_row (row_at p s 0))
+departs_event p m s e (Tell o) sound h event place may wanted = inl (by_row (label_at p s 0))
   where
-    by_row : (l : Option Label) → Remains s (row_led p s 0 Quiet l s)
+    by_row : (l : Option Label) → Remains s (row_effect p s 0 Quiet l s)
     by_row None = λ j f. f
     by_row (Some l) = remains_next s s 0 (at s 0).smbase (next_at (layout_of p) (seat p s 0) s.monarch l (value_in Quiet)) (λ j. stays_same (at s j))
 
-departs_led : (p : Platform) (m : List Write) (s : State) (e : Entry) (g : Stage) → Sound p → Invariant p m s → is_handed g ≡ true → address_of s e.event ≡ e.at → is_enabled p s e.event ≡ true → wanted_in p s g e.event ≡ true → Departs p s e (firmware_led p s g e.event (effect_of p s e.event))
+departs_led : (p : Platform) (m : List Write) (s : State) (e : Entry) (g : Stage) → Sound p → Invariant p m s → is_handed g ≡ true → address_of s e.event ≡ e.at → is_enabled p s e.event ≡ true → wanted_in p s g e.event ≡ true → Departs p s e (firmware_effect p s g e.event (effect_of p s e.event))
 departs_led p m s e (Boots done supported) sound h handed place may wanted = absurd cc
 departs_led p m s e (Refused fact) sound h handed place may wanted = absurd cc
 departs_led p m s e (Handed requested) sound h handed place may wanted = departs_event p m s e e.event sound h refl place may wanted

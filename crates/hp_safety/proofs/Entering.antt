@@ -26,10 +26,10 @@ use Rattle.hp_sealed.proofs.Values.{value_left}
 use Rattle.hp_sealed.proofs.Starts.{set_all, first_set}
 use Rattle.hp_sealed.proofs.Places.{Base, base_based}
 use Rattle.hp_safety.proofs.Needs.{Nothing, need_of, is_aloft, is_open}
-use Rattle.hp_safety.proofs.Invariant.{held_tile, is_ready, may_return, AtCell, Saves, IsShut, IsGated, Holding, is_settled, is_past, Invariant, SeatedBy, Seated}
+use Rattle.hp_safety.proofs.Invariant.{held_tile, is_ready, may_return, AtCell, Saves, IsShut, IsGated, Holding, is_settled, is_past, Invariant, CpuPartsBy, CpuParts}
 use Rattle.hp_safety.proofs.Saves.{left_saved, left_other, saved_field}
 use Rattle.hp_safety.proofs.Aloft.{aloft_past}
-use Rattle.hp_safety.proofs.Keeps.{stands_kept, gathered, smm_present, seated, seated_absent, grows_same, seated_other, same_or}
+use Rattle.hp_safety.proofs.Keeps.{stands_kept, gathered, smm_present, cpu_parts, cpu_parts_absent, grows_same, cpu_parts_other, same_or}
 use Rattle.hp_safety.proofs.RowLeads.{settled_still}
 use Rattle.hp_safety.proofs.Accesses.{looked_small}
 
@@ -90,7 +90,7 @@ returns_saved p s l c ws base field e =
 -- SMI entry, after which the monarch's record is r
 record Enters (p : Platform) (s : State) (k : ℕ) (r : Monarch) : Type 0 where
   pub cell : (b : ℕ) → is_based p k b ≡ true → (base : ℕ) → (l : Label) × AtCell p r (saved s.locks (at s k) s.writes) k b base (b + 0x8000) l × (need_of l ≡ Nothing)
-  pub others : (j : ℕ) → j ≢ k → Seated p s.monarch s.writes j (at s j) → Seated p r s.writes j (at s j)
+  pub others : (j : ℕ) → j ≢ k → CpuParts p s.monarch s.writes j (at s j) → CpuParts p r s.writes j (at s j)
   pub slots : r.slots ≡ s.monarch.slots
   pub recorded : Recorded p r
   pub gated : IsGated p r s.writes
@@ -100,8 +100,8 @@ record Enters (p : Platform) (s : State) (k : ℕ) (r : Monarch) : Type 0 where
 -- the monarch enters at S0
 enters_first : (p : Platform) (m : List Write) (s : State) (k : ℕ) → Sound p → Invariant p m s → may_take_smi (at s k) ≡ true → (k == 0) ≡ true → Enters p s k (restarted s.monarch)
 enters_first p m s k sound h may z = record {
-  cell = λ b based base. (S0, record { runs = rw z (of_first (k == 0) (b == tile p 0) _ z based); due = refl; here = omega arith; met = tt }, refl);
-  others = λ j other seat. seated_other p s.monarch (restarted s.monarch) s.writes j (at s j) sound h.holding (grows_same s.monarch.slots) (λ e. other (e ∙ sym (eqb-true k 0 z))) (inr (λ a e. e)) seat;
+  cell = λ b based base. (S0, record { runs = rw z (of_first (k == 0) (b == tile p 0) _ z based); current = refl; here = omega arith; met = tt }, refl);
+  others = λ j other seat. cpu_parts_other p s.monarch (restarted s.monarch) s.writes j (at s j) sound h.holding (grows_same s.monarch.slots) (λ e. other (e ∙ sym (eqb-true k 0 z))) (inr (λ a e. e)) seat;
   slots = refl;
   recorded = (omega arith, h.recorded.1);
   gated = inl (shut h.gated);
@@ -140,8 +140,8 @@ enters_other p m s k sound h may z = record {
     of_other false t y z e = e
 
     by_base : (b : ℕ) (d : Bool) → (b == 0x30000) ≡ d → (d || is_other_tile (layout_of p) b) ≡ true → (base : ℕ) → (l : Label) × AtCell p s.monarch (saved s.locks (at s k) s.writes) k b base (b + 0x8000) l × (need_of l ≡ Nothing)
-    by_base b true is f base = (F1, record { runs = rw (z, is) refl; due = refl; here = omega arith; met = tt }, refl)
-    by_base b false is f base = (R1, record { runs = rw z f; due = refl; here = omega arith; met = tt }, refl)
+    by_base b true is f base = (F1, record { runs = rw (z, is) refl; current = refl; here = omega arith; met = tt }, refl)
+    by_base b false is f base = (R1, record { runs = rw z f; current = refl; here = omega arith; met = tt }, refl)
 
     cell : (b : ℕ) → is_based p k b ≡ true → (base : ℕ) → (l : Label) × AtCell p s.monarch (saved s.locks (at s k) s.writes) k b base (b + 0x8000) l × (need_of l ≡ Nothing)
     cell b based = by_base b (b == 0x30000) refl (of_other (k == 0) (b == tile p 0) ((b == 0x30000) || is_other_tile (layout_of p) b) z based)
@@ -182,10 +182,10 @@ keeps_enter p m s k r sound h may enters =
     let first = first_set s.cpus k to h.slots.first (λ e. present) in
     gathered p m (record (enter_smm k s) { monarch = r }) h.handed
     (record { marks = h.locked.marks; registers = h.locked.registers; kept = λ x g. left_then x m s.writes ws (h.locked.kept x g) (left x g) })
-    (set_all (Seated p r ws) s.cpus k to (seated_absent p r ws k)
-    (subst (λ o. SeatedBy p r ws k c.present c.smbase c.base o) (sym lands)
+    (set_all (CpuParts p r ws) s.cpus k to (cpu_parts_absent p r ws k)
+    (subst (λ o. CpuPartsBy p r ws k c.present c.smbase c.base o) (sym lands)
     (record { based = λ e. based; possible = h.slots.possible k; slotted = λ e. subst (λ (t : Slots). IsAtSlot p t.bound (apic_of p k) c.smbase) (sym enters.slots) (h.slots.slotted k e); stands = (stands.0, stands.1); saves = inr field }))
-    (λ j other. let o = enters.others j other (seated p m s j h) in
+    (λ j other. let o = enters.others j other (cpu_parts p m s j h) in
     record {
       based = o.based;
       possible = o.possible;

@@ -21,12 +21,12 @@ use Rattle.hp_model.specs.Boot.{Stage, Boots, Refused, Handed, is_handed, stage_
 use Rattle.hp_model.specs.SaveArea.{smbase_field, saved_smbase, saved_rip}
 use Rattle.hp_model.specs.Labels.{Part, First, Relocated, Monarch as Monarchs, part_of}
 use Rattle.hp_model.specs.SharedBytes.{layout_of, default_smbase_field}
-use Rattle.hp_model.specs.Slots.{place_of}
+use Rattle.hp_model.specs.Slots.{slot_among}
 use Rattle.hp_model.specs.Monarch.{Monarch}
 use Rattle.hp_model.specs.Handlers.{Seat, want_at, wanted_at, runs_at}
 use Rattle.hp_model.specs.State.{State, at, set_cpu}
 use Rattle.hp_model.specs.Access.{access_effect, answer_to}
-use Rattle.hp_model.specs.Firmware.{row_at, seat, is_that_access, is_rsm, is_handlers, wanted_in, row_led, handlers_led, firmware_led}
+use Rattle.hp_model.specs.Firmware.{label_at, seat, is_that_access, is_rsm, is_handlers, wanted_in, row_effect, handlers_effect, firmware_effect}
 use Rattle.hp_model.specs.Step.{After, is_enabled, insert, request_removal, leave_smm, effect_of, answer_of, is_disturbed_by, step}
 use Rattle.hp_sealed.specs.Left.{Sound}
 use Rattle.hp_sealed.specs.Sealed.{is_other_tile, is_based, IsAtSlot}
@@ -35,21 +35,21 @@ use Rattle.hp_sealed.proofs.Starts.{set_all, first_set}
 use Rattle.hp_sealed.proofs.Places.{Base, base_based, slot_of}
 use Rattle.hp_safety.proofs.Needs.{Nothing, Saved, need_of, is_aloft, FirstNeeds, Needs}
 use Rattle.hp_safety.proofs.EachRow.{row_of_each}
-use Rattle.hp_safety.proofs.Invariant.{held_tile, facts_of, Met, Saves, is_past, Invariant, Seated}
+use Rattle.hp_safety.proofs.Invariant.{held_tile, facts_of, Met, Saves, is_past, Invariant, CpuParts}
 use Rattle.hp_safety.proofs.Aloft.{aloft_first}
 use Rattle.hp_safety.proofs.Ties.{Free, tie_of}
 use Rattle.hp_sealed.proofs.Goes.{stepped}
-use Rattle.hp_safety.proofs.Keeps.{unmoved, gathered, smm_present, seated, seated_stays, seated_absent, seated_outside, reach_base, that_is, AtRow, row_stands, due_label_is}
+use Rattle.hp_safety.proofs.Keeps.{unmoved, gathered, smm_present, cpu_parts, cpu_parts_stays, cpu_parts_absent, cpu_parts_outside, reach_base, that_is, AtRow, row_stands, current_label_is}
 use Rattle.hp_safety.proofs.Rows.{slot_tile}
 use Rattle.hp_safety.proofs.Accesses.{keeps_outside, keeps_access, keeps_told}
 use Rattle.hp_safety.proofs.Entering.{keeps_smi}
 
 -- one processor changes, and memory doesn't
-keeps_cpu : (p : Platform) (m : List Write) (s : State) (k : ℕ) (d : Cpu) → Invariant p m s → Seated p s.monarch s.writes k d → (k ≡ 0 → d.present ≡ true) → (k ≡ 0 → smm_address d ≡ None → need_of s.monarch.label ≡ Nothing) → (is_past (smm_address (at s k)) ≡ false → is_past (smm_address d) ≡ false) → Invariant p m (set_cpu k d s)
+keeps_cpu : (p : Platform) (m : List Write) (s : State) (k : ℕ) (d : Cpu) → Invariant p m s → CpuParts p s.monarch s.writes k d → (k ≡ 0 → d.present ≡ true) → (k ≡ 0 → smm_address d ≡ None → need_of s.monarch.label ≡ Nothing) → (is_past (smm_address (at s k)) ≡ false → is_past (smm_address d) ≡ false) → Invariant p m (set_cpu k d s)
 keeps_cpu p m s k d h sits first rests calm =
     let there = first_set s.cpus k d h.slots.first first in
     gathered p m (set_cpu k d s) h.handed (record { marks = h.locked.marks; registers = h.locked.registers; kept = h.locked.kept })
-    (set_all (Seated p s.monarch s.writes) s.cpus k d (seated_absent p s.monarch s.writes k) sits (λ j other. seated p m s j h)) there h.gated
+    (set_all (CpuParts p s.monarch s.writes) s.cpus k d (cpu_parts_absent p s.monarch s.writes k) sits (λ j other. cpu_parts p m s j h)) there h.gated
     (set_all (λ j c. j ≡ 0 → c.present ≡ true → smm_address c ≡ None → need_of s.monarch.label ≡ Nothing) s.cpus k d (λ i e f. absurd cc) (λ i e f. rests i f)
     (λ j other i e f. h.rests (subst (λ x. smm_address (at s x) ≡ None) i f)) 0 refl there)
     h.recorded h.holding
@@ -70,7 +70,7 @@ stays_init c e =
 keeps_init : (p : Platform) (m : List Write) (s : State) (k : ℕ) → Invariant p m s → may_take_init (at s k) ≡ true → Invariant p m (set_cpu k (take_init (at s k)) s)
 keeps_init p m s k h may =
     let stays : Stays (at s k) (take_init (at s k)) = stays_init (at s k) may in
-    keeps_cpu p m s k (take_init (at s k)) h (seated_stays p s.monarch s.writes k (at s k) (take_init (at s k)) stays (seated p m s k h))
+    keeps_cpu p m s k (take_init (at s k)) h (cpu_parts_stays p s.monarch s.writes k (at s k) (take_init (at s k)) stays (cpu_parts p m s k h))
     (λ e. stays.present ∙ subst (λ i. (at s i).present ≡ true) (sym e) h.slots.first)
     (λ e f. h.rests (subst (λ i. smm_address (at s i) ≡ None) e (sym stays.address ∙ f)))
     (λ e. ap is_past stays.address ∙ e)
@@ -81,7 +81,7 @@ keeps_insert p m s k h may =
     let parts = and_parts (nat_lt k (count_of p)) (not (at s k).present) may in
     let other : k ≢ 0 = λ e. was_absent (at s k).present parts.1 (subst (λ i. (at s i).present ≡ true) (sym e) h.slots.first) in
     unmoved p m (set_cpu k inserted s) (with_insert s.block k) (with_event processor_event s.ich9) s.fw_cfg s.stage s.disturbed h.handed
-    (keeps_cpu p m s k inserted h (seated_outside p s.monarch s.writes k inserted refl (λ e. based_new k other) (λ e. ltb-true k (count_of p) parts.0) (λ e. inl refl)) (λ e. refl) (λ e f. absurd (other e)) (λ e. refl))
+    (keeps_cpu p m s k inserted h (cpu_parts_outside p s.monarch s.writes k inserted refl (λ e. based_new k other) (λ e. ltb-true k (count_of p) parts.0) (λ e. inl refl)) (λ e. refl) (λ e f. absurd (other e)) (λ e. refl))
   where
     was_absent : (b : Bool) → not b ≡ true → b ≡ true → ⊥
     was_absent true e f = cc
@@ -134,9 +134,9 @@ reads_first p m s k l sound h here is =
     subst (λ a. Reads p s k (value_from (byte_at s.writes) (a + smbase_field) 4)) (sym (eqb-true b 0x30000 parts.1))
     (elim (or_cases (value_from (byte_at s.writes) default_smbase_field 4 == 0x30000) (value_from (byte_at s.writes) default_smbase_field 4 == held_tile p r.slots) met.1) [
       | inl e ↦ subst (Reads p s k) (sym (eqb-true (value_from (byte_at s.writes) default_smbase_field 4) 0x30000 e)) (record { based = default_based (k == 0) refl parts.0; slotted = inl refl })
-      | inr e ↦ (let own : held_tile p r.slots ≡ tile p (place_of r.slots.bound (apic_of p k)) = rw held refl in
+      | inr e ↦ (let own : held_tile p r.slots ≡ tile p (slot_among r.slots.bound (apic_of p k)) = rw held refl in
           subst (Reads p s k) (sym (eqb-true (value_from (byte_at s.writes) default_smbase_field 4) (held_tile p r.slots) e ∙ own))
-          (record { based = tile_based (k == 0) refl parts.0 (tile p (place_of r.slots.bound (apic_of p k))) (slot_tile p (place_of r.slots.bound (apic_of p k)) (h.holding.slot (apic_of p k) held)); slotted = inr (h.holding.in_bound (apic_of p k) held, refl) }))
+          (record { based = tile_based (k == 0) refl parts.0 (tile p (slot_among r.slots.bound (apic_of p k))) (slot_tile p (slot_among r.slots.bound (apic_of p k)) (h.holding.slot (apic_of p k) held)); slotted = inr (h.holding.in_bound (apic_of p k) held, refl) }))
     ])
   where
     default_based : (c : Bool) → (k == 0) ≡ c → not c ≡ true → is_based p k 0x30000 ≡ true
@@ -178,7 +178,7 @@ keeps_rsm p m s k l sound h here wanted =
     let read = reads p m s k l sound h here returns in
     let same = returns_to p m s k l sound h here returns in
     let to : Cpu = resumed (saved_smbase s.locks s.writes c) (saved_rip s.locks s.writes c) c in
-    keeps_cpu p m s k to h (seated_outside p s.monarch s.writes k to (none_if c.present None) (λ e. rw same read.based) (h.slots.possible k) (λ e. subst (IsAtSlot p s.monarch.slots.bound (apic_of p k)) (sym same) read.slotted)) (λ e. present)
+    keeps_cpu p m s k to h (cpu_parts_outside p s.monarch s.writes k to (none_if c.present None) (λ e. rw same read.based) (h.slots.possible k) (λ e. subst (IsAtSlot p s.monarch.slots.bound (apic_of p k)) (sym same) read.slotted)) (λ e. present)
     (λ e f. resting e returns) (λ e. ap is_past (none_if c.present None))
   where
     none_if : (b : Bool) (o : Option ℕ) → cond b o o ≡ o
@@ -193,7 +193,7 @@ keeps_rsm p m s k l sound h here wanted =
     resting : k ≡ 0 → Returns l → need_of s.monarch.label ≡ Nothing
     resting z returns =
         let side = monarchs (part_of l) (subst (λ i. runs_at (layout_of p) (part_of l) i (at s k).smbase ≡ true) z here.cell.runs) in
-        let label = due_label_is s.monarch l here.cell.due side in
+        let label = current_label_is s.monarch l here.cell.current side in
         ap need_of label ∙ free side returns
       where
         free : part_of l ≡ Monarchs → Returns l → need_of l ≡ Nothing
@@ -201,25 +201,25 @@ keeps_rsm p m s k l sound h here wanted =
         free side (inr n) = n.1
 
 -- each event that is enabled, and wanted by whoever makes it
-keeps_event : (p : Platform) (m : List Write) (s : State) (e : Event) → Sound p → Invariant p m s → is_enabled p s e ≡ true → is_handlers p s e ≡ true → Invariant p m (handlers_led p s e (effect_of p s e))
+keeps_event : (p : Platform) (m : List Write) (s : State) (e : Event) → Sound p → Invariant p m s → is_enabled p s e ≡ true → is_handlers p s e ≡ true → Invariant p m (handlers_effect p s e (effect_of p s e))
 keeps_event p m s (Insert k) sound h may wanted = keeps_insert p m s k h may
 keeps_event p m s (Remove k) sound h may wanted = keeps_removal p m s k h
 keeps_event p m s (Do k a) sound h may wanted = by_mode (is_in_smm (at s k).mode) wanted
   where
-    by_mode : (b : Bool) → (not b || is_that_access (wanted_at (layout_of p) s.monarch (seat p s k) (row_at p s k)) a) ≡ true → Invariant p m (cond b (row_led p s k (answer_to b a s) (row_at p s k) (access_effect p k b a s)) (access_effect p k b a s))
-    by_mode true f = keeps_access p m s k a (row_at p s k) sound h refl f
+    by_mode : (b : Bool) → (not b || is_that_access (wanted_at (layout_of p) s.monarch (seat p s k) (label_at p s k)) a) ≡ true → Invariant p m (cond b (row_effect p s k (answer_to b a s) (label_at p s k) (access_effect p k b a s)) (access_effect p k b a s))
+    by_mode true f = keeps_access p m s k a (label_at p s k) sound h refl f
     by_mode false f = keeps_outside p m s k a sound h
 keeps_event p m s (TakeSmi k) sound h may wanted = keeps_smi p m s k sound h may
 keeps_event p m s (TakeInit k) sound h may wanted = keeps_init p m s k h may
-keeps_event p m s (Resume k) sound h may wanted = by_row (row_at p s k) refl wanted
+keeps_event p m s (Resume k) sound h may wanted = by_row (label_at p s k) refl wanted
   where
-    by_row : (o : Option Label) → row_at p s k ≡ o → is_rsm (wanted_at (layout_of p) s.monarch (seat p s k) o) ≡ true → Invariant p m (leave_smm k s)
+    by_row : (o : Option Label) → label_at p s k ≡ o → is_rsm (wanted_at (layout_of p) s.monarch (seat p s k) o) ≡ true → Invariant p m (leave_smm k s)
     by_row None is f = absurd cc
     by_row (Some l) is f = keeps_rsm p m s k l sound h (row_stands p m s k l sound h is) f
-keeps_event p m s (Tell o) sound h may wanted = keeps_told p m s o (row_at p s 0) sound h refl wanted
+keeps_event p m s (Tell o) sound h may wanted = keeps_told p m s o (label_at p s 0) sound h refl wanted
 
 -- a step after the hand-over
-keeps_led_by : (p : Platform) (m : List Write) (s : State) (e : Event) (g : Stage) → Sound p → Invariant p m s → is_handed g ≡ true → is_enabled p s e ≡ true → wanted_in p s g e ≡ true → Invariant p m (firmware_led p s g e (effect_of p s e))
+keeps_led_by : (p : Platform) (m : List Write) (s : State) (e : Event) (g : Stage) → Sound p → Invariant p m s → is_handed g ≡ true → is_enabled p s e ≡ true → wanted_in p s g e ≡ true → Invariant p m (firmware_effect p s g e (effect_of p s e))
 keeps_led_by p m s e (Boots done supported) sound h handed may wanted = absurd cc
 keeps_led_by p m s e (Refused fact) sound h handed may wanted = absurd cc
 keeps_led_by p m s e (Handed requested) sound h handed may wanted = keeps_event p m s e sound h may wanted
@@ -232,7 +232,7 @@ handed_after mib a (Handed requested) e = refl
 pub keeps : (p : Platform) (m : List Write) (s : State) (e : Event) (t : After) → Sound p → Invariant p m s → step p s e ≡ Some t → Invariant p m t.state
 keeps p m s e t sound h is =
     let g = stepped p s e t is in
-    let u = firmware_led p s s.stage e (effect_of p s e) in
+    let u = firmware_effect p s s.stage e (effect_of p s e) in
     subst (λ x. Invariant p m x.state) g.is
     (unmoved p m u u.block u.ich9 u.fw_cfg (stage_after p.tseg_mib (answer_of s e) s.stage) (is_disturbed_by s e) (handed_after p.tseg_mib (answer_of s e) s.stage h.handed)
     (keeps_led_by p m s e s.stage sound h h.handed g.enabled g.wanted))

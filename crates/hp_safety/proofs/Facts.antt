@@ -20,12 +20,12 @@ use Rattle.hp_model.specs.Boot.{Stage, Boots, Refused, Handed, is_handed, value_
 use Rattle.hp_model.specs.Labels.{index_of}
 use Rattle.hp_model.specs.SharedBytes.{layout_of, arrived_byte}
 use Rattle.hp_model.specs.SaveArea.{saved_smbase, saved_rip}
-use Rattle.hp_model.specs.Slots.{Slots, is_known as known_in, place_of, completed, forgotten}
-use Rattle.hp_model.specs.Monarch.{Monarch, is_that, noted, told}
+use Rattle.hp_model.specs.Slots.{Slots, is_known as known_in, slot_among, completed, forgotten}
+use Rattle.hp_model.specs.Monarch.{Monarch, is_that, noted, after_tell}
 use Rattle.hp_model.specs.Handlers.{next_at}
 use Rattle.hp_model.specs.State.{State, at}
 use Rattle.hp_model.specs.Access.{same_access}
-use Rattle.hp_model.specs.Firmware.{seat, wanted_in, firmware_led}
+use Rattle.hp_model.specs.Firmware.{seat, wanted_in, firmware_effect}
 use Rattle.hp_model.specs.Step.{After, effect_of, step}
 use Rattle.hp_model.specs.Runs.{run_on}
 use Rattle.hp_model.specs.Events.{access_in, outcome_in, is_access_of}
@@ -84,27 +84,27 @@ set_past (y ∷ ys) zero x h = absurd (omega (arith, h))
 set_past (y ∷ ys) (suc k) x h = ap (λ zs. y ∷ zs) (set_past ys k x (omega (arith, h)))
 
 -- another APIC ID's look-up
-other_known : (p : Platform) (s : Slots) (a x : ℕ) (b : Bool) → Placed p s → a ≢ x → slice_index_or (slice_set s.known (place_of s.bound a) b) (place_of s.bound x) false ≡ known_in s x
+other_known : (p : Platform) (s : Slots) (a x : ℕ) (b : Bool) → Placed p s → a ≢ x → slice_index_or (slice_set s.known (slot_among s.bound a) b) (slot_among s.bound x) false ≡ known_in s x
 other_known p s a x b h other = by_bound (is_in a s.bound) refl (is_in x s.bound) refl
   where
-    by_bound : (c : Bool) → is_in a s.bound ≡ c → (d : Bool) → is_in x s.bound ≡ d → slice_index_or (slice_set s.known (place_of s.bound a) b) (place_of s.bound x) false ≡ known_in s x
-    by_bound true f true g = get_or-set_other s.known (place_of s.bound a) (place_of s.bound x) b false (λ same. other (place_same s.bound a x f g (sym same)))
-    by_bound true f false g = let out = place_out s.bound x g in let below = place_below s.bound a f in get_or-set_other s.known (place_of s.bound a) (place_of s.bound x) b false (λ same. omega (arith, same, out, below))
-    by_bound false f d g = let out = place_out s.bound a f in let same = h.known in ap (λ bs. slice_index_or bs (place_of s.bound x) false) (set_past s.known (place_of s.bound a) b (omega (arith, out, same)))
+    by_bound : (c : Bool) → is_in a s.bound ≡ c → (d : Bool) → is_in x s.bound ≡ d → slice_index_or (slice_set s.known (slot_among s.bound a) b) (slot_among s.bound x) false ≡ known_in s x
+    by_bound true f true g = get_or-set_other s.known (slot_among s.bound a) (slot_among s.bound x) b false (λ same. other (place_same s.bound a x f g (sym same)))
+    by_bound true f false g = let out = place_out s.bound x g in let below = place_below s.bound a f in get_or-set_other s.known (slot_among s.bound a) (slot_among s.bound x) b false (λ same. omega (arith, same, out, below))
+    by_bound false f d g = let out = place_out s.bound a f in let same = h.known in ap (λ bs. slice_index_or bs (slot_among s.bound x) false) (set_past s.known (slot_among s.bound a) b (omega (arith, out, same)))
 
-told_alike : (p : Platform) (o : Outcome) (r : Monarch) (a : ℕ) → Placed p r.slots → Holding p r.slots → IsHeldBy o r.slots.held → unwrap_or (told_known a o) (known_in r.slots a) ≡ known_in (told o r).slots a
+told_alike : (p : Platform) (o : Outcome) (r : Monarch) (a : ℕ) → Placed p r.slots → Holding p r.slots → IsHeldBy o r.slots.held → unwrap_or (told_known a o) (known_in r.slots a) ≡ known_in (after_tell o r).slots a
 told_alike p (outcome.Added cpu apic slot) r a placed holding held = by_same (apic == a) refl
   where
     by_same : (c : Bool) → (apic == a) ≡ c → unwrap_or (if c then Some true else None) (known_in r.slots a) ≡ known_in (completed apic r.slots) a
     by_same true is =
         let below = place_below r.slots.bound apic (holding.in_bound apic held) in
         let same = placed.known in
-        sym (subst (λ x. known_in (completed apic r.slots) x ≡ true) (eqb-true apic a is) (set_here r.slots.known (place_of r.slots.bound apic) true false (omega (arith, below, same))))
+        sym (subst (λ x. known_in (completed apic r.slots) x ≡ true) (eqb-true apic a is) (set_here r.slots.known (slot_among r.slots.bound apic) true false (omega (arith, below, same))))
     by_same false is = sym (other_known p r.slots apic a true placed (unlike apic a is))
 told_alike p (outcome.Ejected cpu apic slot) r a placed holding held = by_same (apic == a) refl
   where
     by_same : (c : Bool) → (apic == a) ≡ c → unwrap_or (if c then Some false else None) (known_in r.slots a) ≡ known_in (forgotten apic r.slots) a
-    by_same true is = sym (subst (λ x. known_in (forgotten apic r.slots) x ≡ false) (eqb-true apic a is) (set_default r.slots.known (place_of r.slots.bound apic) false))
+    by_same true is = sym (subst (λ x. known_in (forgotten apic r.slots) x ≡ false) (eqb-true apic a is) (set_default r.slots.known (slot_among r.slots.bound apic) false))
     by_same false is = sym (other_known p r.slots apic a false placed (unlike apic a is))
 told_alike p (outcome.Refused why) r a placed holding held = refl
 
@@ -112,29 +112,29 @@ pub known_more : (p : Platform) (es : List Entry) (e : Entry) (a : ℕ) → know
 unfolding known_by
 known_more p es e a = refl
 
-told_last : (o : Outcome) (r : Monarch) → (told o r).last ≡ r.last
+told_last : (o : Outcome) (r : Monarch) → (after_tell o r).last ≡ r.last
 told_last (outcome.Added cpu apic slot) r = refl
 told_last (outcome.Ejected cpu apic slot) r = refl
 told_last (outcome.Refused why) r = refl
 
-pub told_size : (o : Outcome) (r : Monarch) → (told o r).slots.bound ≡ r.slots.bound
+pub told_size : (o : Outcome) (r : Monarch) → (after_tell o r).slots.bound ≡ r.slots.bound
 told_size (outcome.Added cpu apic slot) r = refl
 told_size (outcome.Ejected cpu apic slot) r = refl
 told_size (outcome.Refused why) r = refl
 
 noted_size : (p : Platform) (l : Label) (v : ℕ) (r : Monarch) → length r.last ≡ length r.slots.bound → length (noted_at p l v r).last ≡ length (noted_at p l v r).slots.bound
 noted_size p l v r e =
-    pick (λ (t : Monarch). length t.last ≡ length t.slots.bound) (index_of l == 34) (told r.outcome r) _ (ap length (told_last r.outcome r) ∙ (e ∙ sym (ap length (told_size r.outcome r))))
+    pick (λ (t : Monarch). length t.last ≡ length t.slots.bound) (index_of l == 34) (after_tell r.outcome r) _ (ap length (told_last r.outcome r) ∙ (e ∙ sym (ap length (told_size r.outcome r))))
     (pick (λ (t : Monarch). length t.last ≡ length t.slots.bound) (index_of l == 3) (noted r.slot v r) _ (length-set r.last r.slot v ∙ e)
     (pick (λ (t : Monarch). length t.last ≡ length t.slots.bound) ((index_of l == 21) || (index_of l == 24)) (noted r.add.slot v r) r (length-set r.last r.add.slot v ∙ e) e))
 
 noted_features : (p : Platform) (l : Label) (v : ℕ) (r : Monarch) → (noted_at p l v r).features ≡ r.features
 noted_features p l v r =
-    pick (λ (t : Monarch). t.features ≡ r.features) (index_of l == 34) (told r.outcome r) _ (of_told r.outcome)
+    pick (λ (t : Monarch). t.features ≡ r.features) (index_of l == 34) (after_tell r.outcome r) _ (of_told r.outcome)
     (pick (λ (t : Monarch). t.features ≡ r.features) (index_of l == 3) (noted r.slot v r) _ refl
     (pick (λ (t : Monarch). t.features ≡ r.features) ((index_of l == 21) || (index_of l == 24)) (noted r.add.slot v r) r refl refl))
   where
-    of_told : (o : Outcome) → (told o r).features ≡ r.features
+    of_told : (o : Outcome) → (after_tell o r).features ≡ r.features
     of_told (outcome.Added cpu apic slot) = refl
     of_told (outcome.Ejected cpu apic slot) = refl
     of_told (outcome.Refused why) = refl
@@ -182,9 +182,9 @@ module _ (p : Platform) (past : List Transition) (s : State) (e : Entry) (fit : 
 
     add_less : is_adding r ≡ true → r.add.slot < length r.last
     add_less adds =
-        let parts = and_parts (is_that r.slots.held r.add.apic) (r.add.slot == place_of r.slots.bound r.add.apic) adds in
+        let parts = and_parts (is_that r.slots.held r.add.apic) (r.add.slot == slot_among r.slots.bound r.add.apic) adds in
         let below = place_below r.slots.bound r.add.apic (h.holding.in_bound r.add.apic (that_is r.slots.held r.add.apic parts.0)) in
-        let slot = eqb-true r.add.slot (place_of r.slots.bound r.add.apic) parts.1 in
+        let slot = eqb-true r.add.slot (slot_among r.slots.bound r.add.apic) parts.1 in
         let size = facts.size in
         omega (arith, below, slot, size)
 
@@ -271,7 +271,7 @@ module _ (p : Platform) (past : List Transition) (s : State) (e : Entry) (fit : 
       (record { known = known_still (ap outcome_in o.event); size = facts.size; seen = facts.seen; features = facts.features; looks = λ i. absurd (stays i o.event) })
 
 -- RSM leaves SMM
-left_led : (p : Platform) (s : State) (g : Stage) → is_handed g ≡ true → wanted_in p s g (Resume 0) ≡ true → smm_address (at (firmware_led p s g (Resume 0) (effect_of p s (Resume 0))) 0) ≡ None
+left_led : (p : Platform) (s : State) (g : Stage) → is_handed g ≡ true → wanted_in p s g (Resume 0) ≡ true → smm_address (at (firmware_effect p s g (Resume 0) (effect_of p s (Resume 0))) 0) ≡ None
 left_led p s (Boots done supported) handed wanted = absurd cc
 left_led p s (Refused fact) handed wanted = absurd cc
 left_led p s (Handed requested) handed wanted =
@@ -285,7 +285,7 @@ left_smm : (p : Platform) (s : State) (e : Event) (t : After) → is_handed s.st
 left_smm p s e t handed is event =
     let g = stepped p s e t is in
     subst (λ (x : After). smm_address (at x.state 0) ≡ None) g.is
-    (subst (λ x. wanted_in p s s.stage x ≡ true → smm_address (at (firmware_led p s s.stage x (effect_of p s x)) 0) ≡ None) (sym event) (left_led p s s.stage handed) g.wanted)
+    (subst (λ x. wanted_in p s s.stage x ≡ true → smm_address (at (firmware_effect p s s.stage x (effect_of p s x)) 0) ≡ None) (sym event) (left_led p s s.stage handed) g.wanted)
 
 pub facts_on : (p : Platform) (past : List Transition) (s t : State) (e : Entry) → Sound p → IsHanded p s → run_on p s e ≡ Some t → HeldTied p past s → FactsTied p past s → FactsTied p (step_made s e t ∷ past) t
 facts_on p past s t e fit h on tied facts =

@@ -9,7 +9,7 @@ use Rattle.hp_model.specs.Monarch.{Monarch}
 use Rattle.hp_model.specs.State.{State, start}
 use Rattle.hp_model.specs.Runs.{run_on}
 use Rattle.hp_model.specs.Transitions.{Transition, transitions, entries_of, since, at_each_state}
-use Rattle.hp_model.specs.Sessions.{bounds_session, session, was_at, interferes, disturbed_in, is_disturbed, flag_tells}
+use Rattle.hp_model.specs.Sessions.{bounds_session, session, was_at, interferes, disturbed_in, is_disturbed, flag_agrees}
 use Rattle.hp_model.proofs.AtEach.{made as step_made, each_passes}
 use Rattle.hp_sealed.specs.Left.{Sound}
 use Rattle.hp_sealed.specs.Booting.{IsBooted}
@@ -71,7 +71,7 @@ module _ (p : Platform) (fits : IsFit p) where
       let m = made p s e t on in
       inr (subst (IsHanded p) m.state (rebase p s.writes m.after.state fit (keeps p s.writes s e.event m.after fit h.0 m.step)), call_on p past s t e fit h.0 on h.1)
 
-tells_flag : (p : Platform) (past : List Transition) (s : State) → Flags p past s → flag_tells p (entries_of past) s ≡ true
+tells_flag : (p : Platform) (past : List Transition) (s : State) → Flags p past s → flag_agrees p (entries_of past) s ≡ true
 tells_flag p past s (inl h) = rw h.1.0 refl
 tells_flag p past s (inr h) = by_stage (stage_of s.monarch.label) h.1
   where
@@ -81,12 +81,12 @@ tells_flag p past s (inr h) = by_stage (stage_of s.monarch.label) h.1
     by_flag false true f = absurd cc
     by_flag false false f = refl
 
-    by_stage : (x : Call) → CallAt (was_at p S2 (session (entries_of past))) (was_at p E5 (session (entries_of past))) (is_disturbed p (entries_of past)) s.disturbed x → flag_tells p (entries_of past) s ≡ true
+    by_stage : (x : Call) → CallAt (was_at p S2 (session (entries_of past))) (was_at p E5 (session (entries_of past))) (is_disturbed p (entries_of past)) s.disturbed x → flag_agrees p (entries_of past) s ≡ true
     by_stage Before c = rw c.0 refl
     by_stage Called c = rw (c.0, c.1) (by_flag s.disturbed (is_disturbed p (entries_of past)) c.2)
     by_stage Past c = rw c refl
 
-pub flag_law : (p : Platform) (es : List Entry) → IsFit p → at_each_state p (flag_tells p) (transitions p es) ≡ true
+pub flag_law : (p : Platform) (es : List Entry) → IsFit p → at_each_state p (flag_agrees p) (transitions p es) ≡ true
 flag_law p es fits =
-    at_states p (flag_tells p) (transitions p es) (tells_flag p [] (start p) (flags_first p fits))
-    (each_passes p (Flags p) (flags_on p fits) (λ older x. flag_tells p (entries_of (x ∷ older)) x.after) (λ past s t e h on. tells_flag p (step_made s e t ∷ past) t (flags_on p fits past s t e h on)) (flags_first p fits) es)
+    at_states p (flag_agrees p) (transitions p es) (tells_flag p [] (start p) (flags_first p fits))
+    (each_passes p (Flags p) (flags_on p fits) (λ older x. flag_agrees p (entries_of (x ∷ older)) x.after) (λ past s t e h on. tells_flag p (step_made s e t ∷ past) t (flags_on p fits past s t e h on)) (flags_first p fits) es)

@@ -16,7 +16,7 @@ use Rattle.hp_model.specs.View.{loaded, stored}
 use Rattle.hp_model.specs.Cpu.{smm_address}
 use Rattle.hp_model.specs.Labels.{cell_of}
 use Rattle.hp_model.specs.SharedBytes.{layout_of, gate, closed, new_smbase, default_smbase_field, release_byte, map_byte, parked_byte, session_byte}
-use Rattle.hp_model.specs.Slots.{place_of}
+use Rattle.hp_model.specs.Slots.{slot_among}
 use Rattle.hp_model.specs.Monarch.{Monarch, is_that}
 use Rattle.hp_model.specs.Handlers.{Seat, want_at}
 use Rattle.hp_model.specs.State.{State, at}
@@ -142,6 +142,6 @@ row_gates p k s q r sound locks recorded holding small l met =
 
     held_id : is_adding r ≡ true → r.add.apic < 0x10000000000000000
     held_id e =
-        let parts = and_parts (is_that r.slots.held r.add.apic) (r.add.slot == place_of r.slots.bound r.add.apic) e in
+        let parts = and_parts (is_that r.slots.held r.add.apic) (r.add.slot == slot_among r.slots.bound r.add.apic) e in
         let less = bound_id p r.slots r.add.apic sound recorded.1 (holding.in_bound r.add.apic (that_is r.slots.held r.add.apic parts.0)) in
         omega (arith, less)

@@ -19,7 +19,7 @@ use Rattle.hp_model.specs.Labels.{index_of, cell_of}
 use Rattle.hp_model.specs.SharedBytes.{layout_of}
 use Rattle.hp_model.specs.Slots.{boot_ids}
 use Rattle.hp_model.specs.Collection.{Report}
-use Rattle.hp_model.specs.Monarch.{Monarch, monarch_start, with_features, restarted, told}
+use Rattle.hp_model.specs.Monarch.{Monarch, monarch_start, with_features, restarted, after_tell}
 use Rattle.hp_model.specs.Handlers.{Seat, want_at, next_at, address_of_label}
 use Rattle.hp_model.specs.State.{State, at, start}
 use Rattle.hp_model.specs.Firmware.{seat, wanted_in}
@@ -28,7 +28,7 @@ use Rattle.hp_model.specs.Runs.{run_on, address_of}
 use Rattle.hp_model.specs.Events.{outcome_in, is_entry_of, is_resume_of}
 use Rattle.hp_model.specs.Transitions.{Transition, transitions, entries_of, since, at_each, places, has_moved}
 use Rattle.hp_model.specs.Account.{is_at, bound, held_by, left_held}
-use Rattle.hp_model.specs.Sessions.{bounds_session, session, triple_by, triples, outcomes, tells, add_runs, held}
+use Rattle.hp_model.specs.Sessions.{bounds_session, session, triple_by, triples, outcomes, is_tell, add_runs, held}
 use Rattle.hp_model.specs.Exact.{is_held, moves_held}
 use Rattle.hp_model.proofs.AtEach.{made as step_made, each_passes}
 use Rattle.hp_sealed.specs.Left.{Sound}
@@ -57,11 +57,11 @@ use Rattle.hp_safety.proofs.Tallies.{Tally, tally_of, tally_told, tally_reported
 use Rattle.hp_safety.proofs.Tallying.{row_tally, idle_resting, beginning_is, tally_held}
 
 -- the tally over one entry more
-runs_told : (p : Platform) (es : List Entry) (e : Entry) → tells e ≡ true → add_runs p (e ∷ es) ≡ false
-runs_told p es e is = rw (since_it tells e es is) refl
+runs_told : (p : Platform) (es : List Entry) (e : Entry) → is_tell e ≡ true → add_runs p (e ∷ es) ≡ false
+runs_told p es e is = rw (since_it is_tell e es is) refl
 
-runs_on : (p : Platform) (es : List Entry) (e : Entry) → tells e ≡ false → add_runs p (e ∷ es) ≡ (is_at p NB e || add_runs p es)
-runs_on p es e is = rw (since_other tells e es is) refl
+runs_on : (p : Platform) (es : List Entry) (e : Entry) → is_tell e ≡ false → add_runs p (e ∷ es) ≡ (is_at p NB e || add_runs p es)
+runs_on p es e is = rw (since_other is_tell e es is) refl
 
 told_on_none : (es : List Entry) (e : Entry) → outcome_in e.event ≡ None → outcomes (e ∷ es) ≡ outcomes es
 unfolding outcomes
@@ -83,7 +83,7 @@ empty_outcomes : outcomes [] ≡ []
 unfolding outcomes
 empty_outcomes = refl
 
-tells_none : (e : Entry) → outcome_in e.event ≡ None → tells e ≡ false
+tells_none : (e : Entry) → outcome_in e.event ≡ None → is_tell e ≡ false
 tells_none e none = rw none refl
 
 -- an entry that neither reports nor tells
@@ -114,7 +114,7 @@ tally_row p es e l t o bound six begins makes says = by_told (index_of l == 34) 
 
     by_told : (c : Bool) → (index_of l == 34) ≡ c → outcome_in e.event ≡ (if c then Some o else None) → tally_of p (e ∷ es) ≡ (if c then tally_told o (tally_of p es) else record { reports = if index_of l == 10 then triples p (session es) ++ t ∷ [] else triples p (session es); told = length (outcomes (session es)); runs = (index_of l == 11) || add_runs p es; left = left_held es })
     by_told true is some =
-        let tell : tells e ≡ true = rw some refl in
+        let tell : is_tell e ≡ true = rw some refl in
         rw (session_on es e bound, triples_more p e (session es), six, not_six (index_of l) is, told_on_some (session es) e o some, length-more (outcomes (session es)) o, runs_told p es e tell, left_on es e, some) refl
     by_told false is none =
         rw (session_on es e bound, triples_more p e (session es), six, by_report (index_of l == 10) refl, told_on_none (session es) e none, runs_on p es e (tells_none e none), begins, left_on es e, none) refl
@@ -170,7 +170,7 @@ module _ (p : Platform) (past : List Transition) (s t : State) (e : Entry) (fit 
   none_held held none = let both = sym none ∙ held in cc
 
   -- the add that is told lets go of nobody who is past the gate
-  told_keeps : (o : Outcome) → s.monarch.outcome ≡ o → s.monarch.label ≡ T → (k : ℕ) → is_past (smm_address (at s k)) ≡ true → (told o s.monarch).slots.held ≡ None → ⊥
+  told_keeps : (o : Outcome) → s.monarch.outcome ≡ o → s.monarch.label ≡ T → (k : ℕ) → is_past (smm_address (at s k)) ≡ true → (after_tell o s.monarch).slots.held ≡ None → ⊥
   told_keeps (outcome.Added cpu apic slot) is here k was none =
       let settled : is_settled p s.monarch s.writes ≡ true = rw (here, is) refl in
       let both = sym (h.settled settled k) ∙ was in

@@ -14,9 +14,9 @@ use Rattle.hp_model.specs.Boot.{is_handed}
 use Rattle.hp_model.specs.Labels.{part_of, mark_of}
 use Rattle.hp_model.specs.SharedBytes.{layout_of, gate, closed, new_smbase, default_smbase_field, arrived_byte}
 use Rattle.hp_model.specs.SaveArea.{smbase_field}
-use Rattle.hp_model.specs.Slots.{Slots, place_of}
+use Rattle.hp_model.specs.Slots.{Slots, slot_among}
 use Rattle.hp_model.specs.Monarch.{Monarch, is_that}
-use Rattle.hp_model.specs.Handlers.{runs_at, is_due, address_of_label}
+use Rattle.hp_model.specs.Handlers.{runs_at, is_current, address_of_label}
 use Rattle.hp_model.specs.State.{State, at}
 use Rattle.hp_sealed.specs.Left.{IsLeft, Locked, is_kept}
 use Rattle.hp_sealed.specs.Sealed.{is_based, Recorded, IsAtSlot}
@@ -24,7 +24,7 @@ use Rattle.hp_safety.proofs.Needs.{Nothing, need_of, is_open, settles, IsSlot, F
 
 -- the tile of the slot of the APIC ID that is held
 abbrev pub held_tile : Platform → Slots → ℕ
-held_tile p s = tile p (place_of s.bound (unwrap_or s.held 0))
+held_tile p s = tile p (slot_among s.bound (unwrap_or s.held 0))
 
 -- the new SMBASE in memory is that tile
 abbrev pub is_ready : Platform → Slots → List Write → Bool
@@ -36,7 +36,7 @@ may_return p s ws = (value_from (byte_at ws) default_smbase_field 4 == 0x30000) 
 
 -- the add is of the held APIC ID, to its slot
 abbrev pub is_adding : Monarch → Bool
-is_adding r = is_that r.slots.held r.add.apic && (r.add.slot == place_of r.slots.bound r.add.apic)
+is_adding r = is_that r.slots.held r.add.apic && (r.add.slot == slot_among r.slots.bound r.add.apic)
 
 abbrev pub facts_of : Platform → Monarch → List Write → ℕ → ℕ → Facts
 facts_of p r ws apic base = record { count = count_of p; held = is_that r.slots.held apic; ready = is_ready p r.slots ws; tiled = base == held_tile p r.slots; returns = may_return p r.slots ws; adds = is_adding r; slot = r.add.slot; ejects = nat_lt r.eject.slot (count_of p) }
@@ -48,14 +48,14 @@ Met p r ws apic base l = Needs (facts_of p r ws apic base) (part_of l) (need_of 
 -- address a is the cell of a label of the handler that runs at SMBASE b on processor k, whose row is due, and has what it needs
 pub record AtCell (p : Platform) (r : Monarch) (ws : List Write) (k b base a : ℕ) (l : Label) : Type 0 where
   pub runs : runs_at (layout_of p) (part_of l) k b ≡ true
-  pub due : is_due r (part_of l) l ≡ true
+  pub current : is_current r (part_of l) l ≡ true
   pub here : a ≡ address_of_label b l
   pub met : Met p r ws (apic_of p k) base l
 
 -- whoever is in SMM stands at such a cell
-abbrev pub Stands : Platform → Monarch → List Write → ℕ → ℕ → ℕ → Option ℕ → Type 0
-Stands p r ws k b base None = Unit {0}
-Stands p r ws k b base (Some a) = (l : Label) × AtCell p r ws k b base a l
+abbrev pub IsAtCell : Platform → Monarch → List Write → ℕ → ℕ → ℕ → Option ℕ → Type 0
+IsAtCell p r ws k b base None = Unit {0}
+IsAtCell p r ws k b base (Some a) = (l : Label) × AtCell p r ws k b base a l
 
 -- whoever is in SMM in a tile finds this tile in the field that RSM reads
 abbrev pub Saves : List Write → ℕ → Option ℕ → Type 0
@@ -69,8 +69,8 @@ pub record IsLocked (p : Platform) (m : List Write) (s : State) : Type 0 where
   pub kept : (x : ℕ) → is_kept p x ≡ true → IsLeft x m s.writes
 
 -- each processor in SMM stands at a cell of its handler
-pub record IsStanding (p : Platform) (s : State) : Type 0 where
-  pub each : (k : ℕ) → Stands p s.monarch s.writes k (at s k).smbase (at s k).base (smm_address (at s k))
+pub record AreAtCells (p : Platform) (s : State) : Type 0 where
+  pub each : (k : ℕ) → IsAtCell p s.monarch s.writes k (at s k).smbase (at s k).base (smm_address (at s k))
 
 -- each present processor is a possible one, has the default SMBASE or its slot's tile, and returns to it from a tile; processor 0 is there
 pub record HasSlots (p : Platform) (s : State) : Type 0 where
@@ -100,7 +100,7 @@ Rests s = smm_address (at s 0) ≡ None → need_of s.monarch.label ≡ Nothing
 -- the held APIC ID has a slot other than slot 0
 pub record Holding (p : Platform) (s : Slots) : Type 0 where
   pub in_bound : (a : ℕ) → s.held ≡ Some a → is_in a s.bound ≡ true
-  pub slot : (a : ℕ) → s.held ≡ Some a → IsSlot (count_of p) (place_of s.bound a)
+  pub slot : (a : ℕ) → s.held ≡ Some a → IsSlot (count_of p) (slot_among s.bound a)
 
 abbrev pub is_added : Outcome → Bool
 is_added (Added cpu apic slot) = true
@@ -124,7 +124,7 @@ Settled p s = is_settled p s.monarch s.writes ≡ true → (k : ℕ) → is_past
 pub record Invariant (p : Platform) (m : List Write) (s : State) : Type 0 where
   pub handed : is_handed s.stage ≡ true
   pub locked : IsLocked p m s
-  pub stand : IsStanding p s
+  pub stand : AreAtCells p s
   pub slots : HasSlots p s
   pub gated : IsGated p s.monarch s.writes
   pub rests : Rests s
@@ -133,12 +133,12 @@ pub record Invariant (p : Platform) (m : List Write) (s : State) : Type 0 where
   pub settled : Settled p s
 
 -- of one processor, with this presence, SMBASE, loaded base and instruction address: its share of the parts
-pub record SeatedBy (p : Platform) (r : Monarch) (ws : List Write) (k : ℕ) (present : Bool) (b base : ℕ) (o : Option ℕ) : Type 0 where
+pub record CpuPartsBy (p : Platform) (r : Monarch) (ws : List Write) (k : ℕ) (present : Bool) (b base : ℕ) (o : Option ℕ) : Type 0 where
   pub based : present ≡ true → is_based p k b ≡ true
   pub possible : present ≡ true → k < count_of p
   pub slotted : present ≡ true → IsAtSlot p r.slots.bound (apic_of p k) b
-  pub stands : Stands p r ws k b base o
+  pub stands : IsAtCell p r ws k b base o
   pub saves : Saves ws b o
 
-abbrev pub Seated : Platform → Monarch → List Write → ℕ → Cpu → Type 0
-Seated p r ws k c = SeatedBy p r ws k c.present c.smbase c.base (smm_address c)
+abbrev pub CpuParts : Platform → Monarch → List Write → ℕ → Cpu → Type 0
+CpuParts p r ws k c = CpuPartsBy p r ws k c.present c.smbase c.base (smm_address c)

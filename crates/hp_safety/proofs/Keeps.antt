@@ -17,11 +17,11 @@ use Rattle.hp_model.specs.SharedBytes.{Layout, layout_of, tile_in}
 use Rattle.hp_model.specs.FwCfg.{FwCfg}
 use Rattle.hp_model.specs.Ich9.{Ich9}
 use Rattle.hp_model.specs.SaveArea.{smbase_field}
-use Rattle.hp_model.specs.Slots.{Slots, place_of}
+use Rattle.hp_model.specs.Slots.{Slots, slot_among}
 use Rattle.hp_model.specs.Monarch.{Monarch, is_that}
-use Rattle.hp_model.specs.Handlers.{runs_at, is_due, row_of, address_of_label}
+use Rattle.hp_model.specs.Handlers.{runs_at, is_current, label_of_mark, address_of_label}
 use Rattle.hp_model.specs.State.{State, at}
-use Rattle.hp_model.specs.Firmware.{mark_at, row_at}
+use Rattle.hp_model.specs.Firmware.{mark_at, label_at}
 use Rattle.hp_sealed.specs.Left.{IsLeft, Sound, Locked, is_guarded}
 use Rattle.hp_sealed.specs.Sealed.{is_based, Recorded, IsAtSlot}
 use Rattle.hp_sealed.proofs.Stay.{Stays}
@@ -30,7 +30,7 @@ use Rattle.hp_sealed.proofs.Values.{value_left}
 use Rattle.hp_model.proofs.Marks.{found, same_label, index_small}
 use Rattle.hp_sealed.proofs.Places.{Base, base_based, kept_cell, guarded_field, runs_based}
 use Rattle.hp_safety.proofs.Needs.{Need, Ejecting, Nothing, Passing, Loaded, Saved, Adding, Opening, Open, Looking, Telling, need_of, is_aloft, Facts, FirstNeeds, Needs}
-use Rattle.hp_safety.proofs.Invariant.{held_tile, is_ready, may_return, facts_of, AtCell, Stands, Saves, IsLocked, IsGated, Rests, Holding, is_past, Settled, Invariant, SeatedBy, Seated}
+use Rattle.hp_safety.proofs.Invariant.{held_tile, is_ready, may_return, facts_of, AtCell, IsAtCell, Saves, IsLocked, IsGated, Rests, Holding, is_past, Settled, Invariant, CpuPartsBy, CpuParts}
 use Rattle.hp_safety.proofs.Aloft.{aloft_past}
 use Rattle.hp_safety.proofs.Saves.{in_reach}
 use Rattle.hp_safety.proofs.Writes.{Writes}
@@ -67,13 +67,13 @@ needs_kept f ready returns Monarchs Open more also h = (h.0, h.1, more h.2)
 needs_kept f ready returns Monarchs Looking more also h = h
 needs_kept f ready returns Monarchs Telling more also h = h
 
-pub stands_kept : (p : Platform) (r : Monarch) (ws vs : List Write) (k b base : ℕ) (o : Option ℕ) → (is_ready p r.slots ws ≡ true → is_ready p r.slots vs ≡ true) → (may_return p r.slots ws ≡ true → may_return p r.slots vs ≡ true) → Stands p r ws k b base o → Stands p r vs k b base o
+pub stands_kept : (p : Platform) (r : Monarch) (ws vs : List Write) (k b base : ℕ) (o : Option ℕ) → (is_ready p r.slots ws ≡ true → is_ready p r.slots vs ≡ true) → (may_return p r.slots ws ≡ true → may_return p r.slots vs ≡ true) → IsAtCell p r ws k b base o → IsAtCell p r vs k b base o
 stands_kept p r ws vs k b base None more also h = tt
 stands_kept p r ws vs k b base (Some a) more also h = (
   h.0,
   record {
     runs = h.1.runs;
-    due = h.1.due;
+    current = h.1.current;
     here = h.1.here;
     met = needs_kept (facts_of p r ws (apic_of p k) base) (is_ready p r.slots vs) (may_return p r.slots vs) (part_of h.0) (need_of h.0) more also h.1.met;
   },
@@ -90,8 +90,8 @@ saves_kept p ws vs b a base left h = elim base.area [
 ]
 
 -- seated stays seated
-pub seated_left : (p : Platform) (r : Monarch) (ws vs : List Write) (k : ℕ) (c : Cpu) → Sound p → Writes p r.slots ws vs → Seated p r ws k c → Seated p r vs k c
-seated_left p r ws vs k c sound writes h = record {
+pub cpu_parts_left : (p : Platform) (r : Monarch) (ws vs : List Write) (k : ℕ) (c : Cpu) → Sound p → Writes p r.slots ws vs → CpuParts p r ws k c → CpuParts p r vs k c
+cpu_parts_left p r ws vs k c sound writes h = record {
   based = h.based;
   possible = h.possible;
   slotted = h.slotted;
@@ -104,28 +104,28 @@ seated_left p r ws vs k c sound writes h = record {
     by_address (Some a) is old = saves_kept p ws vs c.smbase a (base_based p k c.smbase sound (h.based (smm_present c a is))) writes.cells old
 
 -- and where the processor stays
-pub seated_stays : (p : Platform) (r : Monarch) (ws : List Write) (k : ℕ) (c d : Cpu) → Stays c d → Seated p r ws k c → Seated p r ws k d
-seated_stays p r ws k c d s h =
-    subst (λ o. SeatedBy p r ws k d.present d.smbase d.base o) (sym s.address)
-    (subst (λ b. SeatedBy p r ws k d.present d.smbase b (smm_address c)) (sym s.base)
-    (subst (λ b. SeatedBy p r ws k d.present b c.base (smm_address c)) (sym s.smbase)
-    (subst (λ b. SeatedBy p r ws k b c.smbase c.base (smm_address c)) (sym s.present) h)))
+pub cpu_parts_stays : (p : Platform) (r : Monarch) (ws : List Write) (k : ℕ) (c d : Cpu) → Stays c d → CpuParts p r ws k c → CpuParts p r ws k d
+cpu_parts_stays p r ws k c d s h =
+    subst (λ o. CpuPartsBy p r ws k d.present d.smbase d.base o) (sym s.address)
+    (subst (λ b. CpuPartsBy p r ws k d.present d.smbase b (smm_address c)) (sym s.base)
+    (subst (λ b. CpuPartsBy p r ws k d.present b c.base (smm_address c)) (sym s.smbase)
+    (subst (λ b. CpuPartsBy p r ws k b c.smbase c.base (smm_address c)) (sym s.present) h)))
 
-pub seated_absent : (p : Platform) (r : Monarch) (ws : List Write) (k : ℕ) → Seated p r ws k absent
-seated_absent p r ws k = record { based = λ e. absurd cc; possible = λ e. absurd cc; slotted = λ e. absurd cc; stands = tt; saves = tt }
+pub cpu_parts_absent : (p : Platform) (r : Monarch) (ws : List Write) (k : ℕ) → CpuParts p r ws k absent
+cpu_parts_absent p r ws k = record { based = λ e. absurd cc; possible = λ e. absurd cc; slotted = λ e. absurd cc; stands = tt; saves = tt }
 
-pub seated_calm : (p : Platform) (r : Monarch) (ws : List Write) (k : ℕ) (c d : Cpu) → Calm c d → Seated p r ws k c → Seated p r ws k d
-seated_calm p r ws k c d calm h = elim calm [ inl s ↦ seated_stays p r ws k c d s h | inr e ↦ subst (Seated p r ws k) (sym e) (seated_absent p r ws k) ]
+pub cpu_parts_calm : (p : Platform) (r : Monarch) (ws : List Write) (k : ℕ) (c d : Cpu) → Calm c d → CpuParts p r ws k c → CpuParts p r ws k d
+cpu_parts_calm p r ws k c d calm h = elim calm [ inl s ↦ cpu_parts_stays p r ws k c d s h | inr e ↦ subst (CpuParts p r ws k) (sym e) (cpu_parts_absent p r ws k) ]
 
 -- outside SMM
-pub seated_outside : (p : Platform) (r : Monarch) (ws : List Write) (k : ℕ) (c : Cpu) → smm_address c ≡ None → (c.present ≡ true → is_based p k c.smbase ≡ true) → (c.present ≡ true → k < count_of p) → (c.present ≡ true → IsAtSlot p r.slots.bound (apic_of p k) c.smbase) → Seated p r ws k c
-seated_outside p r ws k c is based possible slotted =
-    subst (λ o. SeatedBy p r ws k c.present c.smbase c.base o) (sym is) (record { based = based; possible = possible; slotted = slotted; stands = tt; saves = tt })
+pub cpu_parts_outside : (p : Platform) (r : Monarch) (ws : List Write) (k : ℕ) (c : Cpu) → smm_address c ≡ None → (c.present ≡ true → is_based p k c.smbase ≡ true) → (c.present ≡ true → k < count_of p) → (c.present ≡ true → IsAtSlot p r.slots.bound (apic_of p k) c.smbase) → CpuParts p r ws k c
+cpu_parts_outside p r ws k c is based possible slotted =
+    subst (λ o. CpuPartsBy p r ws k c.present c.smbase c.base o) (sym is) (record { based = based; possible = possible; slotted = slotted; stands = tt; saves = tt })
 
 -- slots go on: who had a place keeps it, and who was held still is
 pub record Grows (s t : Slots) : Type 0 where
   pub still : (a : ℕ) → is_in a s.bound ≡ true → is_in a t.bound ≡ true
-  pub place : (a : ℕ) → is_in a s.bound ≡ true → place_of t.bound a ≡ place_of s.bound a
+  pub place : (a : ℕ) → is_in a s.bound ≡ true → slot_among t.bound a ≡ slot_among s.bound a
 
 pub grows_same : (s : Slots) → Grows s s
 grows_same s = record { still = λ a e. e; place = λ a e. refl }
@@ -151,7 +151,7 @@ pub same_tile_held : (p : Platform) (s t : Slots) (a : ℕ) → Holding p s → 
 same_tile_held p s t a holding grows holds e =
     let f = holds a e in
     let in_s : is_in a s.bound ≡ true = holding.in_bound a e in
-    let place : place_of t.bound a ≡ place_of s.bound a = grows.place a in_s in
+    let place : slot_among t.bound a ≡ slot_among s.bound a = grows.place a in_s in
     rw (e, f, place) refl
 
 -- what the first handler's labels need is there where the same APIC ID is held, and its tile is the same
@@ -185,10 +185,10 @@ abbrev pub Carries : Slots → Slots → Option ℕ → Type 0
 Carries s t o = (is_past o ≡ false) ⊎ Holds s t
 
 -- the monarch's record is of no matter to the others but for its slots
-due_other : (y : Layout) (r t : Monarch) (k b : ℕ) (l : Label) (q : Part) → k ≢ 0 → runs_at y q k b ≡ true → is_due r q l ≡ true → is_due t q l ≡ true
-due_other y r t k b l First other runs due = refl
-due_other y r t k b l Relocated other runs due = refl
-due_other y r t k b l Monarchs other runs due = absurd (other (eqb-true k 0 (and_parts (k == 0) (b == tile_in y 0) runs).0))
+current_other : (y : Layout) (r t : Monarch) (k b : ℕ) (l : Label) (q : Part) → k ≢ 0 → runs_at y q k b ≡ true → is_current r q l ≡ true → is_current t q l ≡ true
+current_other y r t k b l First other runs due = refl
+current_other y r t k b l Relocated other runs due = refl
+current_other y r t k b l Monarchs other runs due = absurd (other (eqb-true k 0 (and_parts (k == 0) (b == tile_in y 0) runs).0))
 
 met_other : (p : Platform) (r t : Monarch) (ws : List Write) (k b base : ℕ) (l : Label) → Sound p → Holding p r.slots → Grows r.slots t.slots → k ≢ 0 → runs_at (layout_of p) (part_of l) k b ≡ true → Carries r.slots t.slots (Some (address_of_label b l)) → Needs (facts_of p r ws (apic_of p k) base) (part_of l) (need_of l) → Needs (facts_of p t ws (apic_of p k) base) (part_of l) (need_of l)
 met_other p r t ws k b base l sound holding grows other runs carries h = by_part (part_of l) runs h
@@ -207,20 +207,20 @@ met_other p r t ws k b base l sound holding grows other runs carries h = by_part
     by_part Relocated on f = f
     by_part Monarchs on f = absurd (other (eqb-true k 0 (and_parts (k == 0) (b == tile_in (layout_of p) 0) on).0))
 
-stands_other : (p : Platform) (r t : Monarch) (ws : List Write) (k b base : ℕ) (o : Option ℕ) → Sound p → Holding p r.slots → Grows r.slots t.slots → k ≢ 0 → Carries r.slots t.slots o → Stands p r ws k b base o → Stands p t ws k b base o
+stands_other : (p : Platform) (r t : Monarch) (ws : List Write) (k b base : ℕ) (o : Option ℕ) → Sound p → Holding p r.slots → Grows r.slots t.slots → k ≢ 0 → Carries r.slots t.slots o → IsAtCell p r ws k b base o → IsAtCell p t ws k b base o
 stands_other p r t ws k b base None sound holding grows other carries h = tt
 stands_other p r t ws k b base (Some a) sound holding grows other carries h = (
   h.0,
   record {
     runs = h.1.runs;
-    due = due_other (layout_of p) r t k b h.0 (part_of h.0) other h.1.runs h.1.due;
+    current = current_other (layout_of p) r t k b h.0 (part_of h.0) other h.1.runs h.1.current;
     here = h.1.here;
     met = met_other p r t ws k b base h.0 sound holding grows other h.1.runs (subst (λ x. Carries r.slots t.slots (Some x)) h.1.here carries) h.1.met;
   },
 )
 
-pub seated_other : (p : Platform) (r t : Monarch) (ws : List Write) (k : ℕ) (c : Cpu) → Sound p → Holding p r.slots → Grows r.slots t.slots → k ≢ 0 → Carries r.slots t.slots (smm_address c) → Seated p r ws k c → Seated p t ws k c
-seated_other p r t ws k c sound holding grows other carries h = record {
+pub cpu_parts_other : (p : Platform) (r t : Monarch) (ws : List Write) (k : ℕ) (c : Cpu) → Sound p → Holding p r.slots → Grows r.slots t.slots → k ≢ 0 → Carries r.slots t.slots (smm_address c) → CpuParts p r ws k c → CpuParts p t ws k c
+cpu_parts_other p r t ws k c sound holding grows other carries h = record {
   based = h.based;
   possible = h.possible;
   slotted = λ e. at_slot_grows p r.slots t.slots (apic_of p k) c.smbase grows (h.slotted e);
@@ -240,8 +240,8 @@ pub reach_base : (p : Platform) (l : Locks) (n b off : ℕ) → Locked p l → B
 reach_base p l n b off h base less = let room = base.room in let same = h.low_memory in in_reach n (b + off) l (omega (arith, room, same, less))
 
 -- who stands at a cell has its row
-pub row_here : (p : Platform) (m : List Write) (s : State) (k a : ℕ) (l : Label) → Sound p → Invariant p m s → smm_address (at s k) ≡ Some a → AtCell p s.monarch s.writes k (at s k).smbase (at s k).base a l → row_at p s k ≡ Some l
-unfolding row_at mark_at row_of
+pub row_here : (p : Platform) (m : List Write) (s : State) (k a : ℕ) (l : Label) → Sound p → Invariant p m s → smm_address (at s k) ≡ Some a → AtCell p s.monarch s.writes k (at s k).smbase (at s k).base a l → label_at p s k ≡ Some l
+unfolding label_at mark_at label_of_mark
 row_here p m s k a l sound h is cell =
     let b = (at s k).smbase in
     let base : Base p b = base_based p k b sound (runs_based p (part_of l) k b cell.runs) in
@@ -251,12 +251,12 @@ row_here p m s k a l sound h is cell =
     let reach : is_hole s.locks true (b + (0x8000 + 4 * index_of l)) 4 ≡ false = reach_base p s.locks 4 b (0x8000 + 4 * index_of l) h.locked.registers base (omega (arith, small)) in
     let place : b + (0x8000 + 4 * index_of l) ≡ address_of_label b l = omega arith in
     let reached : is_hole s.locks true (address_of_label b l) 4 ≡ false = subst (λ x. is_hole s.locks true x 4 ≡ false) place reach in
-    rw (is, cell.here, reached, value, found l, cell.runs, cell.due) refl
+    rw (is, cell.here, reached, value, found l, cell.runs, cell.current) refl
 
-pub no_row : (p : Platform) (s : State) (k : ℕ) (l : Label) → smm_address (at s k) ≡ None → row_at p s k ≡ Some l → ⊥
-unfolding row_at mark_at
+pub no_row : (p : Platform) (s : State) (k : ℕ) (l : Label) → smm_address (at s k) ≡ None → label_at p s k ≡ Some l → ⊥
+unfolding label_at mark_at
 no_row p s k l is e =
-    let none : option_and_then (row_of (layout_of p) s.monarch k (at s k).smbase) (option_map (λ address. loaded s.locks true (byte_at s.writes) address 4) (smm_address (at s k))) ≡ None = rw is refl in
+    let none : option_and_then (label_of_mark (layout_of p) s.monarch k (at s k).smbase) (option_map (λ address. loaded s.locks true (byte_at s.writes) address 4) (smm_address (at s k))) ≡ None = rw is refl in
     let both : None ≡ Some l = sym none ∙ e in
     cc
 
@@ -266,10 +266,10 @@ pub record AtRow (p : Platform) (s : State) (k : ℕ) (l : Label) : Type 0 where
   pub is : smm_address (at s k) ≡ Some address
   pub cell : AtCell p s.monarch s.writes k (at s k).smbase (at s k).base address l
 
-pub row_stands : (p : Platform) (m : List Write) (s : State) (k : ℕ) (l : Label) → Sound p → Invariant p m s → row_at p s k ≡ Some l → AtRow p s k l
+pub row_stands : (p : Platform) (m : List Write) (s : State) (k : ℕ) (l : Label) → Sound p → Invariant p m s → label_at p s k ≡ Some l → AtRow p s k l
 row_stands p m s k l sound h e = by_address (smm_address (at s k)) refl (h.stand.each k)
   where
-    by_address : (o : Option ℕ) → smm_address (at s k) ≡ o → Stands p s.monarch s.writes k (at s k).smbase (at s k).base o → AtRow p s k l
+    by_address : (o : Option ℕ) → smm_address (at s k) ≡ o → IsAtCell p s.monarch s.writes k (at s k).smbase (at s k).base o → AtRow p s k l
     by_address None is stands = absurd (no_row p s k l is e)
     by_address (Some a) is stands =
         let l0 = stands.0 in
@@ -281,18 +281,18 @@ pub row_first : (p : Platform) (s : State) (k : ℕ) (l : Label) → AtRow p s k
 row_first p s k l here mine = eqb-true k 0 (and_parts (k == 0) ((at s k).smbase == tile_in (layout_of p) 0) (subst (λ q. runs_at (layout_of p) q k (at s k).smbase ≡ true) mine here.cell.runs)).0
 
 -- the monarch's label is the one whose row is due
-pub due_label_is : (r : Monarch) (l : Label) → is_due r (part_of l) l ≡ true → part_of l ≡ Monarchs → r.label ≡ l
-due_label_is r l due is = by_mark (subst (λ q. is_due r q l ≡ true) is due)
+pub current_label_is : (r : Monarch) (l : Label) → is_current r (part_of l) l ≡ true → part_of l ≡ Monarchs → r.label ≡ l
+current_label_is r l due is = by_mark (subst (λ q. is_current r q l ≡ true) is due)
   where
     by_mark : (mark_of l == mark_of r.label) ≡ true → r.label ≡ l
     by_mark e = sym (same_label l r.label (eqb-true (mark_of l) (mark_of r.label) e))
 
 -- a processor's share of the parts
-pub seated : (p : Platform) (m : List Write) (s : State) (k : ℕ) → Invariant p m s → Seated p s.monarch s.writes k (at s k)
-seated p m s k h = record { based = h.slots.based k; possible = h.slots.possible k; slotted = h.slots.slotted k; stands = h.stand.each k; saves = h.slots.saved k }
+pub cpu_parts : (p : Platform) (m : List Write) (s : State) (k : ℕ) → Invariant p m s → CpuParts p s.monarch s.writes k (at s k)
+cpu_parts p m s k h = record { based = h.slots.based k; possible = h.slots.possible k; slotted = h.slots.slotted k; stands = h.stand.each k; saves = h.slots.saved k }
 
 -- the parts of a state from those of each processor
-pub gathered : (p : Platform) (m : List Write) (s : State) → is_handed s.stage ≡ true → IsLocked p m s → ((k : ℕ) → Seated p s.monarch s.writes k (at s k)) → (at s 0).present ≡ true → IsGated p s.monarch s.writes → Rests s → Recorded p s.monarch → Holding p s.monarch.slots → Settled p s → Invariant p m s
+pub gathered : (p : Platform) (m : List Write) (s : State) → is_handed s.stage ≡ true → IsLocked p m s → ((k : ℕ) → CpuParts p s.monarch s.writes k (at s k)) → (at s 0).present ≡ true → IsGated p s.monarch s.writes → Rests s → Recorded p s.monarch → Holding p s.monarch.slots → Settled p s → Invariant p m s
 gathered p m s handed locked each first gated rests recorded holding settled = record {
   handed = handed;
   locked = locked;
@@ -309,4 +309,4 @@ gathered p m s handed locked each first gated rests recorded holding settled = r
 pub unmoved : (p : Platform) (m : List Write) (s : State) (b : Block) (i : Ich9) (f : FwCfg) (g : Stage) (d : Bool) → is_handed g ≡ true → Invariant p m s → Invariant p m (record s { block = b; ich9 = i; fw_cfg = f; stage = g; disturbed = d })
 unmoved p m s b i f g d handed h =
     gathered p m (record s { block = b; ich9 = i; fw_cfg = f; stage = g; disturbed = d }) handed (record { marks = h.locked.marks; registers = h.locked.registers; kept = h.locked.kept })
-    (λ k. seated p m s k h) h.slots.first h.gated h.rests h.recorded h.holding h.settled
+    (λ k. cpu_parts p m s k h) h.slots.first h.gated h.rests h.recorded h.holding h.settled

@@ -22,7 +22,7 @@ use Rattle.hp_sealed.specs.Left.{Sound, is_kept}
 use Rattle.hp_sealed.specs.Sealed.{IsOutside}
 use Rattle.hp_sealed.proofs.Places.{guarded_locked, kept_guarded, kept_cell}
 use Rattle.hp_sealed.proofs.Starts.{sound, starts}
-use Rattle.hp_safety.proofs.Invariant.{facts_of, Met, Stands}
+use Rattle.hp_safety.proofs.Invariant.{facts_of, Met, IsAtCell}
 use Rattle.hp_safety.proofs.EachRow.{row_of_each}
 use Rattle.hp_safety.proofs.Keeps.{row_here}
 use Rattle.hp_sealed.proofs.Runs.{made, run_rest, first_step}
@@ -37,8 +37,8 @@ stands_handed p s k a (inl h) is = absurd (nobody p s k a h.holds.cpus is)
 stands_handed p s k a (inr (inl h)) is = absurd (nobody p s k a h.cpus is)
 stands_handed p s k a (inr (inr h)) is = h
 
-stands_there : (p : Platform) (s : State) (k a : ℕ) → IsHanded p s → smm_address (at s k) ≡ Some a → Stands p s.monarch s.writes k (at s k).smbase (at s k).base (Some a)
-stands_there p s k a h is = subst (Stands p s.monarch s.writes k (at s k).smbase (at s k).base) is (h.stand.each k)
+stands_there : (p : Platform) (s : State) (k a : ℕ) → IsHanded p s → smm_address (at s k) ≡ Some a → IsAtCell p s.monarch s.writes k (at s k).smbase (at s k).base (Some a)
+stands_there p s k a h is = subst (IsAtCell p s.monarch s.writes k (at s k).smbase (at s k).base) is (h.stand.each k)
 
 -- the four bytes there are kept
 pub record AtKept (p : Platform) (s : State) (a : ℕ) : Type 0 where

@@ -31,8 +31,8 @@ pub mod Answered
 pub mod FactRows
 pub mod Looks
 pub mod Facts
-pub mod Classes
-pub mod Classing
+pub mod Decisions
+pub mod Deciding
 pub mod Outcoming
 pub mod Answering
 pub mod Calling

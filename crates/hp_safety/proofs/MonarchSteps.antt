@@ -22,7 +22,7 @@ use Rattle.hp_model.specs.Monarch.{Monarch, restarted}
 use Rattle.hp_model.specs.Handlers.{Seat, want_at, wanted_at, next_at, runs_at, address_of_label}
 use Rattle.hp_model.specs.State.{State, at}
 use Rattle.hp_model.specs.Access.{access_effect, answer_to}
-use Rattle.hp_model.specs.Firmware.{row_at, seat, is_that_access, is_that_outcome, is_rsm, is_handlers, wanted_in, row_led, handlers_led, firmware_led, with_session}
+use Rattle.hp_model.specs.Firmware.{label_at, seat, is_that_access, is_that_outcome, is_rsm, is_handlers, wanted_in, row_effect, handlers_effect, firmware_effect, with_session}
 use Rattle.hp_model.specs.Step.{After, answer_of, is_enabled, effect_of, enter_smm, step}
 use Rattle.hp_model.specs.Runs.{address_of}
 use Rattle.hp_model.specs.Events.{outcome_in, is_access_of, is_entry_of, is_resume_of}
@@ -36,7 +36,7 @@ use Rattle.hp_sealed.proofs.Goes.{stepped}
 use Rattle.hp_safety.proofs.Needs.{Nothing, need_of}
 use Rattle.hp_safety.proofs.EachRow.{row_of_each}
 use Rattle.hp_safety.proofs.Invariant.{facts_of, Met, Invariant}
-use Rattle.hp_safety.proofs.Keeps.{AtRow, row_stands, row_first, due_label_is}
+use Rattle.hp_safety.proofs.Keeps.{AtRow, row_stands, row_first, current_label_is}
 use Rattle.hp_safety.proofs.RowLeads.{LeadsOn}
 use Rattle.hp_safety.proofs.Accesses.{is_monarchs, row_next}
 use Rattle.hp_safety.proofs.Entering.{may_outside}
@@ -115,7 +115,7 @@ module _ (p : Platform) (m : List Write) (s : State) (k : ℕ) (l : Label) (soun
       inr (inl (record {
         label = l;
         side = mine;
-        here = due_label_is s.monarch l here.cell.due mine;
+        here = current_label_is s.monarch l here.cell.current mine;
         place = at_tile mine;
         wanted = subst (λ i. IsWanted (want_at (layout_of p) (seat p s i) s.monarch l) e.event) z wanted;
         met = subst (λ i. Met p s.monarch s.writes (apic_of p i) (at s i).base l) z here.cell.met;
@@ -127,7 +127,7 @@ module _ (p : Platform) (m : List Write) (s : State) (k : ℕ) (l : Label) (soun
   not_zero Relocated n runs z = absurd (let f : runs_at (layout_of p) Relocated 0 (at s k).smbase ≡ true = subst (λ i. runs_at (layout_of p) Relocated i (at s k).smbase ≡ true) z runs in cc)
   not_zero Monarchs n runs z = absurd (n refl)
 
-  steps_made : (a : Access) (w : Option Want) → e.event ≡ Do k a → e.answer ≡ answer_to true a s → want_at (layout_of p) (seat p s k) s.monarch l ≡ w → LeadsOn p k s (seat p s k) s.monarch l w → is_that_access w a ≡ true → MonarchStep p s e (row_led p s k (answer_to true a s) (Some l) (access_effect p k true a s)).monarch
+  steps_made : (a : Access) (w : Option Want) → e.event ≡ Do k a → e.answer ≡ answer_to true a s → want_at (layout_of p) (seat p s k) s.monarch l ≡ w → LeadsOn p k s (seat p s k) s.monarch l w → is_that_access w a ≡ true → MonarchStep p s e (row_effect p s k (answer_to true a s) (Some l) (access_effect p k true a s)).monarch
   steps_made a None event answer is leads f = absurd cc
   steps_made a (Some (want.Do b)) event answer is leads f =
       let same = same_access-equal a b f in
@@ -147,7 +147,7 @@ module _ (p : Platform) (m : List Write) (s : State) (k : ℕ) (l : Label) (soun
   steps_made a (Some (want.Tell o)) event answer is leads f = absurd cc
   steps_made a (Some want.Resume) event answer is leads f = absurd cc
 
-  steps_told : (o : Outcome) (w : Option Want) → k ≡ 0 → e.event ≡ Tell o → e.answer ≡ Quiet → want_at (layout_of p) (seat p s k) s.monarch l ≡ w → is_that_outcome w o ≡ true → MonarchStep p s e (row_led p s k Quiet (Some l) s).monarch
+  steps_told : (o : Outcome) (w : Option Want) → k ≡ 0 → e.event ≡ Tell o → e.answer ≡ Quiet → want_at (layout_of p) (seat p s k) s.monarch l ≡ w → is_that_outcome w o ≡ true → MonarchStep p s e (row_effect p s k Quiet (Some l) s).monarch
   steps_told o None z event answer is f = absurd cc
   steps_told o (Some (want.Do a)) z event answer is f = absurd cc
   steps_told o (Some (want.Tell t)) z event answer is f =
@@ -164,7 +164,7 @@ module _ (p : Platform) (m : List Write) (s : State) (k : ℕ) (l : Label) (soun
     | inl mine ↦
         let z = row_first p s k l here mine in
         let is = seven p (seat p s k) s.monarch s.writes l here.cell.met mine wanted in
-        inr (inr (inr (record { event = event ∙ ap Resume z; here = due_label_is s.monarch l here.cell.due mine ∙ is; place = at_tile mine ∙ ap (λ x. Some (address_of_label (tile p 0) x)) is; same = refl })))
+        inr (inr (inr (record { event = event ∙ ap Resume z; here = current_label_is s.monarch l here.cell.current mine ∙ is; place = at_tile mine ∙ ap (λ x. Some (address_of_label (tile p 0) x)) is; same = refl })))
     | inr other ↦ inl (record { elsewhere = away other; bounds = ap bounds event ∙ not_first (part_of l) other here.cell.runs; told = ap outcome_in event; out = λ f. absurd (let both = sym (ap (is_access_of 0) event) ∙ f in cc); same = refl })
   ]
     where
@@ -192,15 +192,15 @@ steps_smi p m s k e h may event place =
     neither true f = absurd cc
     neither false f = refl
 
-steps_event : (p : Platform) (m : List Write) (s : State) (e : Entry) (v : Event) → Sound p → Invariant p m s → e.event ≡ v → address_of s v ≡ e.at → e.answer ≡ answer_of s v → is_enabled p s v ≡ true → is_handlers p s v ≡ true → MonarchStep p s e (handlers_led p s v (effect_of p s v)).monarch
+steps_event : (p : Platform) (m : List Write) (s : State) (e : Entry) (v : Event) → Sound p → Invariant p m s → e.event ≡ v → address_of s v ≡ e.at → e.answer ≡ answer_of s v → is_enabled p s v ≡ true → is_handlers p s v ≡ true → MonarchStep p s e (handlers_effect p s v (effect_of p s v)).monarch
 steps_event p m s e (Insert k) sound h event place answer may wanted = others_outside p s e s.monarch (sym place) (ap bounds event) (ap outcome_in event) (λ f. absurd (let both = sym (ap (is_access_of 0) event) ∙ f in cc)) refl
 steps_event p m s e (Remove k) sound h event place answer may wanted = others_outside p s e s.monarch (sym place) (ap bounds event) (ap outcome_in event) (λ f. absurd (let both = sym (ap (is_access_of 0) event) ∙ f in cc)) refl
 steps_event p m s e (Do k a) sound h event place answer may wanted = by_mode (is_in_smm (at s k).mode) refl wanted answer
   where
-    by_mode : (b : Bool) → is_in_smm (at s k).mode ≡ b → (not b || is_that_access (wanted_at (layout_of p) s.monarch (seat p s k) (row_at p s k)) a) ≡ true → e.answer ≡ answer_to b a s → MonarchStep p s e (cond b (row_led p s k (answer_to b a s) (row_at p s k) (access_effect p k b a s)) (access_effect p k b a s)).monarch
-    by_mode true mode f g = by_row (row_at p s k) refl f
+    by_mode : (b : Bool) → is_in_smm (at s k).mode ≡ b → (not b || is_that_access (wanted_at (layout_of p) s.monarch (seat p s k) (label_at p s k)) a) ≡ true → e.answer ≡ answer_to b a s → MonarchStep p s e (cond b (row_effect p s k (answer_to b a s) (label_at p s k) (access_effect p k b a s)) (access_effect p k b a s)).monarch
+    by_mode true mode f g = by_row (label_at p s k) refl f
       where
-        by_row : (o : Option Label) → row_at p s k ≡ o → is_that_access (wanted_at (layout_of p) s.monarch (seat p s k) o) a ≡ true → MonarchStep p s e (row_led p s k (answer_to true a s) o (access_effect p k true a s)).monarch
+        by_row : (o : Option Label) → label_at p s k ≡ o → is_that_access (wanted_at (layout_of p) s.monarch (seat p s k) o) a ≡ true → MonarchStep p s e (row_effect p s k (answer_to true a s) o (access_effect p k true a s)).monarch
         by_row None is f = absurd cc
         by_row (Some l) is f =
             let here = row_stands p m s k l sound h is in
@@ -208,18 +208,18 @@ steps_event p m s e (Do k a) sound h event place answer may wanted = by_mode (is
     by_mode false mode f g = others_outside p s e _ (sym place ∙ outside_none (at s k) mode) (ap bounds event) (ap outcome_in event) (λ f. subst (λ i. smm_address (at s i) ≡ None) (eqb-true k 0 (sym (ap (is_access_of 0) event) ∙ f)) (outside_none (at s k) mode)) (acts p k false a s).monarch
 steps_event p m s e (TakeSmi k) sound h event place answer may wanted = steps_smi p m s k e h may event (sym place ∙ may_outside (at s k) may)
 steps_event p m s e (TakeInit k) sound h event place answer may wanted = others_outside p s e s.monarch (sym place ∙ init_outside (at s k) may) (ap bounds event) (ap outcome_in event) (λ f. absurd (let both = sym (ap (is_access_of 0) event) ∙ f in cc)) refl
-steps_event p m s e (Resume k) sound h event place answer may wanted = by_row (row_at p s k) refl wanted
+steps_event p m s e (Resume k) sound h event place answer may wanted = by_row (label_at p s k) refl wanted
   where
-    by_row : (o : Option Label) → row_at p s k ≡ o → is_rsm (wanted_at (layout_of p) s.monarch (seat p s k) o) ≡ true → MonarchStep p s e s.monarch
+    by_row : (o : Option Label) → label_at p s k ≡ o → is_rsm (wanted_at (layout_of p) s.monarch (seat p s k) o) ≡ true → MonarchStep p s e s.monarch
     by_row None is f = absurd cc
     by_row (Some l) is f = steps_rsm p m s k l sound h (row_stands p m s k l sound h is) e place event f
-steps_event p m s e (Tell o) sound h event place answer may wanted = by_row (row_at p s 0) refl wanted
+steps_event p m s e (Tell o) sound h event place answer may wanted = by_row (label_at p s 0) refl wanted
   where
-    by_row : (t : Option Label) → row_at p s 0 ≡ t → is_that_outcome (wanted_at (layout_of p) s.monarch (seat p s 0) t) o ≡ true → MonarchStep p s e (row_led p s 0 Quiet t s).monarch
+    by_row : (t : Option Label) → label_at p s 0 ≡ t → is_that_outcome (wanted_at (layout_of p) s.monarch (seat p s 0) t) o ≡ true → MonarchStep p s e (row_effect p s 0 Quiet t s).monarch
     by_row None is f = absurd cc
     by_row (Some l) is f = steps_told p m s 0 l sound h (row_stands p m s 0 l sound h is) e place o (want_at (layout_of p) (seat p s 0) s.monarch l) refl event answer refl f
 
-steps_led : (p : Platform) (m : List Write) (s : State) (e : Entry) (g : Stage) → Sound p → Invariant p m s → is_handed g ≡ true → address_of s e.event ≡ e.at → e.answer ≡ answer_of s e.event → is_enabled p s e.event ≡ true → wanted_in p s g e.event ≡ true → MonarchStep p s e (firmware_led p s g e.event (effect_of p s e.event)).monarch
+steps_led : (p : Platform) (m : List Write) (s : State) (e : Entry) (g : Stage) → Sound p → Invariant p m s → is_handed g ≡ true → address_of s e.event ≡ e.at → e.answer ≡ answer_of s e.event → is_enabled p s e.event ≡ true → wanted_in p s g e.event ≡ true → MonarchStep p s e (firmware_effect p s g e.event (effect_of p s e.event)).monarch
 steps_led p m s e (Boots done supported) sound h handed place answer may wanted = absurd cc
 steps_led p m s e (Refused fact) sound h handed place answer may wanted = absurd cc
 steps_led p m s e (Handed requested) sound h handed place answer may wanted = steps_event p m s e e.event sound h refl place answer may wanted

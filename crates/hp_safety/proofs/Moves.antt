@@ -27,7 +27,7 @@ use Rattle.hp_model.specs.Monarch.{restarted}
 use Rattle.hp_model.specs.Handlers.{Next, want_at, wanted_at, next_at, runs_at, address_of_label}
 use Rattle.hp_model.specs.State.{State, at, set_cpu}
 use Rattle.hp_model.specs.Access.{access_effect, answer_to}
-use Rattle.hp_model.specs.Firmware.{row_at, seat, is_that_access, is_that_outcome, is_rsm, is_handlers, wanted_in, go_on, with_next, row_led, handlers_led, firmware_led, with_session}
+use Rattle.hp_model.specs.Firmware.{label_at, seat, is_that_access, is_that_outcome, is_rsm, is_handlers, wanted_in, moved_in_smm, with_next, row_effect, handlers_effect, firmware_effect, with_session}
 use Rattle.hp_model.specs.Step.{After, is_enabled, effect_of, insert, request_removal, enter_smm, leave_smm, step}
 use Rattle.hp_sealed.specs.Left.{IsLeft, Sound}
 use Rattle.hp_sealed.proofs.Left.{pick, left_same}
@@ -43,7 +43,7 @@ use Rattle.hp_safety.proofs.Invariant.{facts_of, IsShut, is_past, Invariant}
 use Rattle.hp_safety.proofs.Aloft.{aloft_past}
 use Rattle.hp_safety.proofs.Saves.{left_saved}
 use Rattle.hp_safety.proofs.Writes.{reach_low}
-use Rattle.hp_safety.proofs.Keeps.{smm_present, AtRow, row_stands, row_first, due_label_is}
+use Rattle.hp_safety.proofs.Keeps.{smm_present, AtRow, row_stands, row_first, current_label_is}
 use Rattle.hp_safety.proofs.Rows.{Spares, row_spares}
 use Rattle.hp_safety.proofs.RowLeads.{LeadsOn}
 use Rattle.hp_safety.proofs.Accesses.{smm_stands, slot_small, row_next}
@@ -75,19 +75,19 @@ moves_led p m s u e k l n sound h here stays calm side climbs gates =
     let address : smm_address (at u k) ≡ Some here.address = stays.address ∙ here.is in
     let present : (at u k).present ≡ true = smm_present (at u k) here.address address in
     let to : Cpu = moved (address_of_label b n.label) n.base (at u k) in
-    let goes : go_on b n (at u k) ≡ to = rw (smm_stands (at u k) here.address address) refl in
+    let goes : moved_in_smm b n (at u k) ≡ to = rw (smm_stands (at u k) here.address address) refl in
     let lands : smm_address to ≡ Some (address_of_label b n.label) = rw present refl in
     let runs : runs_at (layout_of p) (part_of n.label) k b ≡ true = rw side here.cell.runs in
     record {
-      comes = λ j f. inl (set_all (λ i c. c.present ≡ true → (at s i).present ≡ true) u.cpus k (go_on b n (at u k)) (λ g. absurd cc) (λ g. sym stays.present ∙ present) (λ i other g. (calm_stays (at s i) (at u i) (calm i) g).present) j f);
-      changes = λ j f g. inl (set_all (λ i c. c.present ≡ true → c.smbase ≡ (at s i).smbase) u.cpus k (go_on b n (at u k)) (λ g. absurd cc) (λ g. ap (λ (c : Cpu). c.smbase) goes ∙ stays.smbase) (λ i other g. (calm_stays (at s i) (at u i) (calm i) g).smbase) j g);
-      climbs = λ j f. set_all (λ i c. is_past (smm_address c) ≡ true → (is_past (smm_address (at s i)) ≡ true) ⊎ Passes p s e i) u.cpus k (go_on b n (at u k)) (λ g. absurd cc)
+      comes = λ j f. inl (set_all (λ i c. c.present ≡ true → (at s i).present ≡ true) u.cpus k (moved_in_smm b n (at u k)) (λ g. absurd cc) (λ g. sym stays.present ∙ present) (λ i other g. (calm_stays (at s i) (at u i) (calm i) g).present) j f);
+      changes = λ j f g. inl (set_all (λ i c. c.present ≡ true → c.smbase ≡ (at s i).smbase) u.cpus k (moved_in_smm b n (at u k)) (λ g. absurd cc) (λ g. ap (λ (c : Cpu). c.smbase) goes ∙ stays.smbase) (λ i other g. (calm_stays (at s i) (at u i) (calm i) g).smbase) j g);
+      climbs = λ j f. set_all (λ i c. is_past (smm_address c) ≡ true → (is_past (smm_address (at s i)) ≡ true) ⊎ Passes p s e i) u.cpus k (moved_in_smm b n (at u k)) (λ g. absurd cc)
           (λ g. elim (climbs (sym (aloft_past p k b n.label sound runs) ∙ (sym (ap is_past (ap smm_address goes ∙ lands)) ∙ g))) [
             | inl up ↦ inl (ap is_past here.is ∙ (ap (λ a. is_past (Some a)) here.cell.here ∙ (aloft_past p k b l sound here.cell.runs ∙ up)))
             | inr passes ↦ inr passes
           ]) (λ i other g. inl (calm_past (at s i) (at u i) (calm i) g)) j f;
       gates = elim gates [ inl shut ↦ inl shut | inr more ↦ elim more [ inl left ↦ inr (inl left) | inr opens ↦ inr (inr (record { event = opens.event; place = opens.place; label = opens.label; value = opens.value; written = opens.written })) ] ];
-      enters = λ none. inl (set_all (λ i c. i ≡ 0 → smm_address c ≡ None) u.cpus k (go_on b n (at u k)) (λ z. refl) (λ z. absurd (let both = sym (subst (λ i. smm_address (at s i) ≡ None) (sym z) none) ∙ here.is in cc))
+      enters = λ none. inl (set_all (λ i c. i ≡ 0 → smm_address c ≡ None) u.cpus k (moved_in_smm b n (at u k)) (λ z. refl) (λ z. absurd (let both = sym (subst (λ i. smm_address (at s i) ≡ None) (sym z) none) ∙ here.is in cc))
           (λ i other z. calm_none (at s i) (at u i) (calm i) (subst (λ j. smm_address (at s j) ≡ None) (sym z) none)) 0 refl);
     }
 
@@ -145,22 +145,22 @@ module _ (p : Platform) (m : List Write) (s : State) (k : ℕ) (l : Label) (soun
       record {
         event = rw (there.0, store) refl;
         place = subst (λ i. smm_address (at s i) ≡ Some (cell_of p N7 0)) there.0 there.1;
-        label = due_label_is s.monarch l here.cell.due (ap part_of seven) ∙ seven;
+        label = current_label_is s.monarch l here.cell.current (ap part_of seven) ∙ seven;
         value = value;
         written = written;
       }
 
-  moves_made : (a : Access) (w : Option Want) → want_at (layout_of p) (seat p s k) s.monarch l ≡ w → Spares p k s w → GatesOn p k s s.monarch l w → LeadsOn p k s (seat p s k) s.monarch l w → is_that_access w a ≡ true → Moves p s (Do k a) (row_led p s k (answer_to true a s) (Some l) (access_effect p k true a s))
+  moves_made : (a : Access) (w : Option Want) → want_at (layout_of p) (seat p s k) s.monarch l ≡ w → Spares p k s w → GatesOn p k s s.monarch l w → LeadsOn p k s (seat p s k) s.monarch l w → is_that_access w a ≡ true → Moves p s (Do k a) (row_effect p s k (answer_to true a s) (Some l) (access_effect p k true a s))
   moves_made a None is spares gates leads e = absurd cc
   moves_made a (Some (want.Do b)) is spares gates leads e =
-      subst (λ c. Moves p s (Do k c) (row_led p s k (answer_to true c s) (Some l) (access_effect p k true c s))) (sym (same_access-equal a b e))
+      subst (λ c. Moves p s (Do k c) (row_effect p s k (answer_to true c s) (Some l) (access_effect p k true c s))) (sym (same_access-equal a b e))
       (moves_led p m s (access_effect p k true b s) (Do k b) k l (next_at (layout_of p) (seat p s k) s.monarch l (value_in (answer_to true b s))) sound h here spares (acts p k true b s).cpus leads.side
       (λ up. elim (leads.climbs up) [ inl higher ↦ inl higher | inr first ↦ inr (passes_at b is first.0 up) ])
       (elim gates [ inl shut ↦ inl shut | inr more ↦ elim more [ inl left ↦ inr (inl left) | inr seven ↦ inr (inr (opens_at b (access_effect p k true b s) is seven.0 seven.1 seven.2)) ] ]))
   moves_made a (Some (want.Tell o)) is spares gates leads e = absurd cc
   moves_made a (Some want.Resume) is spares gates leads e = absurd cc
 
-  moves_told : (o : Outcome) (w : Option Want) → k ≡ 0 → want_at (layout_of p) (seat p s k) s.monarch l ≡ w → LeadsOn p k s (seat p s k) s.monarch l w → is_that_outcome w o ≡ true → Moves p s (Tell o) (row_led p s k Quiet (Some l) s)
+  moves_told : (o : Outcome) (w : Option Want) → k ≡ 0 → want_at (layout_of p) (seat p s k) s.monarch l ≡ w → LeadsOn p k s (seat p s k) s.monarch l w → is_that_outcome w o ≡ true → Moves p s (Tell o) (row_effect p s k Quiet (Some l) s)
   moves_told o None z is leads e = absurd cc
   moves_told o (Some (want.Do a)) z is leads e = absurd cc
   moves_told o (Some (want.Tell t)) z is leads e =
@@ -169,7 +169,7 @@ module _ (p : Platform) (m : List Write) (s : State) (k : ℕ) (l : Label) (soun
       (inr (inl (λ i less. left_same (gate + i) s.writes)))
   moves_told o (Some want.Resume) z is leads e = absurd cc
 
-moves_access : (p : Platform) (m : List Write) (s : State) (k : ℕ) (a : Access) (o : Option Label) → Sound p → Invariant p m s → row_at p s k ≡ o → is_that_access (wanted_at (layout_of p) s.monarch (seat p s k) o) a ≡ true → Moves p s (Do k a) (row_led p s k (answer_to true a s) o (access_effect p k true a s))
+moves_access : (p : Platform) (m : List Write) (s : State) (k : ℕ) (a : Access) (o : Option Label) → Sound p → Invariant p m s → label_at p s k ≡ o → is_that_access (wanted_at (layout_of p) s.monarch (seat p s k) o) a ≡ true → Moves p s (Do k a) (row_effect p s k (answer_to true a s) o (access_effect p k true a s))
 moves_access p m s k a None sound h is e = absurd cc
 moves_access p m s k a (Some l) sound h is e =
     let q = seat p s k in
@@ -177,7 +177,7 @@ moves_access p m s k a (Some l) sound h is e =
     moves_made p m s k l sound h here a (want_at (layout_of p) q s.monarch l) refl (row_spares p k s q s.monarch l (row_first p s k l here) here.cell.met)
     (row_gates p k s q s.monarch sound h.locked.registers h.recorded h.holding (slot_small p s k l sound here) l here.cell.met) (row_next p m s k l sound h here) e
 
-moves_tell : (p : Platform) (m : List Write) (s : State) (o : Outcome) (l : Option Label) → Sound p → Invariant p m s → row_at p s 0 ≡ l → is_that_outcome (wanted_at (layout_of p) s.monarch (seat p s 0) l) o ≡ true → Moves p s (Tell o) (row_led p s 0 Quiet l s)
+moves_tell : (p : Platform) (m : List Write) (s : State) (o : Outcome) (l : Option Label) → Sound p → Invariant p m s → label_at p s 0 ≡ l → is_that_outcome (wanted_at (layout_of p) s.monarch (seat p s 0) l) o ≡ true → Moves p s (Tell o) (row_effect p s 0 Quiet l s)
 moves_tell p m s o None sound h is e = absurd cc
 moves_tell p m s o (Some l) sound h is e =
     let here = row_stands p m s 0 l sound h is in
@@ -277,7 +277,7 @@ moves_rsm p m s k l sound h here wanted =
         })
     changes (inr n) read = inl (read ∙ reads_tile p m s k l sound h here n.0)
 
-moves_event : (p : Platform) (m : List Write) (s : State) (e : Event) → Sound p → Invariant p m s → is_enabled p s e ≡ true → is_handlers p s e ≡ true → Moves p s e (handlers_led p s e (effect_of p s e))
+moves_event : (p : Platform) (m : List Write) (s : State) (e : Event) → Sound p → Invariant p m s → is_enabled p s e ≡ true → is_handlers p s e ≡ true → Moves p s e (handlers_effect p s e (effect_of p s e))
 moves_event p m s (Insert k) sound h may wanted = moves_set p s (insert k s) (Insert k) k inserted refl (λ f. inr refl) (λ f g. absurd (gone (at s k).present (and_parts (nat_lt k (count_of p)) (not (at s k).present) may).1 f)) (λ f. absurd cc) (λ i less. left_same (gate + i) s.writes) (λ z none. inl refl)
   where
     gone : (b : Bool) → not b ≡ true → b ≡ true → ⊥
@@ -286,21 +286,21 @@ moves_event p m s (Insert k) sound h may wanted = moves_set p s (insert k s) (In
 moves_event p m s (Remove k) sound h may wanted = moves_still p s (request_removal k s) (Remove k) refl refl
 moves_event p m s (Do k a) sound h may wanted = by_mode (is_in_smm (at s k).mode) wanted
   where
-    by_mode : (b : Bool) → (not b || is_that_access (wanted_at (layout_of p) s.monarch (seat p s k) (row_at p s k)) a) ≡ true → Moves p s (Do k a) (cond b (row_led p s k (answer_to b a s) (row_at p s k) (access_effect p k b a s)) (access_effect p k b a s))
-    by_mode true f = moves_access p m s k a (row_at p s k) sound h refl f
+    by_mode : (b : Bool) → (not b || is_that_access (wanted_at (layout_of p) s.monarch (seat p s k) (label_at p s k)) a) ≡ true → Moves p s (Do k a) (cond b (row_effect p s k (answer_to b a s) (label_at p s k) (access_effect p k b a s)) (access_effect p k b a s))
+    by_mode true f = moves_access p m s k a (label_at p s k) sound h refl f
     by_mode false f = moves_outside p m s k a sound h
 moves_event p m s (TakeSmi k) sound h may wanted = moves_smi p m s k sound h may
 moves_event p m s (TakeInit k) sound h may wanted =
     let stays : Stays (at s k) (take_init (at s k)) = stays_init (at s k) may in
     moves_set p s (set_cpu k (take_init (at s k)) s) (TakeInit k) k (take_init (at s k)) refl (λ f. inl f) (λ f g. inl refl) (λ f. sym (ap is_past stays.address) ∙ f) (λ i less. left_same (gate + i) s.writes) (λ z none. inl (stays.address ∙ none))
-moves_event p m s (Resume k) sound h may wanted = by_row (row_at p s k) refl wanted
+moves_event p m s (Resume k) sound h may wanted = by_row (label_at p s k) refl wanted
   where
-    by_row : (o : Option Label) → row_at p s k ≡ o → is_rsm (wanted_at (layout_of p) s.monarch (seat p s k) o) ≡ true → Moves p s (Resume k) (leave_smm k s)
+    by_row : (o : Option Label) → label_at p s k ≡ o → is_rsm (wanted_at (layout_of p) s.monarch (seat p s k) o) ≡ true → Moves p s (Resume k) (leave_smm k s)
     by_row None is f = absurd cc
     by_row (Some l) is f = moves_rsm p m s k l sound h (row_stands p m s k l sound h is) f
-moves_event p m s (Tell o) sound h may wanted = moves_tell p m s o (row_at p s 0) sound h refl wanted
+moves_event p m s (Tell o) sound h may wanted = moves_tell p m s o (label_at p s 0) sound h refl wanted
 
-moves_led_by : (p : Platform) (m : List Write) (s : State) (e : Event) (g : Stage) → Sound p → Invariant p m s → is_handed g ≡ true → is_enabled p s e ≡ true → wanted_in p s g e ≡ true → Moves p s e (firmware_led p s g e (effect_of p s e))
+moves_led_by : (p : Platform) (m : List Write) (s : State) (e : Event) (g : Stage) → Sound p → Invariant p m s → is_handed g ≡ true → is_enabled p s e ≡ true → wanted_in p s g e ≡ true → Moves p s e (firmware_effect p s g e (effect_of p s e))
 moves_led_by p m s e (Boots done supported) sound h handed may wanted = absurd cc
 moves_led_by p m s e (Refused fact) sound h handed may wanted = absurd cc
 moves_led_by p m s e (Handed requested) sound h handed may wanted = moves_event p m s e sound h may wanted
@@ -308,7 +308,7 @@ moves_led_by p m s e (Handed requested) sound h handed may wanted = moves_event 
 pub moves : (p : Platform) (m : List Write) (s : State) (e : Event) (t : After) → Sound p → Invariant p m s → step p s e ≡ Some t → Moves p s e t.state
 moves p m s e t sound h is =
     let g = stepped p s e t is in
-    let u = firmware_led p s s.stage e (effect_of p s e) in
+    let u = firmware_effect p s s.stage e (effect_of p s e) in
     let done = moves_led_by p m s e s.stage sound h h.handed g.enabled g.wanted in
     subst (λ (x : After). Moves p s e x.state) g.is
     (record {

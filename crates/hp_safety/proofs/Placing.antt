@@ -8,7 +8,7 @@ use Rattle.std.proofs.lemmas.Option.{same_Some}
 use Rattle.hp_model.specs.declared.platforms.Platform.{Platform}
 use Rattle.hp_model.specs.Platform.{all_distinct, count_of, apic_of}
 use Rattle.hp_model.specs.Block.{is_in}
-use Rattle.hp_model.specs.Slots.{Slots, place_of, bind, completed, forgotten}
+use Rattle.hp_model.specs.Slots.{Slots, slot_among, bind, completed, forgotten}
 use Rattle.hp_model.specs.Collection.{Report}
 use Rattle.hp_model.specs.Monarch.{is_that, is_own}
 use Rattle.hp_model.proofs.Counts.{pigeons, place_below}
@@ -87,17 +87,17 @@ is_in_bind s a = pick_by (λ (t : Slots). is_in a t.bound ≡ true) (is_in a s.b
 
 -- it is known from then on
 pub placed_completed : (p : Platform) (s : Slots) (a : ℕ) → Placed p s → Placed p (completed a s)
-placed_completed p s a h = record { first = h.first; distinct = h.distinct; possible = h.possible; known = length-set s.known (place_of s.bound a) true ∙ h.known }
+placed_completed p s a h = record { first = h.first; distinct = h.distinct; possible = h.possible; known = length-set s.known (slot_among s.bound a) true ∙ h.known }
 
 pub placed_forgotten : (p : Platform) (s : Slots) (a : ℕ) → Placed p s → Placed p (forgotten a s)
-placed_forgotten p s a h = record { first = h.first; distinct = h.distinct; possible = h.possible; known = length-set s.known (place_of s.bound a) false ∙ h.known }
+placed_forgotten p s a h = record { first = h.first; distinct = h.distinct; possible = h.possible; known = length-set s.known (slot_among s.bound a) false ∙ h.known }
 
 -- the place of one that is bound, and isn't processor 0's
-place_some : (bs : List ℕ) (x a : ℕ) → is_that (slice_get bs 0) x ≡ true → (x == a) ≡ false → 1 ≤ place_of bs a
+place_some : (bs : List ℕ) (x a : ℕ) → is_that (slice_get bs 0) x ≡ true → (x == a) ≡ false → 1 ≤ slot_among bs a
 place_some [] x a e n = absurd cc
 place_some (b ∷ bs) x a e n = let i : b ≡ x = eqb-true b x e in rw (i, n) (omega arith)
 
-pub place_bound : (p : Platform) (s : Slots) (a : ℕ) → Placed p s → is_in a p.apic ≡ true → (apic_of p 0 == a) ≡ false → IsSlot (count_of p) (place_of (bind a s).bound a)
+pub place_bound : (p : Platform) (s : Slots) (a : ℕ) → Placed p s → is_in a p.apic ≡ true → (apic_of p 0 == a) ≡ false → IsSlot (count_of p) (slot_among (bind a s).bound a)
 place_bound p s a h possible other =
     let t = placed_bind p s a h possible in
     let few = bound_few p (bind a s) t in
@@ -113,18 +113,18 @@ in_more x a (b ∷ bs) e = by_head (b == x) e (λ f. in_more x a bs f)
     by_head true e more = refl
     by_head false e more = more e
 
-pub place_more : (bs : List ℕ) (x a : ℕ) → is_in x bs ≡ true → place_of (bs ++ a ∷ []) x ≡ place_of bs x
+pub place_more : (bs : List ℕ) (x a : ℕ) → is_in x bs ≡ true → slot_among (bs ++ a ∷ []) x ≡ slot_among bs x
 place_more [] x a e = absurd cc
 place_more (b ∷ bs) x a e = by_head (b == x) e (λ f. place_more bs x a f)
   where
-    by_head : (c : Bool) → (c || is_in x bs) ≡ true → (is_in x bs ≡ true → place_of (bs ++ a ∷ []) x ≡ place_of bs x) → cond c 0 (place_of (bs ++ a ∷ []) x + 1) ≡ cond c 0 (place_of bs x + 1)
+    by_head : (c : Bool) → (c || is_in x bs) ≡ true → (is_in x bs ≡ true → slot_among (bs ++ a ∷ []) x ≡ slot_among bs x) → cond c 0 (slot_among (bs ++ a ∷ []) x + 1) ≡ cond c 0 (slot_among bs x + 1)
     by_head true e more = refl
     by_head false e more = ap (λ n. n + 1) (more e)
 
 pub grows_end : (s t : Slots) (a : ℕ) → t.bound ≡ s.bound ++ a ∷ [] → Grows s t
 grows_end s t a e = record {
   still = λ x f. subst (λ bs. is_in x bs ≡ true) (sym e) (in_more x a s.bound f);
-  place = λ x f. ap (λ bs. place_of bs x) e ∙ place_more s.bound x a f;
+  place = λ x f. ap (λ bs. slot_among bs x) e ∙ place_more s.bound x a f;
 }
 
 pub grows_then : (s t u : Slots) → Grows s t → Grows t u → Grows s u
@@ -137,11 +137,11 @@ grows_bind s a =
     (λ e. grows_end s (record s { bound = s.bound ++ a ∷ []; known = s.known ++ false ∷ []; held = Some a }) a refl)
 
 -- two places, two APIC IDs
-pub place_same : (bs : List ℕ) (a b : ℕ) → is_in a bs ≡ true → is_in b bs ≡ true → place_of bs a ≡ place_of bs b → a ≡ b
+pub place_same : (bs : List ℕ) (a b : ℕ) → is_in a bs ≡ true → is_in b bs ≡ true → slot_among bs a ≡ slot_among bs b → a ≡ b
 place_same [] a b e f g = absurd cc
 place_same (x ∷ xs) a b e f g = by_head (x == a) refl (x == b) refl e f g (λ h i j. place_same xs a b h i j)
   where
-    by_head : (c : Bool) → (x == a) ≡ c → (d : Bool) → (x == b) ≡ d → (c || is_in a xs) ≡ true → (d || is_in b xs) ≡ true → cond c 0 (place_of xs a + 1) ≡ cond d 0 (place_of xs b + 1) → (is_in a xs ≡ true → is_in b xs ≡ true → place_of xs a ≡ place_of xs b → a ≡ b) → a ≡ b
+    by_head : (c : Bool) → (x == a) ≡ c → (d : Bool) → (x == b) ≡ d → (c || is_in a xs) ≡ true → (d || is_in b xs) ≡ true → cond c 0 (slot_among xs a + 1) ≡ cond d 0 (slot_among xs b + 1) → (is_in a xs ≡ true → is_in b xs ≡ true → slot_among xs a ≡ slot_among xs b → a ≡ b) → a ≡ b
     by_head true u true v e f g more = grind (arith, nat_tests)
     by_head true u false v e f g more = absurd (omega (arith, g))
     by_head false u true v e f g more = absurd (omega (arith, g))
@@ -151,7 +151,7 @@ place_same (x ∷ xs) a b e f g = by_head (x == a) refl (x == b) refl e f g (λ 
 pub holding_bind : (p : Platform) (s : Slots) (a : ℕ) → Placed p s → is_in a p.apic ≡ true → (apic_of p 0 == a) ≡ false → Holding p (bind a s)
 holding_bind p s a h possible other = record {
   in_bound = λ b e. subst (λ x. is_in x (bind a s).bound ≡ true) (same_Some a b e) (is_in_bind s a);
-  slot = λ b e. subst (λ x. IsSlot (count_of p) (place_of (bind a s).bound x)) (same_Some a b e) (place_bound p s a h possible other);
+  slot = λ b e. subst (λ x. IsSlot (count_of p) (slot_among (bind a s).bound x)) (same_Some a b e) (place_bound p s a h possible other);
 }
 
 -- a bound APIC ID is a possible one, and so a small number

@@ -14,12 +14,12 @@ use Rattle.hp_model.specs.View.{loaded, stored, swapped}
 use Rattle.hp_model.specs.Boot.{value_in}
 use Rattle.hp_model.specs.Labels.{Monarch as Monarchs, part_of}
 use Rattle.hp_model.specs.SharedBytes.{layout_of, gate, closed, new_smbase, default_smbase_field, flag, arrived_byte, release_byte, map_byte, parked_byte, session_byte}
-use Rattle.hp_model.specs.Slots.{known_from, place_of}
+use Rattle.hp_model.specs.Slots.{known_from, slot_among}
 use Rattle.hp_model.specs.Collection.{found, judged, reported}
 use Rattle.hp_model.specs.Add.{AddsAt, saw_flag, saw_pair, shut, saw_arrival}
 use Rattle.hp_model.specs.Eject.{awaits, saw_parked, unparked, handed_to_block, saw_status, given_up, gone}
-use Rattle.hp_model.specs.Monarch.{Monarch, is_that, at_label, first_slot, next_slot, look_at, looked, noted, commanded, collected, led, eject_led, told, next_report}
-use Rattle.hp_model.specs.Handlers.{Seat, Next, want_at, next_at, stays, goes}
+use Rattle.hp_model.specs.Monarch.{Monarch, is_that, at_label, first_slot, next_slot, look_at, looked, noted, commanded, after_collection, after_add, after_eject, after_tell, next_report}
+use Rattle.hp_model.specs.Handlers.{Seat, Next, want_at, next_at, stays, by_record}
 use Rattle.hp_model.specs.State.{State}
 use Rattle.hp_model.specs.Ports.{read_port}
 use Rattle.hp_model.specs.Access.{access_effect, answer_to}
@@ -45,7 +45,7 @@ pub record Arriving (r : Monarch) (q : Seat) (l : Label) : Type 0 where
 -- to a label of the same handler that is due, and has what it needs in memory ws; only the monarch's rows change its record
 pub record Leads (p : Platform) (was : Bool) (ws : List Write) (r : Monarch) (q : Seat) (l : Label) (n : Next) : Type 0 where
   pub side : part_of n.label ≡ part_of l
-  pub due : part_of l ≡ Monarchs → n.monarch.label ≡ n.label
+  pub current : part_of l ≡ Monarchs → n.monarch.label ≡ n.label
   pub others : part_of l ≢ Monarchs → n.monarch ≡ r
   pub met : Met p n.monarch ws q.apic n.base n.label
   pub gated : IsGated p n.monarch ws
@@ -53,10 +53,10 @@ pub record Leads (p : Platform) (was : Bool) (ws : List Write) (r : Monarch) (q 
   pub settled : is_settled p n.monarch ws ≡ true → (was ≡ true) ⊎ Arriving r q l
   pub climbs : is_aloft (need_of n.label) ≡ true → (is_aloft (need_of l) ≡ true) ⊎ ((l ≡ F1) × (is_open (need_of r.label) ≡ true))
 
-mine : (p : Platform) (was : Bool) (ws : List Write) (r t : Monarch) (l : Label) (q : Seat) → part_of l ≡ Monarchs → Arrives p was r.slots ws q.apic q.base t → Leads p was ws r q l (goes q t)
+mine : (p : Platform) (was : Bool) (ws : List Write) (r t : Monarch) (l : Label) (q : Seat) → part_of l ≡ Monarchs → Arrives p was r.slots ws q.apic q.base t → Leads p was ws r q l (by_record q t)
 mine p was ws r t l q is h = record {
   side = h.side ∙ sym is;
-  due = λ e. refl;
+  current = λ e. refl;
   others = λ e. absurd (e is);
   met = subst (λ c. Needs (facts_of p t ws q.apic q.base) c (need_of t.label)) (sym h.side) h.met;
   gated = h.gated;
@@ -66,7 +66,7 @@ mine p was ws r t l q is h = record {
 }
 
 theirs : (p : Platform) (was : Bool) (ws : List Write) (r : Monarch) (l m : Label) (q : Seat) (base : ℕ) → part_of m ≡ part_of l → (part_of l ≡ Monarchs → ⊥) → Met p r ws q.apic base m → IsGated p r ws → Follows p was r.slots r.slot r.slots → (is_settled p r ws ≡ true → (was ≡ true) ⊎ Arriving r q l) → (is_aloft (need_of m) ≡ true → is_aloft (need_of l) ≡ true) → Leads p was ws r q l (record { label = m; base = base; monarch = r })
-theirs p was ws r l m q base same not met gated follows settled climbs = record { side = same; due = λ e. absurd (not e); others = λ e. refl; met = met; gated = gated; follows = follows; settled = settled; climbs = λ e. inl (climbs e) }
+theirs p was ws r l m q base same not met gated follows settled climbs = record { side = same; current = λ e. absurd (not e); others = λ e. refl; met = met; gated = gated; follows = follows; settled = settled; climbs = λ e. inl (climbs e) }
 
 abbrev pub LeadsOn : Platform → ℕ → State → Seat → Monarch → Label → Option Want → Type 0
 LeadsOn p k s q r l None = Unit {0}
@@ -163,7 +163,7 @@ module _ (p : Platform) (k : ℕ) (s : State) (q : Seat) (r : Monarch) (sound : 
           let vs = stored s.locks true gate 8 closed s.writes in
           record {
             side = refl;
-            due = λ f. absurd cc;
+            current = λ f. absurd cc;
             others = λ f. refl;
             met = (found_it.held, (leaves_gate p r.slots s.locks s.writes closed sound).ready found_it.ready);
             gated = inl (gate_stored p s.locks s.writes closed sound locks (omega arith));
@@ -219,11 +219,11 @@ module _ (p : Platform) (k : ℕ) (s : State) (q : Seat) (r : Monarch) (sound : 
         s4 = λ e m. let v = read_port 0xb2 1 s in mine p w s.writes r (commanded v r) S4 q refl (arrives_commanded p s.writes sound w r.slots q.apic q.base (shut_at S4 (e refl) refl) v r follow);
         c1 = λ e m. mine p w s.writes r (at_label C2 r) C1 q refl (arrives_label p s.writes sound w r.slots q.apic q.base (shut_at C1 (e refl) refl) C2 r refl refl follow);
         c2 = λ e m. mine p w s.writes r (at_label C3 r) C2 q refl (arrives_label p s.writes sound w r.slots q.apic q.base (shut_at C2 (e refl) refl) C3 r refl refl follow);
-        c3 = λ e m. let v = read_port 0xce0 4 s in mine p w s.writes r (collected y.apics (found y.count v r.collection) r) C3 q refl (arrives_found p s.writes sound w r.slots q.apic q.base (shut_at C3 (e refl) refl) v r.collection r follow);
-        c4 = λ e m. let v = read_port 0xcdc 1 s in mine p w s.writes r (collected y.apics (judged y.count v r.collection) r) C4 q refl (arrives_judged p s.writes sound w r.slots q.apic q.base (shut_at C4 (e refl) refl) v r.collection r follow);
+        c3 = λ e m. let v = read_port 0xce0 4 s in mine p w s.writes r (after_collection y.apics (found y.count v r.collection) r) C3 q refl (arrives_found p s.writes sound w r.slots q.apic q.base (shut_at C3 (e refl) refl) v r.collection r follow);
+        c4 = λ e m. let v = read_port 0xcdc 1 s in mine p w s.writes r (after_collection y.apics (judged y.count v r.collection) r) C4 q refl (arrives_judged p s.writes sound w r.slots q.apic q.base (shut_at C4 (e refl) refl) v r.collection r follow);
         c5 = λ e m. mine p w s.writes r (at_label C6 r) C5 q refl (arrives_label p s.writes sound w r.slots q.apic q.base (shut_at C5 (e refl) refl) C6 r refl refl follow);
-        c6 = λ e m. let v = read_port 0xce0 4 s in mine p w s.writes r (collected y.apics (reported y.count v r.collection) r) C6 q refl (arrives_reported p s.writes sound w r.slots q.apic q.base (shut_at C6 (e refl) refl) v r.collection r follow);
-        nb = λ e m. let less = m.0.1 in mine p w _ r (led (AddsAt N0 (record r.add { attempt = 1 })) r) NB q refl
+        c6 = λ e m. let v = read_port 0xce0 4 s in mine p w s.writes r (after_collection y.apics (reported y.count v r.collection) r) C6 q refl (arrives_reported p s.writes sound w r.slots q.apic q.base (shut_at C6 (e refl) refl) v r.collection r follow);
+        nb = λ e m. let less = m.0.1 in mine p w _ r (after_add (AddsAt N0 (record r.add { attempt = 1 })) r) NB q refl
             (arrives_adding p _ sound w r.slots q.apic q.base ((shared (release_byte y r.add.slot) 0 (omega arith) (omega (arith, few, less))).first.gates ∙ shut_at NB (e refl) refl) N0 (record r.add { attempt = 1 }) r refl (λ x z. refl) m follow);
         n0 = λ e m. let less = m.0.1 in mine p w _ r (at_label N1 r) N0 q refl
             (arrives_adding p _ sound w r.slots q.apic q.base ((leaves_arrived p s.locks s.writes r.add.slot 0 sound (omega (arith, few, less))).gates ∙ shut_at N0 (e refl) refl) N1 r.add r refl (λ x z. refl) m follow);
@@ -236,25 +236,25 @@ module _ (p : Platform) (k : ℕ) (s : State) (q : Seat) (r : Monarch) (sound : 
         n5 = λ e m. mine p w s.writes r (at_label N6 r) N5 q refl (arrives_adding p s.writes sound w r.slots q.apic q.base (shut_at N5 (e refl) refl) N6 r.add r refl (λ x z. refl) m follow);
         n6 = λ e m. mine p w s.writes r (at_label N7 r) N6 q refl (arrives_adding p s.writes sound w r.slots q.apic q.base (shut_at N6 (e refl) refl) N7 r.add r refl (λ x z. refl) m follow);
         n7 = λ e m. opens m;
-        n8a = λ e m. let v = byte flag in mine p w s.writes r (led (saw_flag v r.add) r) N8a q refl (arrives_flag p s.writes sound w r.slots q.apic q.base v r.add r m.0 m.1 m.2 gated follow);
-        n8b = λ e m. let v = byte (arrived_byte y r.add.slot) in mine p w s.writes r (led (saw_pair v r.add) (noted r.add.slot v r)) N8b q refl
+        n8a = λ e m. let v = byte flag in mine p w s.writes r (after_add (saw_flag v r.add) r) N8a q refl (arrives_flag p s.writes sound w r.slots q.apic q.base v r.add r m.0 m.1 m.2 gated follow);
+        n8b = λ e m. let v = byte (arrived_byte y r.add.slot) in mine p w s.writes r (after_add (saw_pair v r.add) (noted r.add.slot v r)) N8b q refl
             (arrives_pair p s.writes sound w r.slots q.apic q.base v r.add (noted r.add.slot v r) m.0 m.1 m.2 (reopened p s.writes r (noted r.add.slot v r) (subst (λ x. is_open (need_of x) ≡ true) (sym (e refl)) refl) refl gated) follow);
-        n9 = λ e m. mine p w _ r (led (shut r.add) r) N9 q refl (arrives_shut p _ sound w r.slots q.apic q.base (gate_stored p s.locks s.writes closed sound locks (omega arith)) r.add r m.0 m.1 follow);
-        n10 = λ e m. let less = m.0.1 in mine p w _ r (led (AddsAt N11 (record r.add { polls = y.polls })) r) N10 q refl
+        n9 = λ e m. mine p w _ r (after_add (shut r.add) r) N9 q refl (arrives_shut p _ sound w r.slots q.apic q.base (gate_stored p s.locks s.writes closed sound locks (omega arith)) r.add r m.0 m.1 follow);
+        n10 = λ e m. let less = m.0.1 in mine p w _ r (after_add (AddsAt N11 (record r.add { polls = y.polls })) r) N10 q refl
             (arrives_looking p _ sound w r.slots q.apic q.base ((leaves_arrived p s.locks s.writes r.add.slot 0 sound (omega (arith, few, less))).gates ∙ shut_at N10 (e refl) refl) (record r.add { polls = y.polls }) r m.0 m.1
             (λ f. absurd (let g : (0 == 1) ≡ true = subst (λ v. (v == 1) ≡ true) (arrived_stored p s.locks s.writes r.add.slot 0 sound locks (omega (arith, few, less)) (omega arith)) f in cc)) follow);
         n11 = λ e m. let less = m.0.1 in
             let v = byte (arrived_byte y r.add.slot) in
             let seen : (value_from (byte_at s.writes) (tseg p + r.add.slot) 1 == 1) ≡ true → w ≡ true = λ f. subst (λ x. settles (value_from (byte_at s.writes) (tseg p + r.add.slot) 1 == 1) (is_added r.outcome) (need_of x) ≡ true) (sym (e refl)) f in
-            mine p w s.writes r (led (saw_arrival v r.add) (noted r.add.slot v r)) N11 q refl
+            mine p w s.writes r (after_add (saw_arrival v r.add) (noted r.add.slot v r)) N11 q refl
             (arrives_arrival p s.writes sound w r.slots q.apic q.base (shut_at N11 (e refl) refl) v r.add (noted r.add.slot v r) m.0 m.1 (λ f. seen (subst (λ x. (x == 1) ≡ true) (reads_arrived (omega (arith, few, less))) f)) seen follow);
         e0 = λ e m. let low = ejected_small p r sound m in mine p w _ r (at_label E1 r) E0 q refl
             (arrives_ejecting p _ sound w r.slots q.apic q.base ((shared (parked_byte y r.eject.slot) 0 (omega arith) (omega (arith, low))).first.gates ∙ shut_at E0 (e refl) refl) E1 r.eject r refl refl m follow);
-        e1 = λ e m. let low = ejected_small p r sound m in mine p w _ r (eject_led (awaits y.polls r.eject) r) E1 q refl
+        e1 = λ e m. let low = ejected_small p r sound m in mine p w _ r (after_eject (awaits y.polls r.eject) r) E1 q refl
             (arrives_ejecting p _ sound w r.slots q.apic q.base ((shared (map_byte y r.eject.slot) 1 (omega arith) (omega (arith, low))).first.gates ∙ shut_at E1 (e refl) refl) E2 (record r.eject { polls = y.polls }) r refl refl m follow);
-        e2 = λ e m. let v = byte (parked_byte y r.eject.slot) in mine p w s.writes r (eject_led (saw_parked v r.eject) r) E2 q refl
+        e2 = λ e m. let v = byte (parked_byte y r.eject.slot) in mine p w s.writes r (after_eject (saw_parked v r.eject) r) E2 q refl
             (arrives_parked p s.writes sound w r.slots q.apic q.base (shut_at E2 (e refl) refl) v r.eject r m follow);
-        e3 = λ e m. let low = ejected_small p r sound m in mine p w _ r (eject_led (unparked r.eject) r) E3 q refl
+        e3 = λ e m. let low = ejected_small p r sound m in mine p w _ r (after_eject (unparked r.eject) r) E3 q refl
             (arrives_ended p _ sound w r.slots q.apic q.base ((shared (map_byte y r.eject.slot) 0 (omega arith) (omega (arith, low))).first.gates ∙ shut_at E3 (e refl) refl) _ r refl follow);
         e4a = λ e m. mine p w s.writes r (at_label E4b r) E4a q refl (arrives_ejecting p s.writes sound w r.slots q.apic q.base (shut_at E4a (e refl) refl) E4b r.eject r refl refl m follow);
         e4b = λ e m. mine p w s.writes r (at_label (handed_to_block y.late) r) E4b q refl (arrives_handed p s.writes sound w r.slots q.apic q.base (shut_at E4b (e refl) refl) y.late r m follow);
@@ -262,14 +262,14 @@ module _ (p : Platform) (k : ℕ) (s : State) (q : Seat) (r : Monarch) (sound : 
             (arrives_ejecting p _ sound w r.slots q.apic q.base ((leaves_arrived p s.locks s.writes r.eject.slot 0 sound low).gates ∙ shut_at E4c (e refl) refl) E4d r.eject r refl refl m follow);
         e4d = λ e m. let low = ejected_small p r sound m in mine p w _ r (at_label E4e r) E4d q refl
             (arrives_ejecting p _ sound w r.slots q.apic q.base ((shared (map_byte y r.eject.slot) 0 (omega arith) (omega (arith, low))).first.gates ∙ shut_at E4d (e refl) refl) E4e r.eject r refl refl m follow);
-        e4e = λ e m. let low = ejected_small p r sound m in mine p w _ r (eject_led (gone r.eject) r) E4e q refl
+        e4e = λ e m. let low = ejected_small p r sound m in mine p w _ r (after_eject (gone r.eject) r) E4e q refl
             (arrives_ended p _ sound w r.slots q.apic q.base ((shared (parked_byte y r.eject.slot) 0 (omega arith) (omega (arith, low))).first.gates ∙ shut_at E4e (e refl) refl) _ r refl follow);
         e4f = λ e m. mine p w s.writes r (at_label E4g r) E4f q refl (arrives_ejecting p s.writes sound w r.slots q.apic q.base (shut_at E4f (e refl) refl) E4g r.eject r refl refl m follow);
-        e4g = λ e m. let v = read_port 0xcdc 1 s in mine p w s.writes r (eject_led (saw_status v r.eject) r) E4g q refl
+        e4g = λ e m. let v = read_port 0xcdc 1 s in mine p w s.writes r (after_eject (saw_status v r.eject) r) E4g q refl
             (arrives_status p s.writes sound w r.slots q.apic q.base (shut_at E4g (e refl) refl) v r.eject r m follow);
-        e4h = λ e m. let low = ejected_small p r sound m in mine p w _ r (eject_led (given_up r.eject) r) E4h q refl
+        e4h = λ e m. let low = ejected_small p r sound m in mine p w _ r (after_eject (given_up r.eject) r) E4h q refl
             (arrives_ended p _ sound w r.slots q.apic q.base ((shared (map_byte y r.eject.slot) 0 (omega arith) (omega (arith, low))).first.gates ∙ shut_at E4h (e refl) refl) _ r refl follow);
-        t = λ e m. mine p w s.writes r (next_report y.apics (told r.outcome r)) T q refl
+        t = λ e m. mine p w s.writes r (next_report y.apics (after_tell r.outcome r)) T q refl
             (arrives_told p s.writes sound w r.slots q.apic q.base (shut_at T (e refl) refl) r.outcome r (λ f. subst (λ x. settles (value_from (byte_at s.writes) (tseg p + r.add.slot) 1 == 1) (is_added r.outcome) (need_of x) ≡ true) (sym (e refl)) f) follow);
         e5 = λ e m. mine p w _ r (first_slot E6 E7 r) E5 q refl (arrives_first p _ sound w r.slots q.apic q.base ((shared (session_byte y) 0 (omega arith) (omega arith)).first.gates ∙ shut_at E5 (e refl) refl) E6 E7 r refl refl refl refl follow);
         e6 = λ e m. mine p w _ r (next_slot E6 E7 r) E6 q refl (arrives_next p _ sound w r.slots q.apic q.base ((shared (release_byte y r.slot) 1 (omega arith) (omega (arith, slot))).first.gates ∙ shut_at E6 (e refl) refl) E6 E7 r refl refl refl refl follow);
@@ -277,11 +277,11 @@ module _ (p : Platform) (k : ℕ) (s : State) (q : Seat) (r : Monarch) (sound : 
       }) (facts_of p r s.writes q.apic q.base) l met is met
     where
       -- the gate is opened to the APIC ID of the add, which is held
-      opens : MonarchNeeds (facts_of p r s.writes q.apic q.base) Opening → Leads p (is_settled p r s.writes) (stored s.locks true gate 8 r.add.apic s.writes) r q N7 (goes q (led (AddsAt N8a (record r.add { polls = p.polls })) r))
+      opens : MonarchNeeds (facts_of p r s.writes q.apic q.base) Opening → Leads p (is_settled p r s.writes) (stored s.locks true gate 8 r.add.apic s.writes) r q N7 (by_record q (after_add (AddsAt N8a (record r.add { polls = p.polls })) r))
       opens m =
-          let t = led (AddsAt N8a (record r.add { polls = p.polls })) r in
+          let t = after_add (AddsAt N8a (record r.add { polls = p.polls })) r in
           let vs = stored s.locks true gate 8 r.add.apic s.writes in
-          let parts = and_parts (is_that r.slots.held r.add.apic) (r.add.slot == place_of r.slots.bound r.add.apic) m.1 in
+          let parts = and_parts (is_that r.slots.held r.add.apic) (r.add.slot == slot_among r.slots.bound r.add.apic) m.1 in
           let ready = (leaves_gate p r.slots s.locks s.writes r.add.apic sound).ready m.2 in
           mine p (is_settled p r s.writes) vs r t N7 q refl (record {
             side = refl;

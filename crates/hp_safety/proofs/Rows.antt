@@ -13,7 +13,7 @@ use Rattle.hp_model.specs.View.{loaded, stored}
 use Rattle.hp_model.specs.Interrupts.{decoded}
 use Rattle.hp_model.specs.Labels.{Monarch as Monarchs, part_of}
 use Rattle.hp_model.specs.SharedBytes.{layout_of, gate, closed, release_byte, map_byte, parked_byte, session_byte}
-use Rattle.hp_model.specs.Slots.{Slots, place_of}
+use Rattle.hp_model.specs.Slots.{Slots, slot_among}
 use Rattle.hp_model.specs.Monarch.{Monarch, is_that}
 use Rattle.hp_model.specs.Handlers.{Seat, slot_at, want_at}
 use Rattle.hp_model.specs.State.{State, at}
@@ -54,13 +54,13 @@ pub held_small : (p : Platform) (s : Slots) (a : ℕ) → Sound p → Holding p 
 held_small p s a sound holding e =
     let is = that_is s.held a e in
     let slot = holding.slot a is in
-    rw is (small_tile p (place_of s.bound a) sound slot.1)
+    rw is (small_tile p (slot_among s.bound a) sound slot.1)
 
 pub add_tile : (p : Platform) (r : Monarch) → is_adding r ≡ true → tile p r.add.slot ≡ held_tile p r.slots
 add_tile p r e =
-    let parts = and_parts (is_that r.slots.held r.add.apic) (r.add.slot == place_of r.slots.bound r.add.apic) e in
+    let parts = and_parts (is_that r.slots.held r.add.apic) (r.add.slot == slot_among r.slots.bound r.add.apic) e in
     let is = that_is r.slots.held r.add.apic parts.0 in
-    let place : r.add.slot ≡ place_of r.slots.bound r.add.apic = eqb-true r.add.slot (place_of r.slots.bound r.add.apic) parts.1 in
+    let place : r.add.slot ≡ slot_among r.slots.bound r.add.apic = eqb-true r.add.slot (slot_among r.slots.bound r.add.apic) parts.1 in
     rw (is, place) refl
 
 -- who finds its APIC ID in the gate finds it open, since it isn't the value of a closed one

@@ -11,7 +11,7 @@ use Rattle.hp_model.specs.Platform.{IsFit, count_of, tseg, tile, apic_of}
 use Rattle.hp_model.specs.Cpu.{smm_address}
 use Rattle.hp_model.specs.Block.{is_in}
 use Rattle.hp_model.specs.Labels.{cell_of}
-use Rattle.hp_model.specs.Slots.{place_of}
+use Rattle.hp_model.specs.Slots.{slot_among}
 use Rattle.hp_model.specs.Monarch.{Monarch}
 use Rattle.hp_model.specs.State.{State, at, start}
 use Rattle.hp_model.specs.Runs.{run_on, address_of}
@@ -52,13 +52,13 @@ slot_told p B r a b bound out (inr own) = elim (same_or b 0x30000) [
   | inl e ↦ inl e
   | inr relocated ↦
       let there = out relocated in
-      inr (there, own.1 ∙ ap (tile p) (elim bound [ inl e ↦ ap (λ xs. place_of xs a) e | inr more ↦ ap (λ xs. place_of xs a) more.1 ∙ place_more B a r.add.apic there ]))
+      inr (there, own.1 ∙ ap (tile p) (elim bound [ inl e ↦ ap (λ xs. slot_among xs a) e | inr more ↦ ap (λ xs. slot_among xs a) more.1 ∙ place_more B a r.add.apic there ]))
 ]
 
 same_slot : (p : Platform) (bound : List ℕ) (a b x y : ℕ) → IsAtSlot p bound a x → IsAtSlot p bound b y → x ≡ y → x ≢ 0x30000 → a ≡ b
 same_slot p bound a b x y (inl e) h same relocated = absurd (relocated e)
 same_slot p bound a b x y (inr own) (inl e) same relocated = absurd (relocated (same ∙ e))
-same_slot p bound a b x y (inr own) (inr other) same relocated = place_same bound a b own.0 other.0 (plain (tseg p) (place_of bound a) (place_of bound b) (sym own.1 ∙ (same ∙ other.1)))
+same_slot p bound a b x y (inr own) (inr other) same relocated = place_same bound a b own.0 other.0 (plain (tseg p) (slot_among bound a) (slot_among bound b) (sym own.1 ∙ (same ∙ other.1)))
   where
     plain : (base i j : ℕ) → base + 0x20000 + i * 0x10000 ≡ base + 0x20000 + j * 0x10000 → i ≡ j
     plain base i j e = omega (arith, e)
@@ -77,15 +77,15 @@ possible p past s (inr h) k there = h.0.slots.possible k there
 owns : (p : Platform) (past : List Transition) (s : State) → Told p past s → have_own_smbases p (entries_of past) s ≡ true
 owns p past s h = all_places (λ k. has_own_smbase p (bound p (entries_of past)) (apic_of p k) (at s k)) (count_of p) (λ k. by_presence k (at s k).present refl)
   where
-    at_own : (ids : List ℕ) (apic b : ℕ) → IsAtSlot p ids apic b → ((b == 0x30000) || (is_in apic ids && (b == tile p (place_of ids apic)))) ≡ true
+    at_own : (ids : List ℕ) (apic b : ℕ) → IsAtSlot p ids apic b → ((b == 0x30000) || (is_in apic ids && (b == tile p (slot_among ids apic)))) ≡ true
     at_own ids apic b (inl e) = rw e refl
-    at_own ids apic b (inr own) = let is = itself (tile p (place_of ids apic)) in rw (own.0, own.1, is) (more (tile p (place_of ids apic) == 0x30000))
+    at_own ids apic b (inr own) = let is = itself (tile p (slot_among ids apic)) in rw (own.0, own.1, is) (more (tile p (slot_among ids apic) == 0x30000))
       where
         more : (c : Bool) → (c || true) ≡ true
         more true = refl
         more false = refl
 
-    by_presence : (k : ℕ) (c : Bool) → (at s k).present ≡ c → (not c || (((at s k).smbase == 0x30000) || (is_in (apic_of p k) (bound p (entries_of past)) && ((at s k).smbase == tile p (place_of (bound p (entries_of past)) (apic_of p k)))))) ≡ true
+    by_presence : (k : ℕ) (c : Bool) → (at s k).present ≡ c → (not c || (((at s k).smbase == 0x30000) || (is_in (apic_of p k) (bound p (entries_of past)) && ((at s k).smbase == tile p (slot_among (bound p (entries_of past)) (apic_of p k)))))) ≡ true
     by_presence k false is = refl
     by_presence k true is = at_own (bound p (entries_of past)) (apic_of p k) (at s k).smbase (own_slot p past s h k is)
 

@@ -8,7 +8,7 @@ use Rattle.hp_model.specs.declared.labels.Label.{Label}
 use Rattle.hp_model.specs.declared.labels.Label.TheVariants.{F1, F2, F3, F4, F5, F6, R1, R2, R3, R4, R5, R6, S0, S1, S2, S3, S4, C1, C2, C3, C4, C5, C6, NB, N0, N1, N2, N3, N4, N5, N6, N7, N8a, N8b, N9, N10, N11, E0, E1, E2, E3, E4a, E4b, E4c, E4d, E4e, E4f, E4g, E4h, T, E5, E6, E7}
 use Rattle.hp_model.specs.Labels.{index_of}
 use Rattle.hp_model.specs.Collection.{Report}
-use Rattle.hp_model.specs.Monarch.{Monarch, told}
+use Rattle.hp_model.specs.Monarch.{Monarch, after_tell}
 use Rattle.hp_model.specs.Account.{told_held, left_held}
 use Rattle.hp_model.specs.Sessions.{session, triples, outcomes, add_runs, apic_in}
 use Rattle.hp_safety.proofs.Ties.{reports_at}
@@ -150,7 +150,7 @@ TallyAt a r Collecting = (a.reports ≡ r.collection.reports) × (a.told ≡ 0) 
 TallyAt a r Beginning = Answers a r.collection.reports r.taken r.add.cpu r.add.apic × (a.runs ≡ false) × Holds a r.slots.held r.add.apic
 TallyAt a r Running = Answers a r.collection.reports r.taken r.add.cpu r.add.apic × (a.runs ≡ true) × Holds a r.slots.held r.add.apic
 TallyAt a r Parting = Answers a r.collection.reports r.taken r.eject.cpu r.eject.apic × IsIdle a r
-TallyAt a r Telling = Says a r.collection.reports r.taken r.slots.held (told r.outcome r).slots.held r.outcome
+TallyAt a r Telling = Says a r.collection.reports r.taken r.slots.held (after_tell r.outcome r).slots.held r.outcome
 TallyAt a r Ending = (a.told ≡ length a.reports) × IsIdle a r
 TallyAt a r Over = IsIdle a r
 

@@ -9,44 +9,44 @@ use Rattle.hp_model.specs.declared.labels.Label.TheVariants.{F1, R1, R2, R3, R4,
 use Rattle.hp_model.specs.Labels.{Monarch as Monarchs, part_of}
 use Rattle.hp_model.specs.SharedBytes.{Layout}
 use Rattle.hp_model.specs.Slots.{known_from}
-use Rattle.hp_model.specs.Collection.{Report, Collection, CollectsAt, CollectedAll, next_processor, found, judged, reported, collection_start}
+use Rattle.hp_model.specs.Collection.{Report, Collection, CollectsAt, CollectEnds, next_processor, found, judged, reported, collection_start}
 use Rattle.hp_model.specs.Add.{AddsAt, Ends, failed, looks, is_last_look, saw_flag, saw_pair, shut, saw_arrival}
 use Rattle.hp_model.specs.Eject.{EjectsAt, EjectEnds, awaits, saw_parked, handed_to_block, saw_status}
-use Rattle.hp_model.specs.Monarch.{Monarch, at_label, first_slot, next_slot, look_at, looked, noted, commanded, Class, Tells, Adds, Ejects, refuses, Facts as Tests, held_class, insert_class, eject_class, class, facts_of as facts_by, tells, took, answered, taken_up, next_report, collected, led, eject_led, told}
+use Rattle.hp_model.specs.Monarch.{Monarch, at_label, first_slot, next_slot, look_at, looked, noted, commanded, Decision, ToTell, ToAdd, ToEject, refuses, Facts as Tests, held_decision, insert_decision, eject_decision, decision, facts_of as facts_by, at_tell, took, answered, taken_up, next_report, after_collection, after_add, after_eject, after_tell}
 use Rattle.hp_model.specs.Account.{told_held}
 use Rattle.hp_model.specs.Handlers.{Seat, next_at}
 use Rattle.hp_sealed.proofs.Left.{pick}
 use Rattle.hp_safety.proofs.Needs.{Nothing, need_of, Facts, Needs}
 use Rattle.hp_safety.proofs.EachRow.{row_of_each}
 use Rattle.hp_safety.proofs.Invariant.{is_added}
-use Rattle.hp_safety.proofs.Leading.{Says as ClassSays, class_says}
+use Rattle.hp_safety.proofs.Leading.{Says as DecisionSays, decision_says}
 use Rattle.hp_safety.proofs.Tallies.{Tally, held_in, tally_told, tally_after, Turn, Waiting, Collecting, Beginning, Running, Parting, Telling, Ending, Over, turn_of, IsIdle, IsHeldBy, IsOpen, Answers, Says, TallyAt, Tallied}
 
 -- what is told of a report at once changes nothing of what is held
 abbrev pub IsMere : Outcome → Type 0
 IsMere o = (held : Option ℕ) → told_held held o ≡ held
 
-abbrev TellsMere : Class → Type 0
-TellsMere (Tells o) = IsMere o × ((r : Monarch) → (told o r).slots.held ≡ r.slots.held)
-TellsMere Adds = Unit {0}
-TellsMere Ejects = Unit {0}
+abbrev TellsMere : Decision → Type 0
+TellsMere (ToTell o) = IsMere o × ((r : Monarch) → (after_tell o r).slots.held ≡ r.slots.held)
+TellsMere ToAdd = Unit {0}
+TellsMere ToEject = Unit {0}
 
-insert_mere : (f : Tests) (t : Report) → TellsMere (insert_class f t)
-insert_mere f t = pick TellsMere f.known (refuses (AlreadyKnown t.cpu t.apic f.slot)) (held_class f.held t) ((λ x. refl), λ r. refl) (by_held f.held)
+insert_mere : (f : Tests) (t : Report) → TellsMere (insert_decision f t)
+insert_mere f t = pick TellsMere f.known (refuses (AlreadyKnown t.cpu t.apic f.slot)) (held_decision f.held t) ((λ x. refl), λ r. refl) (by_held f.held)
   where
-    by_held : (o : Option ℕ) → TellsMere (held_class o t)
+    by_held : (o : Option ℕ) → TellsMere (held_decision o t)
     by_held None = tt
-    by_held (Some b) = pick TellsMere (b == t.apic) Adds (refuses (GateHeld t.cpu t.apic b)) tt ((λ x. refl), λ r. refl)
+    by_held (Some b) = pick TellsMere (b == t.apic) ToAdd (refuses (GateHeld t.cpu t.apic b)) tt ((λ x. refl), λ r. refl)
 
-class_mere : (f : Tests) (t : Report) → TellsMere (class f t)
-class_mere f t =
+decision_mere : (f : Tests) (t : Report) → TellsMere (decision f t)
+decision_mere f t =
     pick TellsMere (not f.own) (refuses (Foreign t.cpu t.apic)) _ ((λ x. refl), λ r. refl)
     (pick TellsMere (not (bit_and t.status 1 == 1)) (refuses (Disabled t.cpu t.status)) _ ((λ x. refl), λ r. refl)
     (pick TellsMere (bit_and t.status 0x12 == 0x12) (refuses (Both t.cpu t.status)) _ ((λ x. refl), λ r. refl)
-    (pick TellsMere (bit_and t.status 2 == 2) (insert_class f t) (eject_class f t) (insert_mere f t)
+    (pick TellsMere (bit_and t.status 2 == 2) (insert_decision f t) (eject_decision f t) (insert_mere f t)
     (pick TellsMere (not (bit_and f.features 4 == 4)) (refuses (NoUnplug t.cpu f.features)) _ ((λ x. refl), λ r. refl)
     (pick TellsMere (not f.known) (refuses (NotKnown t.cpu t.apic)) _ ((λ x. refl), λ r. refl)
-    (pick TellsMere (f.look == 0) (refuses (NotArrived t.cpu t.apic)) Ejects ((λ x. refl), λ r. refl) tt))))))
+    (pick TellsMere (f.look == 0) (refuses (NotArrived t.cpu t.apic)) ToEject ((λ x. refl), λ r. refl) tt))))))
 
 -- the next report of a list
 pub first_dropped : (n : ℕ) (ts : List Report) (t : Report) (us : List Report) → drop n ts ≡ t ∷ us → slice_get ts n ≡ Some t
@@ -83,27 +83,27 @@ not_added (outcome.Ejected cpu apic slot) held e = tt
 not_added (outcome.Refused why) held e = tt
 
 -- the next report is taken up
-tally_answered : (ids : List ℕ) (A : Tally) (r : Monarch) (t : Report) → A.reports ≡ r.collection.reports → A.told ≡ r.taken → IsIdle A r → slice_get A.reports A.told ≡ Some t → Tallied A (answered (class (facts_by ids r t) t) t (took r))
-tally_answered ids A r t reports taken idle first = by_class (class (facts_by ids r t) t) (class_mere (facts_by ids r t) t) (class_says ids r t)
+tally_answered : (ids : List ℕ) (A : Tally) (r : Monarch) (t : Report) → A.reports ≡ r.collection.reports → A.told ≡ r.taken → IsIdle A r → slice_get A.reports A.told ≡ Some t → Tallied A (answered (decision (facts_by ids r t) t) t (took r))
+tally_answered ids A r t reports taken idle first = by_decision (decision (facts_by ids r t) t) (decision_mere (facts_by ids r t) t) (decision_says ids r t)
   where
     held_same : (a : ℕ) → (o : Option ℕ) → A.left ≡ o → ((b : ℕ) → o ≡ Some b → b ≡ a) → (A.left ≡ None) ⊎ (A.left ≡ Some a)
     held_same a None is same = inl is
     held_same a (Some b) is same = inr (is ∙ ap Some (same b refl))
 
-    by_class : (c : Class) → TellsMere c → ClassSays ids r.slots (facts_by ids r t) t c → Tallied A (answered c t (took r))
-    by_class (Tells o) mere says = record {
+    by_decision : (c : Decision) → TellsMere c → DecisionSays ids r.slots (facts_by ids r t) t c → Tallied A (answered c t (took r))
+    by_decision (ToTell o) mere says = record {
       report = t;
       is = record { reported = reports; taken_up = ap (λ n. n + 1) taken; unanswered = first };
       held = held_idle A r.slots.held idle.0 idle.1;
-      left = mere.0 A.left ∙ (idle.1 ∙ sym (mere.1 (tells o (took r))));
+      left = mere.0 A.left ∙ (idle.1 ∙ sym (mere.1 (at_tell o (took r))));
       added = not_added o r.slots.held says;
     }
-    by_class Adds mere says = (
+    by_decision ToAdd mere says = (
       record { report = t; is = record { reported = reports; taken_up = ap (λ n. n + 1) taken; unanswered = first }; cpu = refl; apic = refl },
       idle.0,
       (refl, held_same t.apic r.slots.held idle.1 says.held),
     )
-    by_class Ejects mere says = (record { report = t; is = record { reported = reports; taken_up = ap (λ n. n + 1) taken; unanswered = first }; cpu = refl; apic = refl }, idle)
+    by_decision ToEject mere says = (record { report = t; is = record { reported = reports; taken_up = ap (λ n. n + 1) taken; unanswered = first }; cpu = refl; apic = refl }, idle)
 
 tally_report : (ids : List ℕ) (A : Tally) (r : Monarch) → A.reports ≡ r.collection.reports → A.told ≡ r.taken → A.told ≤ length A.reports → IsIdle A r → Tallied A (next_report ids r)
 tally_report ids A r reports taken few idle = by_rest (drop r.taken r.collection.reports) refl
@@ -149,45 +149,45 @@ tally_commanded : (v : ℕ) (A : Tally) (r : Monarch) → TallyAt A r Waiting �
 tally_commanded v A r h = pick (Tallied A) (v == 4) (record r { label = C1; collection = collection_start; taken = 0 }) (at_label E5 r) (h.0, h.1, refl, h.2) (h.1 ∙ ap length (sym h.0), h.2)
 
 -- the collection
-tally_processor : (ids : List ℕ) (count : ℕ) (c : Collection) (A : Tally) (r : Monarch) → A.reports ≡ c.reports → A.told ≡ 0 → r.taken ≡ 0 → IsIdle A r → Tallied A (collected ids (next_processor count c) r)
+tally_processor : (ids : List ℕ) (count : ℕ) (c : Collection) (A : Tally) (r : Monarch) → A.reports ≡ c.reports → A.told ≡ 0 → r.taken ≡ 0 → IsIdle A r → Tallied A (after_collection ids (next_processor count c) r)
 tally_processor ids count c A r reports none taken idle =
-    pick (λ x. Tallied A (collected ids x r)) (nat_lt (c.cpu + 1) count) (CollectsAt C1 (record c { cpu = c.cpu + 1 })) (CollectedAll (record c { cpu = c.cpu + 1 })) (reports, none, taken, idle)
+    pick (λ x. Tallied A (after_collection ids x r)) (nat_lt (c.cpu + 1) count) (CollectsAt C1 (record c { cpu = c.cpu + 1 })) (CollectEnds (record c { cpu = c.cpu + 1 })) (reports, none, taken, idle)
     (tally_report ids A (record r { collection = record c { cpu = c.cpu + 1 } }) reports (none ∙ sym taken) (omega (arith, none)) idle)
 
-tally_found : (ids : List ℕ) (count v : ℕ) (A : Tally) (r : Monarch) → TallyAt A r Collecting → Tallied A (collected ids (found count v r.collection) r)
+tally_found : (ids : List ℕ) (count v : ℕ) (A : Tally) (r : Monarch) → TallyAt A r Collecting → Tallied A (after_collection ids (found count v r.collection) r)
 tally_found ids count v A r h =
     let none = h.1 in
-    pick (λ x. Tallied A (collected ids x r)) (nat_lt v r.collection.cpu || not (nat_lt v count)) (CollectedAll r.collection) (CollectsAt C4 (record r.collection { cpu = v }))
+    pick (λ x. Tallied A (after_collection ids x r)) (nat_lt v r.collection.cpu || not (nat_lt v count)) (CollectEnds r.collection) (CollectsAt C4 (record r.collection { cpu = v }))
     (tally_report ids A (record r { collection = r.collection }) h.0 (h.1 ∙ sym h.2) (omega (arith, none)) h.3) (h.0, h.1, h.2, h.3)
 
-tally_judged : (ids : List ℕ) (count v : ℕ) (A : Tally) (r : Monarch) → TallyAt A r Collecting → Tallied A (collected ids (judged count v r.collection) r)
+tally_judged : (ids : List ℕ) (count v : ℕ) (A : Tally) (r : Monarch) → TallyAt A r Collecting → Tallied A (after_collection ids (judged count v r.collection) r)
 tally_judged ids count v A r h =
-    pick (λ x. Tallied A (collected ids x r)) (bit_and v 0x12 == 0) (next_processor count r.collection) (CollectsAt C5 (record r.collection { status = v })) (tally_processor ids count r.collection A r h.0 h.1 h.2 h.3) (h.0, h.1, h.2, h.3)
+    pick (λ x. Tallied A (after_collection ids x r)) (bit_and v 0x12 == 0) (next_processor count r.collection) (CollectsAt C5 (record r.collection { status = v })) (tally_processor ids count r.collection A r h.0 h.1 h.2 h.3) (h.0, h.1, h.2, h.3)
 
 tally_reported : (ids : List ℕ) (count v : ℕ) (A : Tally) (r : Monarch) → TallyAt A r Collecting
-    → Tallied (record { reports = A.reports ++ record { cpu = r.collection.cpu; status = r.collection.status; apic = v } ∷ []; told = A.told; runs = A.runs; left = A.left }) (collected ids (reported count v r.collection) r)
+    → Tallied (record { reports = A.reports ++ record { cpu = r.collection.cpu; status = r.collection.status; apic = v } ∷ []; told = A.told; runs = A.runs; left = A.left }) (after_collection ids (reported count v r.collection) r)
 tally_reported ids count v A r h =
     let t : Report = record { cpu = r.collection.cpu; status = r.collection.status; apic = v } in
     tally_processor ids count (record r.collection { reports = r.collection.reports ++ t ∷ [] }) (record { reports = A.reports ++ t ∷ []; told = A.told; runs = A.runs; left = A.left }) r (ap (λ ts. ts ++ t ∷ []) h.0) h.1 h.2 h.3
 
 -- an add
-tally_ends : (why : Outcome) (A : Tally) (r : Monarch) → TallyAt A r Running → told_held A.left why ≡ (told why (tells why r)).slots.held → IsHeldBy why r.slots.held → Tallied A (led (Ends why) r)
+tally_ends : (why : Outcome) (A : Tally) (r : Monarch) → TallyAt A r Running → told_held A.left why ≡ (after_tell why (at_tell why r)).slots.held → IsHeldBy why r.slots.held → Tallied A (after_add (Ends why) r)
 tally_ends why A r h left added = record { report = h.0.report; is = h.0.is; held = held_running A r.collection.reports r.taken r.add.cpu r.add.apic r.slots.held h.0 h.1 h.2.0; left = left; added = added }
 
-tally_failed : (why : Outcome) (A : Tally) (r : Monarch) → TallyAt A r Running → told_held A.left why ≡ (told why (tells why r)).slots.held → IsHeldBy why r.slots.held → Tallied A (led (failed why r.add) r)
-tally_failed why A r h left added = pick (λ x. Tallied A (led x r)) (nat_lt r.add.attempt 3) (AddsAt N0 (record r.add { attempt = r.add.attempt + 1 })) (Ends why) h (tally_ends why A r h left added)
+tally_failed : (why : Outcome) (A : Tally) (r : Monarch) → TallyAt A r Running → told_held A.left why ≡ (after_tell why (at_tell why r)).slots.held → IsHeldBy why r.slots.held → Tallied A (after_add (failed why r.add) r)
+tally_failed why A r h left added = pick (λ x. Tallied A (after_add x r)) (nat_lt r.add.attempt 3) (AddsAt N0 (record r.add { attempt = r.add.attempt + 1 })) (Ends why) h (tally_ends why A r h left added)
 
-tally_flag : (v : ℕ) (A : Tally) (r : Monarch) → TallyAt A r Running → Tallied A (led (saw_flag v r.add) r)
-tally_flag v A r h = pick (λ x. Tallied A (led x r)) (v == 1) (AddsAt N9 (record r.add { seen = true })) (AddsAt N8b r.add) h h
+tally_flag : (v : ℕ) (A : Tally) (r : Monarch) → TallyAt A r Running → Tallied A (after_add (saw_flag v r.add) r)
+tally_flag v A r h = pick (λ x. Tallied A (after_add x r)) (v == 1) (AddsAt N9 (record r.add { seen = true })) (AddsAt N8b r.add) h h
 
-tally_pair : (v : ℕ) (A : Tally) (r : Monarch) → TallyAt A r Running → Tallied A (led (saw_pair v r.add) r)
+tally_pair : (v : ℕ) (A : Tally) (r : Monarch) → TallyAt A r Running → Tallied A (after_add (saw_pair v r.add) r)
 tally_pair v A r h =
-    pick (λ x. Tallied A (led x r)) (v == 1) (AddsAt N9 (record r.add { seen = true })) _ h
-    (pick (λ x. Tallied A (led x r)) (is_last_look r.add) (AddsAt N9 (record r.add { seen = false })) (looks N8a (r.add.polls - 1) r.add) h h)
+    pick (λ x. Tallied A (after_add x r)) (v == 1) (AddsAt N9 (record r.add { seen = true })) _ h
+    (pick (λ x. Tallied A (after_add x r)) (is_last_look r.add) (AddsAt N9 (record r.add { seen = false })) (looks N8a (r.add.polls - 1) r.add) h h)
 
-tally_shut : (A : Tally) (r : Monarch) → TallyAt A r Running → Tallied A (led (shut r.add) r)
+tally_shut : (A : Tally) (r : Monarch) → TallyAt A r Running → Tallied A (after_add (shut r.add) r)
 tally_shut A r h =
-    pick (λ x. Tallied A (led x r)) r.add.seen (AddsAt N10 r.add) (failed (outcome.Refused (NotAtGate r.add.cpu r.add.apic)) r.add) h (tally_failed (outcome.Refused (NotAtGate r.add.cpu r.add.apic)) A r h (sym h.2.0) tt)
+    pick (λ x. Tallied A (after_add x r)) r.add.seen (AddsAt N10 r.add) (failed (outcome.Refused (NotAtGate r.add.cpu r.add.apic)) r.add) h (tally_failed (outcome.Refused (NotAtGate r.add.cpu r.add.apic)) A r h (sym h.2.0) tt)
 
 added_left : (left : Option ℕ) (cpu apic slot : ℕ) → (left ≡ None) ⊎ (left ≡ Some apic) → told_held left (outcome.Added cpu apic slot) ≡ None
 added_left left cpu apic slot (inl none) = rw none refl
@@ -196,25 +196,25 @@ added_left left cpu apic slot (inr it) = let same = itself apic in rw (it, same)
     itself : (n : ℕ) → (n == n) ≡ true
     itself n = grind (arith, nat_tests)
 
-tally_arrival : (v : ℕ) (A : Tally) (r : Monarch) → TallyAt A r Running → Tallied A (led (saw_arrival v r.add) r)
+tally_arrival : (v : ℕ) (A : Tally) (r : Monarch) → TallyAt A r Running → Tallied A (after_add (saw_arrival v r.add) r)
 tally_arrival v A r h =
-    pick (λ x. Tallied A (led x r)) (v == 1) (Ends (outcome.Added r.add.cpu r.add.apic r.add.slot)) _ (tally_ends (outcome.Added r.add.cpu r.add.apic r.add.slot) A r h (added_left A.left r.add.cpu r.add.apic r.add.slot h.2.1) h.2.0)
-    (pick (λ x. Tallied A (led x r)) (is_last_look r.add) (failed (outcome.Refused (NotCheckedIn r.add.cpu r.add.apic)) r.add) (looks N11 (r.add.polls - 1) r.add)
+    pick (λ x. Tallied A (after_add x r)) (v == 1) (Ends (outcome.Added r.add.cpu r.add.apic r.add.slot)) _ (tally_ends (outcome.Added r.add.cpu r.add.apic r.add.slot) A r h (added_left A.left r.add.cpu r.add.apic r.add.slot h.2.1) h.2.0)
+    (pick (λ x. Tallied A (after_add x r)) (is_last_look r.add) (failed (outcome.Refused (NotCheckedIn r.add.cpu r.add.apic)) r.add) (looks N11 (r.add.polls - 1) r.add)
     (tally_failed (outcome.Refused (NotCheckedIn r.add.cpu r.add.apic)) A r h (sym h.2.0) tt) h)
 
 -- an eject
-tally_parked : (v : ℕ) (A : Tally) (r : Monarch) → TallyAt A r Parting → Tallied A (eject_led (saw_parked v r.eject) r)
+tally_parked : (v : ℕ) (A : Tally) (r : Monarch) → TallyAt A r Parting → Tallied A (after_eject (saw_parked v r.eject) r)
 tally_parked v A r h =
-    pick (λ x. Tallied A (eject_led x r)) (v == 1) (EjectsAt E4a r.eject) _ h
-    (pick (λ x. Tallied A (eject_led x r)) (nat_le r.eject.polls 1) (EjectsAt E3 r.eject) (awaits (r.eject.polls - 1) r.eject) h h)
+    pick (λ x. Tallied A (after_eject x r)) (v == 1) (EjectsAt E4a r.eject) _ h
+    (pick (λ x. Tallied A (after_eject x r)) (nat_le r.eject.polls 1) (EjectsAt E3 r.eject) (awaits (r.eject.polls - 1) r.eject) h h)
 
-tally_status : (v : ℕ) (A : Tally) (r : Monarch) → TallyAt A r Parting → Tallied A (eject_led (saw_status v r.eject) r)
-tally_status v A r h = pick (λ x. Tallied A (eject_led x r)) (bit_and v 0x10 == 0x10) (EjectsAt E4h (record r.eject { status = v })) (EjectsAt E4c r.eject) h h
+tally_status : (v : ℕ) (A : Tally) (r : Monarch) → TallyAt A r Parting → Tallied A (after_eject (saw_status v r.eject) r)
+tally_status v A r h = pick (λ x. Tallied A (after_eject x r)) (bit_and v 0x10 == 0x10) (EjectsAt E4h (record r.eject { status = v })) (EjectsAt E4c r.eject) h h
 
 tally_handed : (late : Bool) (A : Tally) (r : Monarch) → TallyAt A r Parting → Tallied A (at_label (handed_to_block late) r)
 tally_handed late A r h = pick (λ l. Tallied A (at_label l r)) late E4f E4c h h
 
-tally_ended : (o : Outcome) (A : Tally) (r : Monarch) → TallyAt A r Parting → IsMere o → (told o (tells o r)).slots.held ≡ r.slots.held → IsHeldBy o r.slots.held → Tallied A (eject_led (EjectEnds o) r)
+tally_ended : (o : Outcome) (A : Tally) (r : Monarch) → TallyAt A r Parting → IsMere o → (after_tell o (at_tell o r)).slots.held ≡ r.slots.held → IsHeldBy o r.slots.held → Tallied A (after_eject (EjectEnds o) r)
 tally_ended o A r h mere same added = record { report = h.0.report; is = h.0.is; held = held_idle A r.slots.held h.1.0 h.1.1; left = mere A.left ∙ (h.1.1 ∙ sym same); added = added }
 
 -- an outcome is told
@@ -223,10 +223,10 @@ tally_said ids o A r u t collection taken held it =
     let below = got_below A.told A.reports t it.unanswered in
     tally_report ids (tally_told o A) u (it.reported ∙ ap (λ (c : Collection). c.reports) (sym collection)) (it.taken_up ∙ sym taken) (omega (arith, below)) (refl, held)
 
-tally_told_on : (ids : List ℕ) (o : Outcome) (A : Tally) (r : Monarch) → Says A r.collection.reports r.taken r.slots.held (told o r).slots.held o → Tallied (tally_told o A) (next_report ids (told o r))
-tally_told_on ids (outcome.Added cpu apic slot) A r h = tally_said ids (outcome.Added cpu apic slot) A r (told (outcome.Added cpu apic slot) r) h.report refl refl h.left h.is
-tally_told_on ids (outcome.Ejected cpu apic slot) A r h = tally_said ids (outcome.Ejected cpu apic slot) A r (told (outcome.Ejected cpu apic slot) r) h.report refl refl h.left h.is
-tally_told_on ids (outcome.Refused why) A r h = tally_said ids (outcome.Refused why) A r (told (outcome.Refused why) r) h.report refl refl h.left h.is
+tally_told_on : (ids : List ℕ) (o : Outcome) (A : Tally) (r : Monarch) → Says A r.collection.reports r.taken r.slots.held (after_tell o r).slots.held o → Tallied (tally_told o A) (next_report ids (after_tell o r))
+tally_told_on ids (outcome.Added cpu apic slot) A r h = tally_said ids (outcome.Added cpu apic slot) A r (after_tell (outcome.Added cpu apic slot) r) h.report refl refl h.left h.is
+tally_told_on ids (outcome.Ejected cpu apic slot) A r h = tally_said ids (outcome.Ejected cpu apic slot) A r (after_tell (outcome.Ejected cpu apic slot) r) h.report refl refl h.left h.is
+tally_told_on ids (outcome.Refused why) A r h = tally_said ids (outcome.Refused why) A r (after_tell (outcome.Refused why) r) h.report refl refl h.left h.is
 
 -- each row
 pub row_tally : (A : Tally) (y : Layout) (q : Seat) (r : Monarch) (v : ℕ) (f : Facts) (l : Label) → part_of l ≡ Monarchs → (part_of l ≡ Monarchs → r.label ≡ l) → Needs f (part_of l) (need_of l) → TallyAt A r (turn_of l)

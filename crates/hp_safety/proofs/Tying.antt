@@ -15,10 +15,10 @@ use Rattle.hp_model.specs.Block.{is_in}
 use Rattle.hp_model.specs.Labels.{Monarch as Monarchs, part_of, index_of}
 use Rattle.hp_model.specs.SharedBytes.{Layout}
 use Rattle.hp_model.specs.Slots.{Slots, known_from}
-use Rattle.hp_model.specs.Collection.{Report, Collection, CollectsAt, CollectedAll, next_processor, found, judged, reported, collection_start}
+use Rattle.hp_model.specs.Collection.{Report, Collection, CollectsAt, CollectEnds, next_processor, found, judged, reported, collection_start}
 use Rattle.hp_model.specs.Add.{Add, AddsAt, Ends, failed, looks, is_last_look, saw_flag, saw_pair, shut, saw_arrival}
 use Rattle.hp_model.specs.Eject.{Eject, EjectsAt, awaits, saw_parked, handed_to_block, saw_status}
-use Rattle.hp_model.specs.Monarch.{Monarch, at_label, first_slot, next_slot, look_at, looked, noted, commanded, Class, Tells, Adds, Ejects, class, facts_of as facts_by, adds, took, answered, taken_up, next_report, collected, led, eject_led, told}
+use Rattle.hp_model.specs.Monarch.{Monarch, at_label, first_slot, next_slot, look_at, looked, noted, commanded, Decision, ToTell, ToAdd, ToEject, decision, facts_of as facts_by, adds, took, answered, taken_up, next_report, after_collection, after_add, after_eject, after_tell}
 use Rattle.hp_model.specs.Handlers.{Seat, next_at}
 use Rattle.hp_model.specs.Account.{with_bound}
 use Rattle.hp_model.specs.Smbases.{is_insert_of}
@@ -26,7 +26,7 @@ use Rattle.hp_sealed.proofs.Left.{pick, pick_by}
 use Rattle.hp_safety.proofs.Needs.{need_of, Facts, Needs}
 use Rattle.hp_safety.proofs.EachRow.{row_of_each}
 use Rattle.hp_safety.proofs.Invariant.{is_adding}
-use Rattle.hp_safety.proofs.Leading.{AddsFor, Says, class_says}
+use Rattle.hp_safety.proofs.Leading.{AddsFor, Says, decision_says}
 use Rattle.hp_safety.proofs.Ties.{Free, tie_of, Session, read_at, reports_at, Within, IsBound, TiedAt, Tied}
 
 -- lists of reports
@@ -137,15 +137,15 @@ module _ (B : List ℕ) (S : Session) where
     named,
   )
 
-  ties_answered : (ids : List ℕ) (c : Class) (t : Report) (r : Monarch) → Says ids r.slots (facts_by ids r t) t c → r.slots.bound ≡ B → Within r.collection.reports S.reports → (is_insert_of t.apic t ≡ true → list_any (is_insert_of t.apic) S.reports ≡ true) → Tied B S (answered c t r)
-  ties_answered ids (Tells o) t r says h within named = (h, within)
-  ties_answered ids Adds t r says h within named = ties_adds ids t r says h within (named (insert_it ids r.slots t says))
-  ties_answered ids Ejects t r says h within named = (h, within)
+  ties_answered : (ids : List ℕ) (c : Decision) (t : Report) (r : Monarch) → Says ids r.slots (facts_by ids r t) t c → r.slots.bound ≡ B → Within r.collection.reports S.reports → (is_insert_of t.apic t ≡ true → list_any (is_insert_of t.apic) S.reports ≡ true) → Tied B S (answered c t r)
+  ties_answered ids (ToTell o) t r says h within named = (h, within)
+  ties_answered ids ToAdd t r says h within named = ties_adds ids t r says h within (named (insert_it ids r.slots t says))
+  ties_answered ids ToEject t r says h within named = (h, within)
 
   ties_taken : (ids : List ℕ) (ts : List Report) (r : Monarch) → r.slots.bound ≡ B → Within r.collection.reports S.reports → Within ts S.reports → Tied B S (taken_up ids ts r)
   ties_taken ids [] r h within rest = h
   ties_taken ids (t ∷ ts) r h within rest =
-      ties_answered ids (class (facts_by ids r t) t) t (took r) (class_says ids r t) h within (λ e. rest (is_insert_of t.apic) (first (is_insert_of t.apic t) (list_any (is_insert_of t.apic) ts) e))
+      ties_answered ids (decision (facts_by ids r t) t) t (took r) (decision_says ids r t) h within (λ e. rest (is_insert_of t.apic) (first (is_insert_of t.apic t) (list_any (is_insert_of t.apic) ts) e))
     where
       first : (c d : Bool) → c ≡ true → (c || d) ≡ true
       first true d e = refl
@@ -154,55 +154,55 @@ module _ (B : List ℕ) (S : Session) where
   ties_report : (ids : List ℕ) (r : Monarch) → r.slots.bound ≡ B → Within r.collection.reports S.reports → Tied B S (next_report ids r)
   ties_report ids r h within = ties_taken ids (drop r.taken r.collection.reports) r h within (within_drop r.taken r.collection.reports S.reports within)
 
-  ties_told : (ids : List ℕ) (o : Outcome) (r : Monarch) → r.slots.bound ≡ B → Within r.collection.reports S.reports → Tied B S (next_report ids (told o r))
-  ties_told ids (outcome.Added cpu apic slot) r h within = ties_report ids (told (outcome.Added cpu apic slot) r) h within
-  ties_told ids (outcome.Ejected cpu apic slot) r h within = ties_report ids (told (outcome.Ejected cpu apic slot) r) h within
+  ties_told : (ids : List ℕ) (o : Outcome) (r : Monarch) → r.slots.bound ≡ B → Within r.collection.reports S.reports → Tied B S (next_report ids (after_tell o r))
+  ties_told ids (outcome.Added cpu apic slot) r h within = ties_report ids (after_tell (outcome.Added cpu apic slot) r) h within
+  ties_told ids (outcome.Ejected cpu apic slot) r h within = ties_report ids (after_tell (outcome.Ejected cpu apic slot) r) h within
   ties_told ids (outcome.Refused why) r h within = ties_report ids r h within
 
   -- the collection
-  ties_processor : (ids : List ℕ) (count : ℕ) (c : Collection) (r : Monarch) → r.slots.bound ≡ B → Within c.reports S.reports → Tied B S (collected ids (next_processor count c) r)
+  ties_processor : (ids : List ℕ) (count : ℕ) (c : Collection) (r : Monarch) → r.slots.bound ≡ B → Within c.reports S.reports → Tied B S (after_collection ids (next_processor count c) r)
   ties_processor ids count c r h within =
-      pick (λ x. Tied B S (collected ids x r)) (nat_lt (c.cpu + 1) count) (CollectsAt C1 (record c { cpu = c.cpu + 1 })) (CollectedAll (record c { cpu = c.cpu + 1 })) (h, within)
+      pick (λ x. Tied B S (after_collection ids x r)) (nat_lt (c.cpu + 1) count) (CollectsAt C1 (record c { cpu = c.cpu + 1 })) (CollectEnds (record c { cpu = c.cpu + 1 })) (h, within)
       (ties_report ids (record r { collection = record c { cpu = c.cpu + 1 } }) h within)
 
-  ties_found : (ids : List ℕ) (count v : ℕ) (r : Monarch) → r.slots.bound ≡ B → Within r.collection.reports S.reports → v ≡ S.cpu → Tied B S (collected ids (found count v r.collection) r)
+  ties_found : (ids : List ℕ) (count v : ℕ) (r : Monarch) → r.slots.bound ≡ B → Within r.collection.reports S.reports → v ≡ S.cpu → Tied B S (after_collection ids (found count v r.collection) r)
   ties_found ids count v r h within is =
-      pick (λ x. Tied B S (collected ids x r)) (nat_lt v r.collection.cpu || not (nat_lt v count)) (CollectedAll r.collection) (CollectsAt C4 (record r.collection { cpu = v })) (ties_report ids (record r { collection = r.collection }) h within) (h, within, is)
+      pick (λ x. Tied B S (after_collection ids x r)) (nat_lt v r.collection.cpu || not (nat_lt v count)) (CollectEnds r.collection) (CollectsAt C4 (record r.collection { cpu = v })) (ties_report ids (record r { collection = r.collection }) h within) (h, within, is)
 
-  ties_judged : (ids : List ℕ) (count v : ℕ) (r : Monarch) → r.slots.bound ≡ B → Within r.collection.reports S.reports → r.collection.cpu ≡ S.cpu → v ≡ S.status → Tied B S (collected ids (judged count v r.collection) r)
+  ties_judged : (ids : List ℕ) (count v : ℕ) (r : Monarch) → r.slots.bound ≡ B → Within r.collection.reports S.reports → r.collection.cpu ≡ S.cpu → v ≡ S.status → Tied B S (after_collection ids (judged count v r.collection) r)
   ties_judged ids count v r h within cpu is =
-      pick (λ x. Tied B S (collected ids x r)) (bit_and v 0x12 == 0) (next_processor count r.collection) (CollectsAt C5 (record r.collection { status = v })) (ties_processor ids count r.collection r h within) (h, within, cpu, is)
+      pick (λ x. Tied B S (after_collection ids x r)) (bit_and v 0x12 == 0) (next_processor count r.collection) (CollectsAt C5 (record r.collection { status = v })) (ties_processor ids count r.collection r h within) (h, within, cpu, is)
 
   -- an add
-  ties_failed : (why : Outcome) (a : Add) (r : Monarch) → r.slots.bound ≡ B → Within r.collection.reports S.reports → list_any (is_insert_of a.apic) S.reports ≡ true → Tied B S (led (failed why a) r)
-  ties_failed why a r h within named = pick (λ x. Tied B S (led x r)) (nat_lt a.attempt 3) (AddsAt N0 (record a { attempt = a.attempt + 1 })) (Ends why) (inl h, within, named) (h, within)
+  ties_failed : (why : Outcome) (a : Add) (r : Monarch) → r.slots.bound ≡ B → Within r.collection.reports S.reports → list_any (is_insert_of a.apic) S.reports ≡ true → Tied B S (after_add (failed why a) r)
+  ties_failed why a r h within named = pick (λ x. Tied B S (after_add x r)) (nat_lt a.attempt 3) (AddsAt N0 (record a { attempt = a.attempt + 1 })) (Ends why) (inl h, within, named) (h, within)
 
-  ties_flag : (v : ℕ) (a : Add) (r : Monarch) → (r.slots.bound ≡ B) × Within r.collection.reports S.reports × (list_any (is_insert_of a.apic) S.reports ≡ true) → Tied B S (led (saw_flag v a) r)
-  ties_flag v a r h = pick (λ x. Tied B S (led x r)) (v == 1) (AddsAt N9 (record a { seen = true })) (AddsAt N8b a) h h
+  ties_flag : (v : ℕ) (a : Add) (r : Monarch) → (r.slots.bound ≡ B) × Within r.collection.reports S.reports × (list_any (is_insert_of a.apic) S.reports ≡ true) → Tied B S (after_add (saw_flag v a) r)
+  ties_flag v a r h = pick (λ x. Tied B S (after_add x r)) (v == 1) (AddsAt N9 (record a { seen = true })) (AddsAt N8b a) h h
 
-  ties_pair : (v : ℕ) (a : Add) (r : Monarch) → (r.slots.bound ≡ B) × Within r.collection.reports S.reports × (list_any (is_insert_of a.apic) S.reports ≡ true) → Tied B S (led (saw_pair v a) r)
-  ties_pair v a r h = pick (λ x. Tied B S (led x r)) (v == 1) (AddsAt N9 (record a { seen = true })) _ h (pick (λ x. Tied B S (led x r)) (is_last_look a) (AddsAt N9 (record a { seen = false })) (looks N8a (a.polls - 1) a) h h)
+  ties_pair : (v : ℕ) (a : Add) (r : Monarch) → (r.slots.bound ≡ B) × Within r.collection.reports S.reports × (list_any (is_insert_of a.apic) S.reports ≡ true) → Tied B S (after_add (saw_pair v a) r)
+  ties_pair v a r h = pick (λ x. Tied B S (after_add x r)) (v == 1) (AddsAt N9 (record a { seen = true })) _ h (pick (λ x. Tied B S (after_add x r)) (is_last_look a) (AddsAt N9 (record a { seen = false })) (looks N8a (a.polls - 1) a) h h)
 
-  ties_shut : (a : Add) (r : Monarch) → (r.slots.bound ≡ B) × Within r.collection.reports S.reports × (list_any (is_insert_of a.apic) S.reports ≡ true) → Tied B S (led (shut a) r)
-  ties_shut a r h = pick (λ x. Tied B S (led x r)) a.seen (AddsAt N10 a) (failed (outcome.Refused (NotAtGate a.cpu a.apic)) a) h (ties_failed (outcome.Refused (NotAtGate a.cpu a.apic)) a r h.0 h.1 h.2)
+  ties_shut : (a : Add) (r : Monarch) → (r.slots.bound ≡ B) × Within r.collection.reports S.reports × (list_any (is_insert_of a.apic) S.reports ≡ true) → Tied B S (after_add (shut a) r)
+  ties_shut a r h = pick (λ x. Tied B S (after_add x r)) a.seen (AddsAt N10 a) (failed (outcome.Refused (NotAtGate a.cpu a.apic)) a) h (ties_failed (outcome.Refused (NotAtGate a.cpu a.apic)) a r h.0 h.1 h.2)
 
-  ties_arrival : (v : ℕ) (a : Add) (r : Monarch) → (r.slots.bound ≡ B) × Within r.collection.reports S.reports × (list_any (is_insert_of a.apic) S.reports ≡ true) → Tied B S (led (saw_arrival v a) r)
+  ties_arrival : (v : ℕ) (a : Add) (r : Monarch) → (r.slots.bound ≡ B) × Within r.collection.reports S.reports × (list_any (is_insert_of a.apic) S.reports ≡ true) → Tied B S (after_add (saw_arrival v a) r)
   ties_arrival v a r h =
-      pick (λ x. Tied B S (led x r)) (v == 1) (Ends (outcome.Added a.cpu a.apic a.slot)) _ (h.0, h.1)
-      (pick (λ x. Tied B S (led x r)) (is_last_look a) (failed (outcome.Refused (NotCheckedIn a.cpu a.apic)) a) (looks N11 (a.polls - 1) a) (ties_failed (outcome.Refused (NotCheckedIn a.cpu a.apic)) a r h.0 h.1 h.2) h)
+      pick (λ x. Tied B S (after_add x r)) (v == 1) (Ends (outcome.Added a.cpu a.apic a.slot)) _ (h.0, h.1)
+      (pick (λ x. Tied B S (after_add x r)) (is_last_look a) (failed (outcome.Refused (NotCheckedIn a.cpu a.apic)) a) (looks N11 (a.polls - 1) a) (ties_failed (outcome.Refused (NotCheckedIn a.cpu a.apic)) a r h.0 h.1 h.2) h)
 
   -- an eject
-  ties_parked : (v : ℕ) (j : Eject) (r : Monarch) → (r.slots.bound ≡ B) × Within r.collection.reports S.reports → Tied B S (eject_led (saw_parked v j) r)
-  ties_parked v j r h = pick (λ x. Tied B S (eject_led x r)) (v == 1) (EjectsAt E4a j) _ h (pick (λ x. Tied B S (eject_led x r)) (nat_le j.polls 1) (EjectsAt E3 j) (awaits (j.polls - 1) j) h h)
+  ties_parked : (v : ℕ) (j : Eject) (r : Monarch) → (r.slots.bound ≡ B) × Within r.collection.reports S.reports → Tied B S (after_eject (saw_parked v j) r)
+  ties_parked v j r h = pick (λ x. Tied B S (after_eject x r)) (v == 1) (EjectsAt E4a j) _ h (pick (λ x. Tied B S (after_eject x r)) (nat_le j.polls 1) (EjectsAt E3 j) (awaits (j.polls - 1) j) h h)
 
-  ties_status : (v : ℕ) (j : Eject) (r : Monarch) → (r.slots.bound ≡ B) × Within r.collection.reports S.reports → Tied B S (eject_led (saw_status v j) r)
-  ties_status v j r h = pick (λ x. Tied B S (eject_led x r)) (bit_and v 0x10 == 0x10) (EjectsAt E4h (record j { status = v })) (EjectsAt E4c j) h h
+  ties_status : (v : ℕ) (j : Eject) (r : Monarch) → (r.slots.bound ≡ B) × Within r.collection.reports S.reports → Tied B S (after_eject (saw_status v j) r)
+  ties_status v j r h = pick (λ x. Tied B S (after_eject x r)) (bit_and v 0x10 == 0x10) (EjectsAt E4h (record j { status = v })) (EjectsAt E4c j) h h
 
   ties_handed : (late : Bool) (r : Monarch) → (r.slots.bound ≡ B) × Within r.collection.reports S.reports → Tied B S (at_label (handed_to_block late) r)
   ties_handed late r h = pick (λ l. Tied B S (at_label l r)) late E4f E4c h h
 
 -- C6 makes one and the same report
-ties_reported : (B : List ℕ) (S : Session) (ids : List ℕ) (count v : ℕ) (r : Monarch) → r.slots.bound ≡ B → Within r.collection.reports S.reports → r.collection.cpu ≡ S.cpu → r.collection.status ≡ S.status → Tied B (record S { reports = S.reports ++ record { cpu = S.cpu; status = S.status; apic = v } ∷ [] }) (collected ids (reported count v r.collection) r)
+ties_reported : (B : List ℕ) (S : Session) (ids : List ℕ) (count v : ℕ) (r : Monarch) → r.slots.bound ≡ B → Within r.collection.reports S.reports → r.collection.cpu ≡ S.cpu → r.collection.status ≡ S.status → Tied B (record S { reports = S.reports ++ record { cpu = S.cpu; status = S.status; apic = v } ∷ [] }) (after_collection ids (reported count v r.collection) r)
 ties_reported B S ids count v r h within cpu status =
     let same : Within (r.collection.reports ++ record { cpu = r.collection.cpu; status = r.collection.status; apic = v } ∷ []) (S.reports ++ record { cpu = S.cpu; status = S.status; apic = v } ∷ []) =
     subst (λ c. Within (r.collection.reports ++ record { cpu = c; status = r.collection.status; apic = v } ∷ []) (S.reports ++ record { cpu = S.cpu; status = S.status; apic = v } ∷ [])) (sym cpu)

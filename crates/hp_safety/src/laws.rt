@@ -10,7 +10,7 @@ ghost use Rattle.hp_model.specs.Transitions.{transitions, at_each, at_each_state
 ghost use Rattle.hp_model.specs.Smbases.{IsDistinct, IsNamed};
 ghost use Rattle.hp_model.specs.Outcomes.{answers, each_told};
 ghost use Rattle.hp_model.specs.Exact.{moves_held, answers_all};
-ghost use Rattle.hp_model.specs.Sessions.{flag_tells};
+ghost use Rattle.hp_model.specs.Sessions.{flag_agrees};
 ghost use Rattle.hp_safety.specs.Departures.{leaves_by_block};
 ghost use Rattle.hp_model.specs.Safety.{IsGuarded, IsLockedBefore};
 
@@ -51,8 +51,8 @@ pub fn sessions_answer_all()
     ensures { (p : Platform) (es : List Entry) (s : State) → IsFit p → run p es ≡ Some s → at_each (answers_all p) (transitions p es) ≡ true }
 {}
 
-/// Each outcome answers the session's first report that has none yet, by the class that the platform and the entries give this report
-/// when it is taken up: it is the outcome that the class tells, or one in which an add or an eject of that report may end.
+/// Each outcome answers the session's first report that has none yet, by the decision that the platform and the entries give this report
+/// when it is taken up: it is the outcome that the decision tells, or one in which an add or an eject of that report may end.
 pub fn outcomes_answer_reports()
     ensures { (p : Platform) (es : List Entry) (s : State) → IsFit p → run p es ≡ Some s → each_told p answers (transitions p es) ≡ true }
 {}
@@ -60,7 +60,7 @@ pub fn outcomes_answer_reports()
 /// In each state of a session that has all other processors called in, from its entry at S2 to that at E5, the state's flag is set
 /// exactly where the entries show that a processor outside SMM has written to the register block meanwhile.
 pub fn disturbed_sessions_are_flagged()
-    ensures { (p : Platform) (es : List Entry) (s : State) → IsFit p → run p es ≡ Some s → at_each_state p (flag_tells p) (transitions p es) ≡ true }
+    ensures { (p : Platform) (es : List Entry) (s : State) → IsFit p → run p es ≡ Some s → at_each_state p (flag_agrees p) (transitions p es) ≡ true }
 {}
 
 /// Whoever becomes absent does so by a write of the register block: the monarch's at E4b, or one from outside SMM.

@@ -8,7 +8,7 @@ use Rattle.std.proofs.lemmas.List.{length-map, length-replicate}
 use Rattle.hp_model.specs.declared.platforms.Platform.{Platform}
 use Rattle.hp_model.specs.Platform.{all_distinct, ascends_from, count_of, apic_of}
 use Rattle.hp_model.specs.Block.{is_in}
-use Rattle.hp_model.specs.Slots.{slots_start, place_of}
+use Rattle.hp_model.specs.Slots.{slots_start, slot_among}
 use Rattle.hp_model.specs.Monarch.{is_that}
 use Rattle.hp_model.proofs.Counts.{in_at}
 use Rattle.hp_sealed.specs.Sealed.{Placed}
@@ -83,7 +83,7 @@ module _ (p : Platform) (ids : all_distinct p.apic ≡ true) where
 -- each of these, by what f makes of it, is among the IDs, the first at place n and the others after it
 abbrev pub AtPlaces : (ℕ → ℕ) → List ℕ → ℕ → List ℕ → Type 0
 AtPlaces f ids n [] = Unit {0}
-AtPlaces f ids n (b ∷ bs) = ((is_in (f b) ids ≡ true) × (place_of ids (f b) ≡ n)) × AtPlaces f ids (n + 1) bs
+AtPlaces f ids n (b ∷ bs) = ((is_in (f b) ids ≡ true) × (slot_among ids (f b) ≡ n)) × AtPlaces f ids (n + 1) bs
 
 places_more : (f : ℕ → ℕ) (x : ℕ) (ids : List ℕ) (n : ℕ) (bs : List ℕ) → list_any (λ y. y == x) (map f bs) ≡ false → AtPlaces f ids n bs → AtPlaces f (x ∷ ids) (n + 1) bs
 places_more f x ids n [] e h = tt

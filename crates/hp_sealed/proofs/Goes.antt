@@ -21,7 +21,7 @@ use Rattle.hp_model.specs.Firmware.{is_boots, is_wanted, wanted_in, with_agreed}
 use Rattle.hp_model.specs.Step.{After, is_enabled, is_disturbed_by, after, step}
 use Rattle.hp_sealed.specs.Left.{Sound, LeavesLocked}
 use Rattle.hp_sealed.specs.Sealed.{IsOutside, IsSealed}
-use Rattle.hp_sealed.specs.Booting.{Booting, IsBooting, IsRefused, IsBooted, Goes}
+use Rattle.hp_sealed.specs.Booting.{Booting, IsBooting, IsRefused, IsBooted, KeepsBooted}
 use Rattle.hp_sealed.proofs.Left.{pick_by}
 use Rattle.hp_model.proofs.Same.{same_access-equal}
 use Rattle.hp_sealed.proofs.Outside.{Calm, acts, left_acted}
@@ -166,7 +166,7 @@ boot_leaves p s e t h is =
     let access = boot_access p.tseg_mib b.supported b.done in
     subst (LeavesLocked s) b.is (record { left = λ x l. left_acted p 0 access s x l; locked = λ x l. (acts p 0 false access s).bytes x l })
 
-pub boot_goes : (p : Platform) (s : State) (e : Event) (t : After) → Sound p → IsBooting p s → step p s e ≡ Some t → Goes p s t.state
+pub boot_goes : (p : Platform) (s : State) (e : Event) (t : After) → Sound p → IsBooting p s → step p s e ≡ Some t → KeepsBooted p s t.state
 boot_goes p s e t fit h is =
     let b = boot_step p s e t h is in
     let access = boot_access p.tseg_mib b.supported b.done in

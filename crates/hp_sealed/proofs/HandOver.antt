@@ -121,8 +121,8 @@ snoc_parts (x ∷ xs) (b ∷ bs) since e is = elim (snoc_parts xs bs since e (ap
     first_of (x ∷ xs) ys = x ∷ ys
 
 -- before the hand-over, or sealed at it
-abbrev Stands : Platform → List Entry → State → Type 0
-Stands p es s = IsBefore p s ⊎ (WasSealed p es × (is_handed s.stage ≡ true))
+abbrev IsBeforeOrSealed : Platform → List Entry → State → Type 0
+IsBeforeOrSealed p es s = IsBefore p s ⊎ (WasSealed p es × (is_handed s.stage ≡ true))
 
 module _ (p : Platform) (fits : IsFit p) where
   pub run_before : (es : List Entry) (s : State) → is_handed s.stage ≡ false → run p es ≡ Some s → IsBefore p s
@@ -156,7 +156,7 @@ module _ (p : Platform) (fits : IsFit p) where
         (left_then x u.writes s.writes t.writes (leaves.left x locked) (one.left x (leaves.locked x locked))).touched
   ]
 
-  stands_on : (es : List Entry) (s t : State) (e : Entry) → Stands p es s → run_from p (start p) es ≡ Some s → run_on p s e ≡ Some t → Stands p (es ++ e ∷ []) t
+  stands_on : (es : List Entry) (s t : State) (e : Entry) → IsBeforeOrSealed p es s → run_from p (start p) es ≡ Some s → run_on p s e ≡ Some t → IsBeforeOrSealed p (es ++ e ∷ []) t
   unfolding run
   stands_on es s t e (inl h) is on = elim (went p s t e (sound p fits) h on).to [
     | inl b ↦ inl b
@@ -197,7 +197,7 @@ module _ (p : Platform) (fits : IsFit p) where
       )
 
   pub was_sealed : (es : List Entry) (t : State) → run p es ≡ Some t → is_handed t.stage ≡ true → WasSealed p es
-  was_sealed es t is handed = elim (run_keeps p (Stands p) stands_on es t (inl (inl (starts p fits))) is) [
+  was_sealed es t is handed = elim (run_keeps p (IsBeforeOrSealed p) stands_on es t (inl (inl (starts p fits))) is) [
     | inl b ↦ absurd (unhanded t.stage handed (before_unhanded p t b))
     | inr h ↦ h.0
   ]

@@ -11,7 +11,7 @@ use Rattle.hp_model.specs.Cpu.{absent, booted, boot_cpus, cpus_start, cpu_at, sm
 use Rattle.hp_model.specs.Block.{is_in}
 use Rattle.hp_model.specs.SharedBytes.{layout_of}
 use Rattle.hp_model.specs.Handlers.{slot_at}
-use Rattle.hp_model.specs.Slots.{slots_start, boot_ids, place_of}
+use Rattle.hp_model.specs.Slots.{slots_start, boot_ids, slot_among}
 use Rattle.hp_model.specs.Boot.{ext_count}
 use Rattle.hp_model.specs.State.{start}
 use Rattle.hp_model.proofs.FitPlatforms.{rules_of}
@@ -194,7 +194,7 @@ none_replicate zero j = refl
 none_replicate (suc n) zero = refl
 none_replicate (suc n) (suc j) = none_replicate n j
 
-based_first : (p : Platform) → 1 ≤ count_of p → (is_in (apic_of p 0) (boot_ids p) ≡ true) × (place_of (boot_ids p) (apic_of p 0) ≡ 0) → Booted p 0 (booted (tile p 0))
+based_first : (p : Platform) → 1 ≤ count_of p → (is_in (apic_of p 0) (boot_ids p) ≡ true) × (slot_among (boot_ids p) (apic_of p 0) ≡ 0) → Booted p 0 (booted (tile p 0))
 based_first p some there = record { outside = refl; based = λ e. same (tile p 0); possible = λ e. omega (arith, some); slotted = λ e. inr (there.0, ap (tile p) (sym there.1)) }
   where
     same : (n : ℕ) → (n == n) ≡ true

@@ -66,5 +66,5 @@ pub record IsRefused (p : Platform) (s : State) : Type 0 where
 abbrev pub IsBooted : Platform → State → Type 0
 IsBooted p s = IsBooting p s ⊎ (IsRefused p s ⊎ IsSealed p s)
 
-abbrev pub Goes : Platform → State → State → Type 0
-Goes p s t = IsBooted p t × LeavesKept p s t
+abbrev pub KeepsBooted : Platform → State → State → Type 0
+KeepsBooted p s t = IsBooted p t × LeavesKept p s t

@@ -9,7 +9,7 @@ use Rattle.hp_model.specs.Cpu.{smm_address}
 use Rattle.hp_model.specs.Block.{is_in}
 use Rattle.hp_model.specs.Labels.{part_of, mark_of}
 use Rattle.hp_model.specs.SharedBytes.{Layout, layout_of, gate, closed}
-use Rattle.hp_model.specs.Slots.{Slots, boot_ids, place_of}
+use Rattle.hp_model.specs.Slots.{Slots, boot_ids, slot_among}
 use Rattle.hp_model.specs.Monarch.{Monarch, monarch_start, with_features, is_that}
 use Rattle.hp_model.specs.Handlers.{slot_at, is_tile, runs_at, address_of_label}
 use Rattle.hp_model.specs.Boot.{is_handed}
@@ -35,9 +35,9 @@ pub record Placed (p : Platform) (s : Slots) : Type 0 where
 abbrev pub Recorded : Platform → Monarch → Type 0
 Recorded p r = (r.slot ≤ 512) × Placed p r.slots
 
--- an SMBASE that a processor of this APIC ID may have where these are bound: the default one, or the tile of its place among them
+-- an SMBASE that a processor of this APIC ID may have where these are bound: the default one, or the tile of its slot among them
 abbrev pub IsAtSlot : Platform → List ℕ → ℕ → ℕ → Type 0
-IsAtSlot p bound apic smbase = (smbase ≡ 0x30000) ⊎ ((is_in apic bound ≡ true) × (smbase ≡ tile p (place_of bound apic)))
+IsAtSlot p bound apic smbase = (smbase ≡ 0x30000) ⊎ ((is_in apic bound ≡ true) × (smbase ≡ tile p (slot_among bound apic)))
 
 -- no processor is in SMM, each is based where it may be, a boot processor in the tile of its slot, processor 0 is present, and the monarch's record is as at the start
 pub record IsOutside (p : Platform) (s : State) : Type 0 where

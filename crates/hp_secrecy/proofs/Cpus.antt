@@ -11,7 +11,7 @@ use Rattle.hp_model.specs.Cpu.{absent, cpu_at, is_waiting, is_in_smm, halted, ha
 use Rattle.hp_model.specs.Interrupts.{is_target, hit_each, sent, smi_raised}
 use Rattle.hp_model.specs.Handlers.{Next}
 use Rattle.hp_model.specs.Ports.{without_ejected}
-use Rattle.hp_model.specs.Firmware.{go_on}
+use Rattle.hp_model.specs.Firmware.{moved_in_smm}
 use Rattle.hp_model.specs.Visible.{visible_mode, visible_cpu}
 
 abbrev pub AlikeCpu : Cpu → Cpu → Type 0
@@ -143,10 +143,10 @@ alike_ejected None cs ds e = e
 alike_ejected (Some k) cs ds e = alike_set cs ds k absent absent e refl
 
 -- where a handler's row leads is not visible
-pub go_on_unseen : (smbase : ℕ) (n : Next) (c : Cpu) → AlikeCpu (go_on smbase n c) c
+pub go_on_unseen : (smbase : ℕ) (n : Next) (c : Cpu) → AlikeCpu (moved_in_smm smbase n c) c
 go_on_unseen smbase n c = by_mode c.present c.mode refl refl
   where
-    by_mode : (present : Bool) (m : Mode) → c.present ≡ present → c.mode ≡ m → AlikeCpu (go_on smbase n c) c
+    by_mode : (present : Bool) (m : Mode) → c.present ≡ present → c.mode ≡ m → AlikeCpu (moved_in_smm smbase n c) c
     by_mode false m here there = rw here refl
     by_mode true Wait here there = rw (here, there) refl
     by_mode true (Running page) here there = rw (here, there) refl

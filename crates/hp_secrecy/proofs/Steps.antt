@@ -23,7 +23,7 @@ use Rattle.hp_model.specs.SharedBytes.{layout_of}
 use Rattle.hp_model.specs.Handlers.{Next, next_at}
 use Rattle.hp_model.specs.State.{State, at}
 use Rattle.hp_model.specs.Access.{is_normal, stands_in_smm, may_access, access_effect, answer_to}
-use Rattle.hp_model.specs.Firmware.{seat, row_at, wanted, is_that_access, is_handlers, is_wanted, wanted_in, go_on, with_next, row_led, handlers_led, firmware_led}
+use Rattle.hp_model.specs.Firmware.{seat, label_at, wanted, is_that_access, is_handlers, is_wanted, wanted_in, moved_in_smm, with_next, row_effect, handlers_effect, firmware_effect}
 use Rattle.hp_model.specs.Step.{After, can_do, is_enabled, enter_smm, answer_of, effect_of, is_disturbed_by, after, step}
 use Rattle.hp_model.specs.Visible.{visible_mode, visible_cpu, IsAlike, is_made_in_smm}
 use Rattle.hp_secrecy.specs.Shielded.{IsShielded, StaysInside}
@@ -60,9 +60,9 @@ alike_back s t h = record {
 
 -- what the handlers make of an event is not seen
 next_unseen : (k smbase : ℕ) (n : Next) (t : State) → IsAlike (with_next k smbase n t) t
-next_unseen k smbase n t = record { cpus = alike_unseen t.cpus k (go_on smbase n (at t k)) (go_on_unseen smbase n (at t k)); memory = λ x free. refl; locks = refl; block = refl; ich9 = refl; fw_cfg = refl; stage = refl }
+next_unseen k smbase n t = record { cpus = alike_unseen t.cpus k (moved_in_smm smbase n (at t k)) (go_on_unseen smbase n (at t k)); memory = λ x free. refl; locks = refl; block = refl; ich9 = refl; fw_cfg = refl; stage = refl }
 
-row_unseen : (p : Platform) (s : State) (k : ℕ) (answer : Answer) (o : Option Label) (t : State) → IsAlike (row_led p s k answer o t) t
+row_unseen : (p : Platform) (s : State) (k : ℕ) (answer : Answer) (o : Option Label) (t : State) → IsAlike (row_effect p s k answer o t) t
 row_unseen p s k answer None t = alike_same t
 row_unseen p s k answer (Some l) t = next_unseen k (at s k).smbase (next_at (layout_of p) (seat p s k) s.monarch l (value_in answer)) t
 
@@ -70,14 +70,14 @@ choice_unseen : (b : Bool) (u v t : State) → IsAlike u t → IsAlike v t → I
 choice_unseen true u v t h g = h
 choice_unseen false u v t h g = g
 
-led_unseen : (p : Platform) (s : State) (e : Event) (t : State) → IsAlike (handlers_led p s e t) t
+led_unseen : (p : Platform) (s : State) (e : Event) (t : State) → IsAlike (handlers_effect p s e t) t
 led_unseen p s (Insert k) t = alike_same t
 led_unseen p s (Remove k) t = alike_same t
-led_unseen p s (Do k a) t = choice_unseen (is_in_smm (at s k).mode) (row_led p s k (answer_of s (Do k a)) (row_at p s k) t) t t (row_unseen p s k (answer_of s (Do k a)) (row_at p s k) t) (alike_same t)
+led_unseen p s (Do k a) t = choice_unseen (is_in_smm (at s k).mode) (row_effect p s k (answer_of s (Do k a)) (label_at p s k) t) t t (row_unseen p s k (answer_of s (Do k a)) (label_at p s k) t) (alike_same t)
 led_unseen p s (TakeSmi k) t = choice_unseen (k == 0) _ t t (record { cpus = refl; memory = λ x free. refl; locks = refl; block = refl; ich9 = refl; fw_cfg = refl; stage = refl }) (alike_same t)
 led_unseen p s (TakeInit k) t = alike_same t
 led_unseen p s (Resume k) t = alike_same t
-led_unseen p s (Tell o) t = row_unseen p s 0 Quiet (row_at p s 0) t
+led_unseen p s (Tell o) t = row_unseen p s 0 Quiet (label_at p s 0) t
 
 -- SMI entry
 present_of : (s : State) (k : ℕ) → may_take_smi (at s k) ≡ true → (at s k).present ≡ true
@@ -125,7 +125,7 @@ alike_effect p (Tell o) s t tiles shut closed may can want h = h
 
 -- the step whole, from a state where the boot stands here
 abbrev ended : Platform → State → Event → Stage → State
-ended p s e g = record (firmware_led p s g e (effect_of p s e)) { stage = stage_after p.tseg_mib (answer_of s e) g; disturbed = is_disturbed_by s e }
+ended p s e g = record (firmware_effect p s g e (effect_of p s e)) { stage = stage_after p.tseg_mib (answer_of s e) g; disturbed = is_disturbed_by s e }
 
 alike_after : (p : Platform) (e : Event) (s t : State) → HasTiles p → IsShielded p s → IsShielded p t → is_enabled p s e ≡ true → is_enabled p t e ≡ true → is_wanted p s e ≡ true → IsAlike s t → IsAlike (after p s e).state (after p t e).state
 alike_after p e s t tiles shut closed may can want h = by_stage s.stage t.stage shut.handed h.stage want
@@ -135,8 +135,8 @@ alike_after p e s t tiles shut closed may can want h = by_stage s.stage t.stage 
     by_stage (Refused fact) f handed same wants = absurd cc
     by_stage (Handed requested) f handed same wants =
         let effect = alike_effect p e s t tiles shut closed may can wants h in
-        let led = alike_then (handlers_led p s e (effect_of p s e)) (effect_of p s e) (handlers_led p t e (effect_of p t e)) (led_unseen p s e (effect_of p s e))
-        (alike_then (effect_of p s e) (effect_of p t e) (handlers_led p t e (effect_of p t e)) effect (alike_back (handlers_led p t e (effect_of p t e)) (effect_of p t e) (led_unseen p t e (effect_of p t e)))) in
+        let led = alike_then (handlers_effect p s e (effect_of p s e)) (effect_of p s e) (handlers_effect p t e (effect_of p t e)) (led_unseen p s e (effect_of p s e))
+        (alike_then (effect_of p s e) (effect_of p t e) (handlers_effect p t e (effect_of p t e)) effect (alike_back (handlers_effect p t e (effect_of p t e)) (effect_of p t e) (led_unseen p t e (effect_of p t e)))) in
         subst (λ g. IsAlike (ended p s e (Handed requested)) (ended p t e g)) same
         (record { cpus = led.cpus; memory = led.memory; locks = led.locks; block = led.block; ich9 = led.ich9; fw_cfg = led.fw_cfg; stage = refl })
 
@@ -160,7 +160,7 @@ after_unseen p e s handed effect = by_stage s.stage handed refl
     by_stage (Boots done supported) h is = absurd cc
     by_stage (Refused fact) h is = absurd cc
     by_stage (Handed requested) h is =
-        let led = alike_then (handlers_led p s e (effect_of p s e)) (effect_of p s e) s (led_unseen p s e (effect_of p s e)) effect in
+        let led = alike_then (handlers_effect p s e (effect_of p s e)) (effect_of p s e) s (led_unseen p s e (effect_of p s e)) effect in
         record { cpus = led.cpus; memory = led.memory; locks = led.locks; block = led.block; ich9 = led.ich9; fw_cfg = led.fw_cfg; stage = sym is }
 
 pub same_answers : (p : Platform) (e : Event) (s t : State) → is_made_in_smm s e ≡ false → IsAlike s t → answer_of s e ≡ answer_of t e

@@ -11,7 +11,7 @@ use Rattle.hp_model.specs.SharedBytes.{Layout, layout_of, gate}
 use Rattle.hp_model.specs.Monarch.{Monarch}
 use Rattle.hp_model.specs.Handlers.{Seat, want_at, wanted_at}
 use Rattle.hp_model.specs.State.{State}
-use Rattle.hp_model.specs.Firmware.{seat, row_at, wanted, is_that_access}
+use Rattle.hp_model.specs.Firmware.{seat, label_at, wanted, is_that_access}
 use Rattle.hp_model.proofs.Same.{same_access-equal}
 
 -- an access that is no compare and exchange, or the gate's
@@ -43,7 +43,7 @@ wanted_wants_gate y x r (Some l) = row_wants_gate y x r l
 
 -- what a handler wants and gets
 pub handler_swaps_gate : (p : Platform) (s : State) (k : ℕ) (a : Access) → is_that_access (wanted p s k) a ≡ true → swaps_gate a ≡ true
-handler_swaps_gate p s k a is = by_want (wanted p s k) (wanted_wants_gate (layout_of p) (seat p s k) s.monarch (row_at p s k)) is
+handler_swaps_gate p s k a is = by_want (wanted p s k) (wanted_wants_gate (layout_of p) (seat p s k) s.monarch (label_at p s k)) is
   where
     by_want : (w : Option Want) → wants_gate w ≡ true → is_that_access w a ≡ true → swaps_gate a ≡ true
     by_want None e f = absurd cc

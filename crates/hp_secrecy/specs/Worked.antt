@@ -12,9 +12,9 @@ use Rattle.hp_model.specs.State.{State, start}
 use Rattle.hp_model.specs.Step.{step}
 
 -- the state that these events lead to; none where one is no step
-abbrev pub led_by : Platform → Option State → List Event → Option State
-led_by p s [] = s
-led_by p s (e ∷ es) = led_by p (option_map (λ a. a.state) (option_and_then (λ t. step p t e) s)) es
+abbrev pub state_after : Platform → Option State → List Event → Option State
+state_after p s [] = s
+state_after p s (e ∷ es) = state_after p (option_map (λ a. a.state) (option_and_then (λ t. step p t e) s)) es
 
 -- two boot processors, TSEG at 7f00000
 abbrev pub two : Platform
@@ -29,17 +29,17 @@ abbrev pub arrives : Event
 arrives = Do 1 (Store 0x7f00001 1 1)
 
 unfoldable pub entered : Option State
-entered = led_by two (Some (start two)) entering
+entered = state_after two (Some (start two)) entering
 
 unfoldable pub arrived : Option State
-arrived = led_by two entered (arrives ∷ [])
+arrived = state_after two entered (arrives ∷ [])
 
 -- and the boot alone, and with a store to memory that isn't locked
 unfoldable pub handed_over : Option State
-handed_over = led_by two (Some (start two)) (map (Do 0) (boot_accesses 1 7))
+handed_over = state_after two (Some (start two)) (map (Do 0) (boot_accesses 1 7))
 
 unfoldable pub stored_outside : Option State
-stored_outside = led_by two handed_over (Do 0 (Store 0x2000 1 1) ∷ [])
+stored_outside = state_after two handed_over (Do 0 (Store 0x2000 1 1) ∷ [])
 
 abbrev pub state_in : Option State → State
 state_in o = unwrap_or o (start two)

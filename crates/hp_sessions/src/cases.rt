@@ -145,7 +145,7 @@ fn text_of_seat(alloc: Global, firmware: &Firmware, cpu: u32) -> Result<String, 
     match firmware.seat(cpu) {
         Some(seat) => {
             let at = seat.at;
-            let base = seat.stand.base;
+            let base = seat.smm_cpu.base;
             format!(in alloc; "seat {cpu} {at:08x} {base:08x}")
         }
         None => format!(in alloc; "no such processor"),

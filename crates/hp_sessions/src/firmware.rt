@@ -8,7 +8,7 @@ use crate::answers::{answers, takes};
 use crate::seats::Seat;
 use hp_boot::{Boot, BootStage};
 use hp_model::{Answer, Entry, Event, NoMemory, Platform, Want};
-use hp_smm::{Handlers, Stand};
+use hp_smm::{Handlers, SmmCpu};
 use std::alloc::{AllocError, Global};
 use std::marker::Model;
 
@@ -52,13 +52,13 @@ fn greatest_apic_id(x2apic: bool) -> u32
 }
 
 /// What a processor in SMM wants; nothing where it has no row.
-fn want_of(handlers: &Handlers, x2apic: bool, stand: &Stand) -> Option<Want>
+fn want_of(handlers: &Handlers, x2apic: bool, smm_cpu: &SmmCpu) -> Option<Want>
     requires { handlers.now.layout.x2apic ≡ x2apic }
 {
-    if stand.apic > greatest_apic_id(x2apic) {
+    if smm_cpu.apic > greatest_apic_id(x2apic) {
         return None;
     }
-    let (_label, want) = handlers.row(stand)?;
+    let (_label, want) = handlers.row(smm_cpu)?;
     Some(want)
 }
 
@@ -67,18 +67,18 @@ fn feed_handlers(handlers: &mut Handlers, x2apic: bool, seat: &mut Seat, answer:
     requires { handlers.old.layout.x2apic ≡ x2apic }
     ensures { handlers.new.layout ≡ handlers.old.layout }
 {
-    if seat.stand.apic > greatest_apic_id(x2apic) {
+    if seat.smm_cpu.apic > greatest_apic_id(x2apic) {
         return false;
     }
-    let Some((label, want)) = handlers.row(&seat.stand) else {
+    let Some((label, want)) = handlers.row(&seat.smm_cpu) else {
         return false;
     };
     if !takes(want, answer) {
         return false;
     }
-    let (at, base) = handlers.feed(&seat.stand, label, answer);
+    let (at, base) = handlers.feed(&seat.smm_cpu, label, answer);
     seat.go_to(at);
-    seat.stand.base = base;
+    seat.smm_cpu.base = base;
     true
 }
 
@@ -121,7 +121,7 @@ impl Firmware {
     /// The next step of a processor in SMM, answered so; none where it has no row.
     pub fn in_smm(&self, cpu: u32, answer: Answer) -> Option<Entry> {
         let seat = self.seats.get(cpu as usize)?;
-        let event = match want_of(&self.handlers, self.x2apic, &seat.stand)? {
+        let event = match want_of(&self.handlers, self.x2apic, &seat.smm_cpu)? {
             Want::Do(access) => Event::Do(cpu, access),
             Want::Tell(outcome) => Event::Tell(outcome),
             Want::Resume => Event::Resume(cpu),

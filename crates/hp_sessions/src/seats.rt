@@ -2,9 +2,9 @@
 
 ghost use Rattle.hp_model.specs.Platform.{IsFit};
 
-use hp_image::{label_of, mark, place_of};
+use hp_image::{label_of, mark, position_of};
 use hp_model::{Label, Platform, tseg};
-use hp_smm::Stand;
+use hp_smm::SmmCpu;
 
 /// SMBASE after a reset.
 pub const DEFAULT_SMBASE: u32 = 0x30000;
@@ -12,7 +12,7 @@ pub const DEFAULT_SMBASE: u32 = 0x30000;
 /// What the handlers know of a processor, and where it goes on.
 #[derive(Clone, Copy)]
 pub struct Seat {
-    pub stand: Stand,
+    pub smm_cpu: SmmCpu,
     /// Its instruction address.
     pub at: u32,
 }
@@ -32,7 +32,7 @@ fn mark_at(cpu: u32, smbase: u32, at: u32) -> u32 {
 /// How many bytes a mark's cell lies behind the first one of its handler; 0 where it is no label's.
 fn offset_of(mark: u32) -> u32 {
     match label_of(mark) {
-        Some(label) => 4 * place_of(label).index,
+        Some(label) => 4 * position_of(label).index,
         None => 0,
     }
 }
@@ -57,40 +57,40 @@ impl Seat {
         requires { IsFit p.now }
     {
         let smbase = first_smbase(p, cpu);
-        let stand = Stand {
+        let smm_cpu = SmmCpu {
             cpu,
             apic,
             smbase,
             base: 0,
             mark: 0,
         };
-        Seat { stand, at: 0 }
+        Seat { smm_cpu, at: 0 }
     }
 
     /// On at this address.
     pub fn go_to(&mut self, at: u32) {
         self.at = at;
-        self.stand.mark = mark_at(self.stand.cpu, self.stand.smbase, at);
+        self.smm_cpu.mark = mark_at(self.smm_cpu.cpu, self.smm_cpu.smbase, at);
     }
 
     /// SMI entry.
     pub fn enter(&mut self) {
-        self.go_to(self.stand.smbase.wrapping_add(0x8000));
+        self.go_to(self.smm_cpu.smbase.wrapping_add(0x8000));
     }
 
     /// At this SMBASE, where this mark stands at its instruction address, with this base.
     pub fn put(&mut self, smbase: u32, mark: u32, base: u32) {
-        self.stand.smbase = smbase;
-        self.stand.mark = mark;
-        self.stand.base = base;
+        self.smm_cpu.smbase = smbase;
+        self.smm_cpu.mark = mark;
+        self.smm_cpu.base = base;
         self.at = smbase.wrapping_add(0x8000).wrapping_add(offset_of(mark));
     }
 
     /// RSM. What the first handler stored becomes SMBASE, and outside SMM no handler's mark counts.
     pub fn leave(&mut self) {
-        self.stand.mark = 0;
-        if self.stand.smbase == DEFAULT_SMBASE {
-            self.stand.smbase = self.stand.base;
+        self.smm_cpu.mark = 0;
+        if self.smm_cpu.smbase == DEFAULT_SMBASE {
+            self.smm_cpu.smbase = self.smm_cpu.base;
         }
     }
 }

@@ -7,7 +7,7 @@ use Rattle.hp_model.specs.Fitting.{FitsWant}
 use Rattle.hp_monarch.specs.Session.{Fits, Session}
 use Rattle.hp_model.specs.declared.labels.Label.{Label}
 use Rattle.hp_model.specs.declared.labels.Label.TheVariants.{F1, F2, F3, F4, F5, F6, R1, R2, R3, R4, R5, R6}
-use Rattle.hp_model.specs.Handlers.{Seat, goes, next_at, want_at}
+use Rattle.hp_model.specs.Handlers.{Seat, by_record, next_at, want_at}
 use Rattle.hp_model.specs.Labels.{Monarch as Monarchs, part_of}
 use Rattle.hp_model.specs.Monarch.{Monarch}
 use Rattle.hp_model.specs.SharedBytes.{Layout}
@@ -23,7 +23,7 @@ wants_same y x z r R4 e = absurd cc
 wants_same y x z r R6 e = absurd cc
 wants_same y x z r _ e = refl
 
-pub goes_on : (y : Layout) (x : Seat) (r : Monarch) (l : Label) (v : ℕ) → part_of l ≡ Monarchs → next_at y x r l v ≡ goes x (next_at y x r l v).monarch
+pub goes_on : (y : Layout) (x : Seat) (r : Monarch) (l : Label) (v : ℕ) → part_of l ≡ Monarchs → next_at y x r l v ≡ by_record x (next_at y x r l v).monarch
 goes_on y x r F1 v e = absurd cc
 goes_on y x r F2 v e = absurd cc
 goes_on y x r F3 v e = absurd cc
@@ -53,5 +53,5 @@ next_is h n z l v after e p fed at =
     let there : after ≡ (next_at h.layout z h.monarch l v).monarch.label = at ∙ ap (λ (m : Monarch). m.label) led in
     goes_on h.layout z h.monarch l v p ∙ same (next_at h.layout z h.monarch l v).monarch n.monarch after z (sym led) (sym there)
   where
-    same : (m n : Monarch) (after : Label) (z : Seat) → m ≡ n → m.label ≡ after → goes z m ≡ record { label = after; base = z.base; monarch = n }
+    same : (m n : Monarch) (after : Label) (z : Seat) → m ≡ n → m.label ≡ after → by_record z m ≡ record { label = after; base = z.base; monarch = n }
     same m n after z e f = ap (λ (l : Label). record { label = l; base = z.base; monarch = m }) f ∙ ap (λ (k : Monarch). record { label = after; base = z.base; monarch = k }) e

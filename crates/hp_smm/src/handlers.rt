@@ -2,7 +2,7 @@
 
 ghost use Rattle.std.specs.Prelude.{◌≡◌, ◌≤◌, ◌==◌, Some, option_map, IfOk, IfSome, IsTrue, if◌then◌else◌};
 ghost use Rattle.hp_model.specs.Boot.{value_in};
-ghost use Rattle.hp_model.specs.Handlers.{address_of_label, is_due as is_due_at, is_tile as is_tile_at, next_at, runs_at, slot_at as slot_of, want_at};
+ghost use Rattle.hp_model.specs.Handlers.{address_of_label, is_current as is_current_at, is_tile as is_tile_at, next_at, runs_at, slot_at as slot_of, want_at};
 ghost use Rattle.hp_model.specs.Labels.{part_of};
 ghost use Rattle.hp_model.specs.Monarch.{monarch_start, restarted, with_features};
 ghost use Rattle.hp_model.specs.Platform.{IsFit};
@@ -13,7 +13,7 @@ ghost use Rattle.hp_reloc.specs.Relocating.{greatest};
 ghost use Rattle.hp_smm.specs.Rows.{next_for, row_for, seat_for};
 
 use crate::relocated::{relocated_next, relocated_want};
-use hp_image::{Handler, label_of, mark, place_of};
+use hp_image::{Handler, label_of, mark, position_of};
 use hp_model::{Answer, Label, NoMemory, Platform, Want};
 use hp_monarch::Monarch;
 use hp_reloc::{first_next, first_want_by};
@@ -22,7 +22,7 @@ use std::marker::Model;
 
 /// What the handlers know of a processor in SMM.
 #[derive(Clone, Copy)]
-pub struct Stand {
+pub struct SmmCpu {
     /// Its place.
     pub cpu: u32,
     /// Its APIC ID.
@@ -53,7 +53,7 @@ fn address(smbase: u32, label: Label) -> u32
     requires { smbase ≤ 0x90000000 }
     ensures { result ≡ address_of_label smbase label }
 {
-    smbase + 0x8000 + 4 * place_of(label).index
+    smbase + 0x8000 + 4 * position_of(label).index
 }
 
 impl Handlers {
@@ -110,37 +110,37 @@ impl Handlers {
     }
 
     /// Whether this handler runs where the processor stands: processor 0 runs the monarch alone.
-    fn runs(&self, handler: Handler, s: &Stand) -> bool
-        ensures value { result ≡ runs_at self.now.layout (part_named handler) s.now.cpu s.now.smbase }
-        ensures below { IsTrue result → s.now.smbase ≤ 0x90000000 }
+    fn runs(&self, handler: Handler, me: &SmmCpu) -> bool
+        ensures value { result ≡ runs_at self.now.layout (part_named handler) me.now.cpu me.now.smbase }
+        ensures below { IsTrue result → me.now.smbase ≤ 0x90000000 }
     {
         match handler {
-            Handler::First => s.cpu != 0 && s.smbase == 0x30000,
+            Handler::First => me.cpu != 0 && me.smbase == 0x30000,
             Handler::Relocated => {
-                s.cpu != 0 && self.slot_at(s.smbase) != 0 && self.is_tile(s.smbase)
+                me.cpu != 0 && self.slot_at(me.smbase) != 0 && self.is_tile(me.smbase)
             }
-            Handler::Monarch => s.cpu == 0 && s.smbase == self.first_tile(),
+            Handler::Monarch => me.cpu == 0 && me.smbase == self.first_tile(),
         }
     }
 
     /// Whether it is this label's turn: the monarch's is the one where its record stands.
-    fn is_due(&self, label: Label) -> bool
-        ensures { result ≡ is_due_at self.now.monarch (part_of label) label }
+    fn is_current(&self, label: Label) -> bool
+        ensures { result ≡ is_current_at self.now.monarch (part_of label) label }
     {
-        match place_of(label).handler {
+        match position_of(label).handler {
             Handler::Monarch => mark(label) == mark(self.monarch.label()),
             Handler::First | Handler::Relocated => true,
         }
     }
 
     /// The label whose row is due where the processor stands.
-    #[tactic(auto, unfolding(hp_model::specs::Handlers::row_of))]
-    fn label_at(&self, s: &Stand) -> Option<Label>
-        ensures value { result ≡ row_for self.now s.now }
-        ensures below { IfSome result (λ label. s.now.smbase ≤ 0x90000000) }
+    #[tactic(auto, unfolding(hp_model::specs::Handlers::label_of_mark))]
+    fn label_at(&self, me: &SmmCpu) -> Option<Label>
+        ensures value { result ≡ row_for self.now me.now }
+        ensures below { IfSome result (λ label. me.now.smbase ≤ 0x90000000) }
     {
-        match label_of(s.mark) {
-            Some(label) if self.runs(place_of(label).handler, s) && self.is_due(label) => {
+        match label_of(me.mark) {
+            Some(label) if self.runs(position_of(label).handler, me) && self.is_current(label) => {
                 Some(label)
             }
             _ => None,
@@ -148,61 +148,61 @@ impl Handlers {
     }
 
     /// What is wanted at a label whose row is due.
-    fn want_at(&self, s: &Stand, label: Label) -> Want
-        requires apic { s.now.apic ≤ greatest self.now.layout.x2apic }
-        requires row { row_for self.now s.now ≡ Some label }
-        ensures { want_at self.now.layout (seat_for self.now s.now) self.now.monarch label ≡ Some result }
+    fn want_at(&self, me: &SmmCpu, label: Label) -> Want
+        requires apic { me.now.apic ≤ greatest self.now.layout.x2apic }
+        requires row { row_for self.now me.now ≡ Some label }
+        ensures { want_at self.now.layout (seat_for self.now me.now) self.now.monarch label ≡ Some result }
     {
-        match place_of(label).handler {
-            Handler::First => first_want_by(self.monarch.x2apic(), label, s.apic, s.base),
+        match position_of(label).handler {
+            Handler::First => first_want_by(self.monarch.x2apic(), label, me.apic, me.base),
             Handler::Relocated => {
-                relocated_want(label, self.monarch.tseg(), self.slot_at(s.smbase))
+                relocated_want(label, self.monarch.tseg(), self.slot_at(me.smbase))
             }
             Handler::Monarch => self.monarch.want(),
         }
     }
 
     /// The row that is due where the processor stands: its label, and what it wants. `None` where no handler's row is due.
-    pub fn row(&self, s: &Stand) -> Option<(Label, Want)>
-        requires { s.now.apic ≤ greatest self.now.layout.x2apic }
-        ensures label { row_for self.now s.now ≡ option_map (λ row. row.0) result }
-        ensures want { IfSome result (λ row. want_at self.now.layout (seat_for self.now s.now) self.now.monarch row.0 ≡ Some row.1) }
-        ensures smbase { IfSome result (λ row. s.now.smbase ≤ 0x90000000) }
+    pub fn row(&self, me: &SmmCpu) -> Option<(Label, Want)>
+        requires { me.now.apic ≤ greatest self.now.layout.x2apic }
+        ensures label { row_for self.now me.now ≡ option_map (λ row. row.0) result }
+        ensures want { IfSome result (λ row. want_at self.now.layout (seat_for self.now me.now) self.now.monarch row.0 ≡ Some row.1) }
+        ensures smbase { IfSome result (λ row. me.now.smbase ≤ 0x90000000) }
     {
-        match self.label_at(s) {
-            Some(label) => Some((label, self.want_at(s, label))),
+        match self.label_at(me) {
+            Some(label) => Some((label, self.want_at(me, label))),
             None => None,
         }
     }
 
     /// The next label and the base.
-    fn next_at(&mut self, s: &Stand, label: Label, answer: Answer) -> (Label, u32)
-        requires row { row_for self.old s.now ≡ Some label }
-        requires fits { FitsWant (want_at self.old.layout (seat_for self.old s.now) self.old.monarch label) answer }
-        ensures next { next_for self.old s.now label answer ≡ record { label = result.0; base = result.1; monarch = self.new.monarch } }
+    fn next_at(&mut self, me: &SmmCpu, label: Label, answer: Answer) -> (Label, u32)
+        requires row { row_for self.old me.now ≡ Some label }
+        requires fits { FitsWant (want_at self.old.layout (seat_for self.old me.now) self.old.monarch label) answer }
+        ensures next { next_for self.old me.now label answer ≡ record { label = result.0; base = result.1; monarch = self.new.monarch } }
         ensures layout { self.new.layout ≡ self.old.layout }
     {
-        match place_of(label).handler {
-            Handler::First => first_next(label, s.apic, s.base, answer),
-            Handler::Relocated => (relocated_next(label, answer), s.base),
+        match position_of(label).handler {
+            Handler::First => first_next(label, me.apic, me.base, answer),
+            Handler::Relocated => (relocated_next(label, answer), me.base),
             Handler::Monarch => {
                 self.monarch.feed(answer);
-                (self.monarch.label(), s.base)
+                (self.monarch.label(), me.base)
             }
         }
     }
 
     /// The answer to the access that the processor wanted at this label, whose row is due. Answers the instruction address where
     /// it goes on, and its base from there on.
-    pub fn feed(&mut self, s: &Stand, label: Label, answer: Answer) -> (u32, u32)
-        requires row { row_for self.old s.now ≡ Some label }
-        requires smbase { s.now.smbase ≤ 0x90000000 }
-        requires fits { FitsWant (want_at self.old.layout (seat_for self.old s.now) self.old.monarch label) answer }
-        ensures address { result.0 ≡ address_of_label s.now.smbase (next_for self.old s.now label answer).label }
-        ensures base { result.1 ≡ (next_for self.old s.now label answer).base }
-        ensures monarch { self.new ≡ record self.old { monarch = (next_for self.old s.now label answer).monarch } }
+    pub fn feed(&mut self, me: &SmmCpu, label: Label, answer: Answer) -> (u32, u32)
+        requires row { row_for self.old me.now ≡ Some label }
+        requires smbase { me.now.smbase ≤ 0x90000000 }
+        requires fits { FitsWant (want_at self.old.layout (seat_for self.old me.now) self.old.monarch label) answer }
+        ensures address { result.0 ≡ address_of_label me.now.smbase (next_for self.old me.now label answer).label }
+        ensures base { result.1 ≡ (next_for self.old me.now label answer).base }
+        ensures monarch { self.new ≡ record self.old { monarch = (next_for self.old me.now label answer).monarch } }
     {
-        let (next, base) = self.next_at(s, label, answer);
-        (address(s.smbase, next), base)
+        let (next, base) = self.next_at(me, label, answer);
+        (address(me.smbase, next), base)
     }
 }

@@ -5,5 +5,5 @@ mod handlers;
 mod laws;
 mod relocated;
 
-pub use handlers::{Handlers, Stand};
+pub use handlers::{Handlers, SmmCpu};
 pub use laws::a_processor_leaves_once_it_is_released;

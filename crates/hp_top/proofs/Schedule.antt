@@ -15,7 +15,7 @@ use Rattle.hp_model.specs.Text.{lines_text, end_text, head_text}
 use Rattle.hp_top.proofs.Sending.{sent_none, sent_more, sent_all, front_part}
 use Rattle.hp_top.proofs.Turning.{lines_text-append, both-assoc, act_all-append, act_all-one, sends_both, sends_empty, front_both, front_more}
 use Rattle.hp_platform.specs.World.{World}
-use Rattle.hp_top.specs.Worlds.{Shows}
+use Rattle.hp_top.specs.Worlds.{StandsFor}
 use Rattle.hp_top.specs.Sent.{IsSent, HoldsFront}
 use Rattle.hp_top.specs.Turns.{Sends, run_text, boot_text, text_by, output, boot_left, turns_text, with_voices}
 
@@ -39,7 +39,7 @@ module _ (f : File) (turn : ℕ) (w : Scene) (hosts : List Actor) (same : hosts 
           ∙ sym (act_all-append f.platform hosts (x ∷ []) w) ∙ ap (act_all f.platform w) (free x e)
 
       -- and then the processor
-      pub turn_both : (new : World) (count : ℕ) → ((v : Scene) → Shows f.platform mid v → Sends f.platform new (act f.platform v x) count b c)
+      pub turn_both : (new : World) (count : ℕ) → ((v : Scene) → StandsFor f.platform mid v → Sends f.platform new (act f.platform v x) count b c)
           → Sends f.platform new (act_all f.platform w (actors_of f turn)) (made + count) a c
       turn_both new count next =
           subst (λ (m : Made). Sends f.platform new m (made + count) a c) both
@@ -47,7 +47,7 @@ module _ (f : File) (turn : ℕ) (w : Scene) (hosts : List Actor) (same : hosts 
           (next (act_all f.platform w hosts).scene first.scene))
 
       -- or it stopped
-      pub turn_front : ((v : Scene) → Shows f.platform mid v → HoldsFront b c (lines_text (act f.platform v x).entries))
+      pub turn_front : ((v : Scene) → StandsFor f.platform mid v → HoldsFront b c (lines_text (act f.platform v x).entries))
           → HoldsFront a c (lines_text (act_all f.platform w (actors_of f turn)).entries)
       turn_front next =
           subst (λ (m : Made). HoldsFront a c (lines_text m.entries)) both
@@ -88,13 +88,13 @@ turns-first : (f : File) (m t : ℕ) (w : Scene) → turns_from f (suc m) t w �
 unfolding turns_from
 turns-first f m t w = refl
 
-pub turns_start : (f : File) (w : Scene) (seen : World) (a : Option (List ℕ)) → Shows f.platform seen w → Sends f.platform seen (turns_from f 0 0 w) 0 a a
+pub turns_start : (f : File) (w : Scene) (seen : World) (a : Option (List ℕ)) → StandsFor f.platform seen w → Sends f.platform seen (turns_from f 0 0 w) 0 a a
 unfolding turns_from act_all
 turns_start f w seen a shows = sends_empty f.platform w seen a shows
 
 module _ (f : File) (turn : ℕ) (w : Scene) (mid : World) (made : ℕ) (a b c : Option (List ℕ)) (first : Sends f.platform mid (turns_from f turn 0 w) made a b) where
   -- a turn more
-  pub turns_more : (new : World) (count : ℕ) → ((v : Scene) → Shows f.platform mid v → Sends f.platform new (act_all f.platform v (actors_of f turn)) count b c)
+  pub turns_more : (new : World) (count : ℕ) → ((v : Scene) → StandsFor f.platform mid v → Sends f.platform new (act_all f.platform v (actors_of f turn)) count b c)
       → Sends f.platform new (turns_from f (turn + 1) 0 w) (made + count) a c
   turns_more new count next =
       let here : 0 + turn ≡ turn = omega arith in
@@ -104,7 +104,7 @@ module _ (f : File) (turn : ℕ) (w : Scene) (mid : World) (made : ℕ) (a b c :
       (next (turns_from f turn 0 w).scene first.scene))
 
   -- or it stopped
-  pub turns_front : (all : ℕ) → turn < all → ((v : Scene) → Shows f.platform mid v → HoldsFront b c (lines_text (act_all f.platform v (actors_of f turn)).entries))
+  pub turns_front : (all : ℕ) → turn < all → ((v : Scene) → StandsFor f.platform mid v → HoldsFront b c (lines_text (act_all f.platform v (actors_of f turn)).entries))
       → HoldsFront a c (lines_text (turns_from f all 0 w).entries)
   turns_front all within next =
       let here : 0 + turn ≡ turn = omega arith in
@@ -127,7 +127,7 @@ pub sends_boot : (f : File) (n : ℕ) → n ≡ boot_turns f.platform → (seen 
 sends_boot f n is seen made a b sends = subst (λ (m : Made). Sends f.platform seen m made a b) (sym (booted-is f n is)) sends
 
 -- the scene after it shows what refused it
-pub boot_fact-is : (f : File) (world : World) (o : Option BootFact) → Shows f.platform world (booted f).scene →
+pub boot_fact-is : (f : File) (world : World) (o : Option BootFact) → StandsFor f.platform world (booted f).scene →
     ((s : State) → run world.platform world.entries ≡ Some s → o ≡ fact_of s.stage) → o ≡ boot_fact f
 unfolding boot_fact
 boot_fact-is f world o shows is = is (booted f).scene.state shows.tells.is

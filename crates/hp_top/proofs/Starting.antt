@@ -11,9 +11,9 @@ use Rattle.hp_model.specs.Schedule.{scene_start}
 use Rattle.hp_model.specs.State.{start}
 use Rattle.hp_model.specs.Voices as model
 use Rattle.hp_agent.specs.declared.kinds.Voice.{Voice}
-use Rattle.hp_agent.specs.Kinds.{place_tells, all_tell}
+use Rattle.hp_agent.specs.Kinds.{place_voice, place_voices}
 use Rattle.hp_platform.specs.World.{World}
-use Rattle.hp_top.specs.Worlds.{Shows}
+use Rattle.hp_top.specs.Worlds.{StandsFor}
 
 map-last : {X Y : Type 0} (f : X → Y) (xs : List X) (x : X) → map f (xs ++ x ∷ []) ≡ map f xs ++ f x ∷ []
 map-last f [] x = refl
@@ -32,10 +32,10 @@ length-told p kinds = length-same (λ (v : model.Voice). Some v) (map (model.voi
 
 -- an agent more
 pub told_more : {A : Type 0} (handed : A → Option model.Voice) (p : Platform) (ps : List (Option (Voice A))) (place : Option (Voice A)) (kinds : List VoiceKind) (kind : VoiceKind) →
-    all_tell handed ps ≡ told p kinds → place_tells handed place ≡ Some (model.voice_of p kind) → all_tell handed (ps ++ place ∷ []) ≡ told p (kinds ++ kind ∷ [])
+    place_voices handed ps ≡ told p kinds → place_voice handed place ≡ Some (model.voice_of p kind) → place_voices handed (ps ++ place ∷ []) ≡ told p (kinds ++ kind ∷ [])
 told_more handed p ps place kinds kind same is =
-    map-last (place_tells handed) ps place
-    ∙ ap (λ (os : List (Option model.Voice)). os ++ place_tells handed place ∷ []) same
+    map-last (place_voice handed) ps place
+    ∙ ap (λ (os : List (Option model.Voice)). os ++ place_voice handed place ∷ []) same
     ∙ ap (λ (o : Option model.Voice). told p kinds ++ o ∷ []) is
     ∙ sym (map-last (λ (v : model.Voice). Some v) (map (model.voice_of p) kinds) (model.voice_of p kind))
     ∙ ap (map (λ (v : model.Voice). Some v)) (sym (map-last (model.voice_of p) kinds kind))
@@ -50,7 +50,7 @@ all_quiet (kind ∷ kinds) = ap (λ (vs : List Answer). Quiet ∷ vs) (all_quiet
 
 -- it stands for the first scene of that file's schedule
 pub starts : (f : File) (p : Platform) (world : World) → f.platform ≡ p → world.platform ≡ p → world.entries ≡ [] → world.voices ≡ told p f.voices →
-    world.last ≡ replicate (count_of p) Quiet → length f.voices ≡ count_of p → Shows p world (scene_start f)
+    world.last ≡ replicate (count_of p) Quiet → length f.voices ≡ count_of p → StandsFor p world (scene_start f)
 starts f p world same platform entries voices last count = record {
   platform = platform;
   tells = record {

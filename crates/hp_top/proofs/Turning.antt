@@ -14,7 +14,7 @@ use Rattle.hp_model.specs.Text.{line_text, lines_text}
 use Rattle.hp_top.proofs.Sending.{sent_none, sent_more, sent_all, front_part, front_none}
 use Rattle.hp_platform.specs.declared.worlds.Turn.TheVariants as turn
 use Rattle.hp_platform.specs.World.{World}
-use Rattle.hp_top.specs.Worlds.{Shows, Takes}
+use Rattle.hp_top.specs.Worlds.{StandsFor, Takes}
 use Rattle.hp_top.specs.Sent.{HoldsFront}
 use Rattle.hp_top.specs.Turns.{Sends, due, past, boot_left, DoneActors}
 
@@ -99,7 +99,7 @@ act_all-cons : (p : Platform) (w : Scene) (x : Actor) (xs : List Actor) → act_
 unfolding act_all
 act_all-cons p w x xs = refl
 
-pub sends_empty : (p : Platform) (w : Scene) (seen : World) (a : Option (List ℕ)) → Shows p seen w → Sends p seen (act_all p w []) 0 a a
+pub sends_empty : (p : Platform) (w : Scene) (seen : World) (a : Option (List ℕ)) → StandsFor p seen w → Sends p seen (act_all p w []) 0 a a
 unfolding act_all
 sends_empty p w seen a shows = record { scene = shows; count = refl; lines = Appends-nil a }
 
@@ -109,7 +109,7 @@ due-first turn h hs is = rw (eq-eqb h.turn turn is) refl
 module _ (p : Platform) (w : Scene) (all rest more : List Actor) (x : Actor) (seen : World) (made : ℕ) (a b c : Option (List ℕ))
     (is : rest ≡ x ∷ more) (done : DoneActors p w all rest seen made a b) where
   -- the next of them acted
-  pub done_more : (new : World) (count : ℕ) → ((v : Scene) → Shows p seen v → Sends p new (act p v x) count b c) → DoneActors p w all more new (made + count) a c
+  pub done_more : (new : World) (count : ℕ) → ((v : Scene) → StandsFor p seen v → Sends p new (act p v x) count b c) → DoneActors p w all more new (made + count) a c
   done_more new count next = record {
     front = done.front ++ x ∷ [];
     actors = append_assoc done.front (x ∷ []) more ∙ ap (λ (xs : List Actor). done.front ++ xs) (sym is) ∙ done.actors;
@@ -119,7 +119,7 @@ module _ (p : Platform) (w : Scene) (all rest more : List Actor) (x : Actor) (se
   }
 
   -- or it stopped
-  pub done_front : ((v : Scene) → Shows p seen v → HoldsFront b c (lines_text (act p v x).entries)) → HoldsFront a c (lines_text (act_all p w all).entries)
+  pub done_front : ((v : Scene) → StandsFor p seen v → HoldsFront b c (lines_text (act p v x).entries)) → HoldsFront a c (lines_text (act_all p w all).entries)
   done_front next =
       subst (λ (m : Made). HoldsFront a c (lines_text m.entries)) whole
       (front_both p seen (act_all p w done.front) (act_all p v (x ∷ more)) made a b c done.sends
@@ -139,11 +139,11 @@ done_all p w all rest seen made a b done none =
     subst (λ (xs : List Actor). Sends p seen (act_all p w xs) made a b) (sym (append-nil done.front) ∙ ap (λ (xs : List Actor). done.front ++ xs) (sym none) ∙ done.actors) done.sends
 
 -- none of them acted yet
-pub done_start : (p : Platform) (w : Scene) (all : List Actor) (seen : World) (a : Option (List ℕ)) → Shows p seen w → DoneActors p w all all seen 0 a a
+pub done_start : (p : Platform) (w : Scene) (all : List Actor) (seen : World) (a : Option (List ℕ)) → StandsFor p seen w → DoneActors p w all all seen 0 a a
 done_start p w all seen a shows = record { front = []; actors = refl; sends = sends_empty p w seen a shows }
 
 -- the boot's turns: one is next while some are left
-pub boot_start : (p : Platform) (w : Scene) (all : ℕ) (seen : World) (a : Option (List ℕ)) → Shows p seen w → DoneActors p w (boot_left all) (boot_left (all - 0)) seen 0 a a
+pub boot_start : (p : Platform) (w : Scene) (all : ℕ) (seen : World) (a : Option (List ℕ)) → StandsFor p seen w → DoneActors p w (boot_left all) (boot_left (all - 0)) seen 0 a a
 boot_start p w all seen a shows =
     let none : all ≡ all - 0 = omega arith in
     subst (λ (n : ℕ). DoneActors p w (boot_left all) (boot_left n) seen 0 a a) none (done_start p w (boot_left all) seen a shows)

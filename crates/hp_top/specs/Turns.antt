@@ -13,11 +13,11 @@ use Rattle.hp_model.specs.declared.outcomes.BootFact.{BootFact}
 use Rattle.hp_model.specs.Schedule.{Scene, Made, act_all, booted, boot_fact, scheduled}
 use Rattle.hp_model.specs.Text.{head_text, lines_text, end_text, trace_text}
 use Rattle.hp_platform.specs.World.{World}
-use Rattle.hp_top.specs.Worlds.{Shows}
+use Rattle.hp_top.specs.Worlds.{StandsFor}
 
 -- a part of the schedule was made: the scene that the world then stands for, how many entries it has, and their lines in the sink
 pub record Sends (p : Platform) (world : World) (m : Made) (made : ℕ) (old new : Option (List ℕ)) : Type 0 where
-  pub scene : Shows p world m.scene
+  pub scene : StandsFor p world m.scene
   pub count : length m.entries ≡ made
   pub lines : Appends old new (lines_text m.entries)
 

@@ -3,12 +3,12 @@ use Rattle.std.specs.Prelude.{◌≡◌}
 use Rattle.hp_model.specs.declared.platforms.Platform.{Platform}
 use Rattle.hp_model.specs.Schedule.{Scene, Made}
 use Rattle.hp_platform.specs.declared.worlds.Turn.{Turn}
-use Rattle.hp_platform.specs.World.{World, Acts, Tells}
+use Rattle.hp_platform.specs.World.{World, Acts, StandsFor as WorldStandsFor}
 
 -- the world is of this platform, and stands for this scene
-pub record Shows (p : Platform) (world : World) (w : Scene) : Type 0 where
+pub record StandsFor (p : Platform) (world : World) (w : Scene) : Type 0 where
   pub platform : world.platform ≡ p
-  pub tells : Tells world w
+  pub tells : WorldStandsFor world w
 
 -- a turn made these entries; after it the world is of this platform, and stands for the scene that they lead to
 pub record Takes (p : Platform) (world : World) (m : Made) (turn : Turn) : Type 0 where

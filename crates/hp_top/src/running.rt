@@ -11,7 +11,7 @@ ghost use Rattle.hp_model.specs.Schedule.{Scene as Shown, act, act_all, actors_o
 ghost use Rattle.hp_config.specs.Sound.{IsSound};
 ghost use Rattle.hp_model.specs.Text.{head_text, line_text, lines_text, end_text};
 ghost use Rattle.hp_top.specs.Faults.{StopsFor};
-ghost use Rattle.hp_top.specs.Worlds.{Shows, Takes};
+ghost use Rattle.hp_top.specs.Worlds.{StandsFor, Takes};
 ghost use Rattle.hp_top.specs.Sent.{HoldsFront};
 ghost use Rattle.hp_top.specs.Stalls.{IsTracking};
 ghost use Rattle.hp_top.specs.Turns.{Sends, Rises, at_turn, boot_left, due, output, past, start_of, turn_of, turns_text, with_voices};
@@ -76,7 +76,7 @@ fn send_end<K: Sink>(entries: u64, text: &mut Vec<u8>, out: &mut K) -> Result<()
 
 /// An actor's turn, which makes what the schedule makes of that actor.
 fn take_turn<A: Agent>(world: &mut World<A>, actor: Actor) -> Result<Turn, NoMemory>
-    ensures { (p : Platform) (w : Shown) → Shows p world.old w → IfOk result (Takes p world.new (act p w actor)) }
+    ensures { (p : Platform) (w : Shown) → StandsFor p world.old w → IfOk result (Takes p world.new (act p w actor)) }
 {
     a_turn_is_the_schedules();
     world.turn(actor)
@@ -91,8 +91,8 @@ fn make_step<A: Agent, K: Sink>(
     out: &mut K,
 ) -> Result<u64, WriteStop>
     ensures bound { IfOk result (λ made. made ≤ 1) }
-    ensures made { (p : Platform) (w : Shown) → Shows p world.old w → IfOk result (λ made. Sends p world.new (act p w actor) made (K.held out.old) (K.held out.new)) }
-    ensures part { (p : Platform) (w : Shown) → Shows p world.old w → OnErr result (HoldsFront (K.held out.old) (K.held out.new) (lines_text (act p w actor).entries)) }
+    ensures made { (p : Platform) (w : Shown) → StandsFor p world.old w → IfOk result (λ made. Sends p world.new (act p w actor) made (K.held out.old) (K.held out.new)) }
+    ensures part { (p : Platform) (w : Shown) → StandsFor p world.old w → OnErr result (HoldsFront (K.held out.old) (K.held out.new) (lines_text (act p w actor).entries)) }
     ensures cause { StopsFor (K.faults out.old) (K.faults out.new) result }
 {
     let entry = match take_turn(world, actor) {
@@ -138,9 +138,9 @@ fn make_hosts<'h, A: Agent, K: Sink>(
 ) -> Result<(u64, &'h [HostEvent]), WriteStop>
     ensures bound { IfOk result (λ done. done.0 + length done.1.now ≤ length hosts.now) }
     ensures rest { IfOk result (λ done. done.1.now ≡ past turn hosts.now) }
-    ensures made { (p : Platform) (w : Shown) → Shows p world.old w
+    ensures made { (p : Platform) (w : Shown) → StandsFor p world.old w
         → IfOk result (λ done. Sends p world.new (act_all p w (due turn hosts.now)) done.0 (K.held out.old) (K.held out.new)) }
-    ensures part { (p : Platform) (w : Shown) → Shows p world.old w
+    ensures part { (p : Platform) (w : Shown) → StandsFor p world.old w
         → OnErr result (HoldsFront (K.held out.old) (K.held out.new) (lines_text (act_all p w (due turn hosts.now)).entries)) }
     ensures cause { StopsFor (K.faults out.old) (K.faults out.new) result }
 {
@@ -157,14 +157,14 @@ fn make_hosts<'h, A: Agent, K: Sink>(
 }
 
 /// Whose turn a processor's own turn of this number is: its own, or where SMIs may come late that of its SMI.
-fn turn_actor(delivery: Delivery, own: u32, k: u32) -> Actor
-    ensures { result ≡ actor_in delivery own k }
+fn turn_actor(delivery: Delivery, own: u32, cpu: u32) -> Actor
+    ensures { result ≡ actor_in delivery own cpu }
 {
     match delivery {
         Delivery::Late { lag } if u64::from(own) % (u64::from(lag) + 1) == u64::from(lag) => {
-            Actor::Smi(k)
+            Actor::Smi(cpu)
         }
-        Delivery::Prompt | Delivery::Late { lag: _ } => Actor::Cpu(k),
+        Delivery::Prompt | Delivery::Late { lag: _ } => Actor::Cpu(cpu),
     }
 }
 
@@ -177,11 +177,11 @@ fn actor_of(file: &File, stalled: &mut Stalled, turn: u32) -> Option<Actor>
     ensures tracking { IsTracking file.now (turn + 1) stalled.new }
 {
     let count = file.platform.apic.0.len() as u32;
-    let k = turn % count;
-    if stalled.holds(k, turn) {
+    let cpu = turn % count;
+    if stalled.holds(cpu, turn) {
         None
     } else {
-        Some(turn_actor(file.platform.delivery, turn / count, k))
+        Some(turn_actor(file.platform.delivery, turn / count, cpu))
     }
 }
 
@@ -202,9 +202,9 @@ fn make_turn<'h, A: Agent, K: Sink>(
     ensures bound { IfOk result (λ done. done.0 + length done.1.now ≤ length hosts.now + 1) }
     ensures rest { IfOk result (λ done. done.1.now ≡ past turn hosts.now) }
     ensures tracking { IfOk result (λ done. IsTracking file.now (turn + 1) stalled.new) }
-    ensures made { (w : Shown) → Shows file.now.platform world.old w
+    ensures made { (w : Shown) → StandsFor file.now.platform world.old w
         → IfOk result (λ done. Sends file.now.platform world.new (act_all file.now.platform w (actors_of file.now turn)) done.0 (K.held out.old) (K.held out.new)) }
-    ensures part { (w : Shown) → Shows file.now.platform world.old w
+    ensures part { (w : Shown) → StandsFor file.now.platform world.old w
         → OnErr result (HoldsFront (K.held out.old) (K.held out.new) (lines_text (act_all file.now.platform w (actors_of file.now turn)).entries)) }
     ensures cause { StopsFor (K.faults out.old) (K.faults out.new) result }
 {
@@ -235,9 +235,9 @@ fn make_turns<A: Agent, K: Sink>(
     requires rises { Rises turn_of 0 hosts.now }
     requires same { (turn : ℕ) → at_turn turn hosts.now ≡ of_turn file.now turn }
     ensures bound { IfOk result (λ made. made ≤ 2 ^ 63 + 2 ^ 32) }
-    ensures made { (w : Shown) → Shows file.now.platform world.old w
+    ensures made { (w : Shown) → StandsFor file.now.platform world.old w
         → IfOk result (λ made. Sends file.now.platform world.new (turns_from file.now file.now.platform.turns 0 w) made (K.held out.old) (K.held out.new)) }
-    ensures part { (w : Shown) → Shows file.now.platform world.old w
+    ensures part { (w : Shown) → StandsFor file.now.platform world.old w
         → OnErr result (HoldsFront (K.held out.old) (K.held out.new) (lines_text (turns_from file.now file.now.platform.turns 0 w).entries)) }
     ensures cause { StopsFor (K.faults out.old) (K.faults out.new) result }
 {
@@ -305,7 +305,7 @@ fn world_of<A: Agent>(
 ) -> Result<World<A>, NoMemory>
     requires fit { IsFit p.now }
     requires voices { length kinds.items ≡ count_of p.now }
-    ensures { (f : Whole) → f.platform ≡ p.now → f.voices ≡ kinds.items → IfOk result (λ world. Shows p.now world (scene_start f)) }
+    ensures { (f : Whole) → f.platform ≡ p.now → f.voices ≡ kinds.items → IfOk result (λ world. StandsFor p.now world (scene_start f)) }
 {
     let agents = agents_of(alloc, p, kinds)?;
     let world = World::new(alloc, p, agents)?;
@@ -351,9 +351,9 @@ fn make_boot<A: Agent, K: Sink>(
     out: &mut K,
 ) -> Result<u64, WriteStop>
     ensures bound { IfOk result (λ made. made ≤ turns) }
-    ensures made { (p : Platform) (w : Shown) → Shows p world.old w
+    ensures made { (p : Platform) (w : Shown) → StandsFor p world.old w
         → IfOk result (λ made. Sends p world.new (act_all p w (boot_left turns)) made (K.held out.old) (K.held out.new)) }
-    ensures part { (p : Platform) (w : Shown) → Shows p world.old w
+    ensures part { (p : Platform) (w : Shown) → StandsFor p world.old w
         → OnErr result (HoldsFront (K.held out.old) (K.held out.new) (lines_text (act_all p w (boot_left turns)).entries)) }
     ensures cause { StopsFor (K.faults out.old) (K.faults out.new) result }
 {
@@ -382,9 +382,9 @@ fn run_turns<A: Agent, K: Sink>(
     requires rises { Rises turn_of 0 hosts.now }
     requires same { (turn : ℕ) → at_turn turn hosts.now ≡ of_turn file.now turn }
     requires booted { booted ≤ 29 }
-    ensures all { (w : Shown) → Shows file.now.platform world.old w
+    ensures all { (w : Shown) → StandsFor file.now.platform world.old w
         → OnOk result (Appends (K.held out.old) (K.held out.new) (turns_text booted (turns_from file.now file.now.platform.turns 0 w))) }
-    ensures part { (w : Shown) → Shows file.now.platform world.old w
+    ensures part { (w : Shown) → StandsFor file.now.platform world.old w
         → OnErr result (HoldsFront (K.held out.old) (K.held out.new) (turns_text booted (turns_from file.now file.now.platform.turns 0 w))) }
     ensures cause { StopsFor (K.faults out.old) (K.faults out.new) result }
 {
@@ -409,11 +409,11 @@ fn run_world<A: Agent, K: Sink>(
     requires tracking { IsTracking file.now 0 stalled.old }
     requires rises { Rises turn_of 0 hosts.now }
     requires same { (turn : ℕ) → at_turn turn hosts.now ≡ of_turn file.now turn }
-    ensures fact { (kinds : List VoiceKind) → Shows file.now.platform world.old (scene_start (with_voices kinds file.now))
+    ensures fact { (kinds : List VoiceKind) → StandsFor file.now.platform world.old (scene_start (with_voices kinds file.now))
         → IfOk result (λ fact. fact ≡ fact_of_boot (with_voices kinds file.now)) }
-    ensures all { (kinds : List VoiceKind) → Shows file.now.platform world.old (scene_start (with_voices kinds file.now))
+    ensures all { (kinds : List VoiceKind) → StandsFor file.now.platform world.old (scene_start (with_voices kinds file.now))
         → OnOk result (Appends (K.held out.old) (K.held out.new) (output (with_voices kinds file.now))) }
-    ensures part { (kinds : List VoiceKind) → Shows file.now.platform world.old (scene_start (with_voices kinds file.now))
+    ensures part { (kinds : List VoiceKind) → StandsFor file.now.platform world.old (scene_start (with_voices kinds file.now))
         → OnErr result (HoldsFront (K.held out.old) (K.held out.new) (output (with_voices kinds file.now))) }
     ensures cause { StopsFor (K.faults out.old) (K.faults out.new) result }
 {

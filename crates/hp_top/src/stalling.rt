@@ -117,14 +117,14 @@ impl<'s> Stalled<'s> {
 
     /// Whether a stall keeps this turn from the processor. Takes no turn before one that it was asked for.
     #[tactic(auto, using(crate::proofs::Tracking::tracking))]
-    pub(crate) fn holds(&mut self, k: u32, turn: u32) -> bool
-        ensures value { (all : List StallValue) → Tracks all turn self.old → Rises start_of 0 self.old.rest → k < length self.old.until → result ≡ is_stalled all k turn }
+    pub(crate) fn holds(&mut self, cpu: u32, turn: u32) -> bool
+        ensures value { (all : List StallValue) → Tracks all turn self.old → Rises start_of 0 self.old.rest → cpu < length self.old.until → result ≡ is_stalled all cpu turn }
         ensures tracks { (all : List StallValue) → Tracks all turn self.old → Tracks all (turn + 1) self.new }
         ensures rises { Rises start_of 0 self.old.rest → Rises start_of 0 self.new.rest }
         ensures count { length self.new.until ≡ length self.old.until }
     {
         self.reach(turn);
-        match self.until.get(k as usize) {
+        match self.until.get(cpu as usize) {
             Some(until) => u64::from(turn) < *until,
             None => false,
         }

@@ -1,8 +1,8 @@
--- What is read from the entries of worked traces: triples, classes, who is bound, known and held, sessions, and whether they are disturbed.
+-- What is read from the entries of worked traces: triples, decisions, who is bound, known and held, sessions, and whether they are disturbed.
 use Rattle.std.proofs.Common.{◌≡◌, true, false, [], ◌∷◌, Some, None, refl}
 use Rattle.hp_model.specs.declared.outcomes.Refusal.TheVariants.{Disabled, Both, AlreadyKnown, GateHeld, NoUnplug, NotKnown, NotArrived, Foreign}
-use Rattle.hp_model.specs.Monarch.{Adds, Ejects, refuses}
-use Rattle.hp_worked.specs.Looked.{reported, whole, session_triples, session_lengths, classes, bound_after, known_after, held_after, disturbed_after}
+use Rattle.hp_model.specs.Monarch.{ToAdd, ToEject, refuses}
+use Rattle.hp_worked.specs.Looked.{reported, whole, session_triples, session_lengths, decisions, bound_after, known_after, held_after, disturbed_after}
 use Rattle.hp_worked.specs.Judged.{flag_is_right}
 use Rattle.hp_worked.specs.Files.{an_add_file, two_adds_file, two_new_processors_file, gate_held_file, insert_and_eject_file, disabled_processor_file, already_known_file, not_at_gate_file, ejected_and_added_again_file, no_unplug_file, not_known_file, not_arrived_file, not_parked_file, late_alone_file, selector_taken_away_file, eject_led_astray_file, wide_add_file}
 use Rattle.hp_worked.specs.Adds.{an_add}
@@ -20,9 +20,9 @@ pub an_add_triples : session_triples an_add_file.platform (whole an_add) ≡ ((r
 unfolding the_laws an_add
 an_add_triples = refl
 
-pub an_add_classes : classes an_add_file.platform (whole an_add) ≡ Adds ∷ []
+pub an_add_decisions : decisions an_add_file.platform (whole an_add) ≡ ToAdd ∷ []
 unfolding the_laws an_add
-an_add_classes = refl
+an_add_decisions = refl
 
 pub an_add_bound : bound_after an_add_file an_add ≡ 0 ∷ 1 ∷ []
 unfolding the_laws an_add
@@ -32,9 +32,9 @@ pub two_adds_triples : session_triples two_adds_file.platform (whole two_adds) �
 unfolding the_laws two_adds
 two_adds_triples = refl
 
-pub two_adds_classes : classes two_adds_file.platform (whole two_adds) ≡ Adds ∷ Adds ∷ []
+pub two_adds_decisions : decisions two_adds_file.platform (whole two_adds) ≡ ToAdd ∷ ToAdd ∷ []
 unfolding the_laws two_adds
-two_adds_classes = refl
+two_adds_decisions = refl
 
 pub two_adds_bound : bound_after two_adds_file two_adds ≡ 0 ∷ 1 ∷ 2 ∷ []
 unfolding the_laws two_adds
@@ -44,9 +44,9 @@ pub two_new_processors_triples : session_triples two_new_processors_file.platfor
 unfolding the_laws two_new_processors
 two_new_processors_triples = refl
 
-pub two_new_processors_classes : classes two_new_processors_file.platform (whole two_new_processors) ≡ Adds ∷ []
+pub two_new_processors_decisions : decisions two_new_processors_file.platform (whole two_new_processors) ≡ ToAdd ∷ []
 unfolding the_laws two_new_processors
-two_new_processors_classes = refl
+two_new_processors_decisions = refl
 
 pub two_new_processors_bound : bound_after two_new_processors_file two_new_processors ≡ 0 ∷ 1 ∷ []
 unfolding the_laws two_new_processors
@@ -56,9 +56,9 @@ pub gate_held_triples : session_triples gate_held_file.platform (whole gate_held
 unfolding the_laws gate_held
 gate_held_triples = refl
 
-pub gate_held_classes : classes gate_held_file.platform (whole gate_held) ≡ Adds ∷ refuses (GateHeld 2 2 1) ∷ Adds ∷ Adds ∷ []
+pub gate_held_decisions : decisions gate_held_file.platform (whole gate_held) ≡ ToAdd ∷ refuses (GateHeld 2 2 1) ∷ ToAdd ∷ ToAdd ∷ []
 unfolding the_laws gate_held
-gate_held_classes = refl
+gate_held_decisions = refl
 
 pub gate_held_bound : bound_after gate_held_file gate_held ≡ 0 ∷ 1 ∷ 2 ∷ []
 unfolding the_laws gate_held
@@ -68,9 +68,9 @@ pub insert_and_eject_triples : session_triples insert_and_eject_file.platform (w
 unfolding the_laws insert_and_eject
 insert_and_eject_triples = refl
 
-pub insert_and_eject_classes : classes insert_and_eject_file.platform (whole insert_and_eject) ≡ refuses (Both 1 0x13) ∷ []
+pub insert_and_eject_decisions : decisions insert_and_eject_file.platform (whole insert_and_eject) ≡ refuses (Both 1 0x13) ∷ []
 unfolding the_laws insert_and_eject
-insert_and_eject_classes = refl
+insert_and_eject_decisions = refl
 
 pub insert_and_eject_bound : bound_after insert_and_eject_file insert_and_eject ≡ 0 ∷ []
 unfolding the_laws insert_and_eject
@@ -80,9 +80,9 @@ pub disabled_processor_triples : session_triples disabled_processor_file.platfor
 unfolding the_laws disabled_processor
 disabled_processor_triples = refl
 
-pub disabled_processor_classes : classes disabled_processor_file.platform (whole disabled_processor) ≡ refuses (Disabled 1 0x2) ∷ []
+pub disabled_processor_decisions : decisions disabled_processor_file.platform (whole disabled_processor) ≡ refuses (Disabled 1 0x2) ∷ []
 unfolding the_laws disabled_processor
-disabled_processor_classes = refl
+disabled_processor_decisions = refl
 
 pub disabled_processor_bound : bound_after disabled_processor_file disabled_processor ≡ 0 ∷ []
 unfolding the_laws disabled_processor
@@ -92,9 +92,9 @@ pub already_known_triples : session_triples already_known_file.platform (whole a
 unfolding the_laws an_add already_known
 already_known_triples = refl
 
-pub already_known_classes : classes already_known_file.platform (whole already_known) ≡ Adds ∷ refuses (AlreadyKnown 1 1 1) ∷ []
+pub already_known_decisions : decisions already_known_file.platform (whole already_known) ≡ ToAdd ∷ refuses (AlreadyKnown 1 1 1) ∷ []
 unfolding the_laws an_add already_known
-already_known_classes = refl
+already_known_decisions = refl
 
 pub already_known_bound : bound_after already_known_file already_known ≡ 0 ∷ 1 ∷ []
 unfolding the_laws an_add already_known
@@ -104,9 +104,9 @@ pub not_at_gate_triples : session_triples not_at_gate_file.platform (whole not_a
 unfolding the_laws not_at_gate
 not_at_gate_triples = refl
 
-pub not_at_gate_classes : classes not_at_gate_file.platform (whole not_at_gate) ≡ Adds ∷ []
+pub not_at_gate_decisions : decisions not_at_gate_file.platform (whole not_at_gate) ≡ ToAdd ∷ []
 unfolding the_laws not_at_gate
-not_at_gate_classes = refl
+not_at_gate_decisions = refl
 
 pub not_at_gate_bound : bound_after not_at_gate_file not_at_gate ≡ 0 ∷ 1 ∷ []
 unfolding the_laws not_at_gate
@@ -116,9 +116,9 @@ pub ejected_and_added_again_triples : session_triples ejected_and_added_again_fi
 unfolding the_laws ejected_and_added_again
 ejected_and_added_again_triples = refl
 
-pub ejected_and_added_again_classes : classes ejected_and_added_again_file.platform (whole ejected_and_added_again) ≡ Adds ∷ Ejects ∷ Adds ∷ []
+pub ejected_and_added_again_decisions : decisions ejected_and_added_again_file.platform (whole ejected_and_added_again) ≡ ToAdd ∷ ToEject ∷ ToAdd ∷ []
 unfolding the_laws ejected_and_added_again
-ejected_and_added_again_classes = refl
+ejected_and_added_again_decisions = refl
 
 pub ejected_and_added_again_bound : bound_after ejected_and_added_again_file ejected_and_added_again ≡ 0 ∷ 1 ∷ []
 unfolding the_laws ejected_and_added_again
@@ -128,9 +128,9 @@ pub no_unplug_triples : session_triples no_unplug_file.platform (whole no_unplug
 unfolding the_laws no_unplug
 no_unplug_triples = refl
 
-pub no_unplug_classes : classes no_unplug_file.platform (whole no_unplug) ≡ Adds ∷ refuses (NoUnplug 1 3) ∷ []
+pub no_unplug_decisions : decisions no_unplug_file.platform (whole no_unplug) ≡ ToAdd ∷ refuses (NoUnplug 1 3) ∷ []
 unfolding the_laws no_unplug
-no_unplug_classes = refl
+no_unplug_decisions = refl
 
 pub no_unplug_bound : bound_after no_unplug_file no_unplug ≡ 0 ∷ 1 ∷ []
 unfolding the_laws no_unplug
@@ -140,9 +140,9 @@ pub not_known_triples : session_triples not_known_file.platform (whole not_known
 unfolding the_laws not_known
 not_known_triples = refl
 
-pub not_known_classes : classes not_known_file.platform (whole not_known) ≡ refuses (NotKnown 1 1) ∷ []
+pub not_known_decisions : decisions not_known_file.platform (whole not_known) ≡ refuses (NotKnown 1 1) ∷ []
 unfolding the_laws not_known
-not_known_classes = refl
+not_known_decisions = refl
 
 pub not_known_bound : bound_after not_known_file not_known ≡ 0 ∷ []
 unfolding the_laws not_known
@@ -152,9 +152,9 @@ pub not_arrived_triples : session_triples not_arrived_file.platform (whole not_a
 unfolding the_laws not_arrived
 not_arrived_triples = refl
 
-pub not_arrived_classes : classes not_arrived_file.platform (whole not_arrived) ≡ refuses (NotArrived 1 1) ∷ []
+pub not_arrived_decisions : decisions not_arrived_file.platform (whole not_arrived) ≡ refuses (NotArrived 1 1) ∷ []
 unfolding the_laws not_arrived
-not_arrived_classes = refl
+not_arrived_decisions = refl
 
 pub not_arrived_bound : bound_after not_arrived_file not_arrived ≡ 0 ∷ 1 ∷ []
 unfolding the_laws not_arrived
@@ -164,9 +164,9 @@ pub not_parked_triples : session_triples not_parked_file.platform (whole not_par
 unfolding the_laws not_parked
 not_parked_triples = refl
 
-pub not_parked_classes : classes not_parked_file.platform (whole not_parked) ≡ Ejects ∷ []
+pub not_parked_decisions : decisions not_parked_file.platform (whole not_parked) ≡ ToEject ∷ []
 unfolding the_laws not_parked
-not_parked_classes = refl
+not_parked_decisions = refl
 
 pub not_parked_bound : bound_after not_parked_file not_parked ≡ 0 ∷ 1 ∷ []
 unfolding the_laws not_parked
@@ -176,9 +176,9 @@ pub late_alone_triples : session_triples late_alone_file.platform (whole late_al
 unfolding the_laws late_alone
 late_alone_triples = refl
 
-pub late_alone_classes : classes late_alone_file.platform (whole late_alone) ≡ []
+pub late_alone_decisions : decisions late_alone_file.platform (whole late_alone) ≡ []
 unfolding the_laws late_alone
-late_alone_classes = refl
+late_alone_decisions = refl
 
 pub late_alone_bound : bound_after late_alone_file late_alone ≡ 0 ∷ []
 unfolding the_laws late_alone
@@ -188,9 +188,9 @@ pub selector_taken_away_triples : session_triples selector_taken_away_file.platf
 unfolding the_laws selector_taken_away
 selector_taken_away_triples = refl
 
-pub selector_taken_away_classes : classes selector_taken_away_file.platform (whole selector_taken_away) ≡ refuses (Foreign 1 0) ∷ []
+pub selector_taken_away_decisions : decisions selector_taken_away_file.platform (whole selector_taken_away) ≡ refuses (Foreign 1 0) ∷ []
 unfolding the_laws selector_taken_away
-selector_taken_away_classes = refl
+selector_taken_away_decisions = refl
 
 pub selector_taken_away_bound : bound_after selector_taken_away_file selector_taken_away ≡ 0 ∷ 1 ∷ []
 unfolding the_laws selector_taken_away
@@ -200,9 +200,9 @@ pub eject_led_astray_triples : session_triples eject_led_astray_file.platform (w
 unfolding the_laws eject_led_astray
 eject_led_astray_triples = refl
 
-pub eject_led_astray_classes : classes eject_led_astray_file.platform (whole eject_led_astray) ≡ Ejects ∷ []
+pub eject_led_astray_decisions : decisions eject_led_astray_file.platform (whole eject_led_astray) ≡ ToEject ∷ []
 unfolding the_laws eject_led_astray
-eject_led_astray_classes = refl
+eject_led_astray_decisions = refl
 
 pub eject_led_astray_bound : bound_after eject_led_astray_file eject_led_astray ≡ 0 ∷ 1 ∷ 2 ∷ []
 unfolding the_laws eject_led_astray
@@ -212,9 +212,9 @@ pub wide_add_triples : session_triples wide_add_file.platform (whole wide_add) �
 unfolding the_laws wide_add
 wide_add_triples = refl
 
-pub wide_add_classes : classes wide_add_file.platform (whole wide_add) ≡ Adds ∷ []
+pub wide_add_decisions : decisions wide_add_file.platform (whole wide_add) ≡ ToAdd ∷ []
 unfolding the_laws wide_add
-wide_add_classes = refl
+wide_add_decisions = refl
 
 pub wide_add_bound : bound_after wide_add_file wide_add ≡ 0 ∷ 70000 ∷ []
 unfolding the_laws wide_add
@@ -334,7 +334,7 @@ eject_led_astray_flag = refl
 
 pub ruleset triples_read = (an_add_triples, two_adds_triples, two_new_processors_triples, gate_held_triples, insert_and_eject_triples, disabled_processor_triples, already_known_triples, not_at_gate_triples, ejected_and_added_again_triples, no_unplug_triples, not_known_triples, not_arrived_triples, not_parked_triples, late_alone_triples, selector_taken_away_triples, eject_led_astray_triples, wide_add_triples)
 
-pub ruleset classes_read = (an_add_classes, two_adds_classes, two_new_processors_classes, gate_held_classes, insert_and_eject_classes, disabled_processor_classes, already_known_classes, not_at_gate_classes, ejected_and_added_again_classes, no_unplug_classes, not_known_classes, not_arrived_classes, not_parked_classes, late_alone_classes, selector_taken_away_classes, eject_led_astray_classes, wide_add_classes)
+pub ruleset decisions_read = (an_add_decisions, two_adds_decisions, two_new_processors_decisions, gate_held_decisions, insert_and_eject_decisions, disabled_processor_decisions, already_known_decisions, not_at_gate_decisions, ejected_and_added_again_decisions, no_unplug_decisions, not_known_decisions, not_arrived_decisions, not_parked_decisions, late_alone_decisions, selector_taken_away_decisions, eject_led_astray_decisions, wide_add_decisions)
 
 pub ruleset bound_read = (an_add_bound, two_adds_bound, two_new_processors_bound, gate_held_bound, insert_and_eject_bound, disabled_processor_bound, already_known_bound, not_at_gate_bound, ejected_and_added_again_bound, no_unplug_bound, not_known_bound, not_arrived_bound, not_parked_bound, late_alone_bound, selector_taken_away_bound, eject_led_astray_bound, wide_add_bound)
 

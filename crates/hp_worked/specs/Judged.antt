@@ -7,7 +7,7 @@ use Rattle.hp_model.specs.View.{is_locked}
 use Rattle.hp_model.specs.State.{State, start}
 use Rattle.hp_model.specs.Step.{is_enabled, answer_of, effect_of}
 use Rattle.hp_model.specs.Runs.{same_answer}
-use Rattle.hp_model.specs.Sessions.{flag_tells}
+use Rattle.hp_model.specs.Sessions.{flag_agrees}
 use Rattle.hp_model.specs.Transitions.{Transition, transitions, transitions_by, at_each, at_each_state}
 use Rattle.hp_model.specs.Smbases.{have_own_smbases, have_smbases_apart, moves_named}
 use Rattle.hp_model.specs.Outcomes.{answers, shows, loses_none, each_told}
@@ -73,4 +73,4 @@ is_record f es = length (recorded f.platform es) == length es
 
 -- while all others are called in, the state's flag is what the entries say of the session
 abbrev pub flag_is_right : File → List Entry → Bool
-flag_is_right f es = at_each_state f.platform (flag_tells f.platform) (transitions f.platform es)
+flag_is_right f es = at_each_state f.platform (flag_agrees f.platform) (transitions f.platform es)

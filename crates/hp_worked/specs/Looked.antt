@@ -1,16 +1,16 @@
--- What is read from the entries of a trace: the triples of its sessions, the classes of the reports that were answered, and how long its sessions are.
+-- What is read from the entries of a trace: the triples of its sessions, the decisions on the reports that were answered, and how long its sessions are.
 use Rattle.std.specs.Prelude.{ℕ, Bool, true, false, List, [], ◌∷◌, ◌++◌, length, drop, take, Option, Some, None}
 use Rattle.hp_model.specs.declared.platforms.Platform.{Platform}
 use Rattle.hp_model.specs.declared.outcomes.Outcome.{Outcome}
 use Rattle.hp_model.specs.declared.entries.Entry.{Entry}
 use Rattle.hp_model.specs.declared.files.File.{File}
 use Rattle.hp_model.specs.Collection.{Report}
-use Rattle.hp_model.specs.Monarch.{Class}
+use Rattle.hp_model.specs.Monarch.{Decision}
 use Rattle.hp_model.specs.Events.{outcome_in, is_resume_of}
 use Rattle.hp_model.specs.Transitions.{since}
 use Rattle.hp_model.specs.Account.{bound, is_known}
 use Rattle.hp_model.specs.Sessions.{session, triples, open_triple, ends_outcome, held, is_disturbed}
-use Rattle.hp_model.specs.Outcomes.{class_by}
+use Rattle.hp_model.specs.Outcomes.{decision_by}
 
 -- a triple: place, status and APIC ID
 abbrev pub reported : ℕ → ℕ → ℕ → Report
@@ -40,14 +40,14 @@ session_lengths [] = []
 session_lengths (e ∷ older) =
     elim (is_resume_of 0 e.event) as (λ _. List ℕ) [ true ↦ session_lengths older ++ length (session older) ∷ [] | false ↦ session_lengths older ]
 
--- the classes of the reports that were answered
-abbrev pub class_of : Platform → List Entry → Option Outcome → List Class
-class_of p older None = []
-class_of p older (Some o) = class_by p (drop (length (since (ends_outcome p) older)) older) (open_triple p older) ∷ []
+-- the decisions on the reports that were answered
+abbrev pub decision_of : Platform → List Entry → Option Outcome → List Decision
+decision_of p older None = []
+decision_of p older (Some o) = decision_by p (drop (length (since (ends_outcome p) older)) older) (open_triple p older) ∷ []
 
-unfoldable pub classes : Platform → List Entry → List Class
-classes p [] = []
-classes p (e ∷ older) = classes p older ++ class_of p older (outcome_in e.event)
+unfoldable pub decisions : Platform → List Entry → List Decision
+decisions p [] = []
+decisions p (e ∷ older) = decisions p older ++ decision_of p older (outcome_in e.event)
 
 -- for a file's trace
 abbrev pub bound_after : File → List Entry → List ℕ

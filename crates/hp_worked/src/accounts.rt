@@ -2,8 +2,8 @@
 
 ghost use Rattle.std.specs.Prelude.{◌≡◌, true, false, [], ◌∷◌, Some, None};
 ghost use Rattle.hp_model.specs.declared.outcomes.Refusal.TheVariants.{Disabled, Both, AlreadyKnown, GateHeld, NoUnplug, NotKnown, NotArrived, Foreign};
-ghost use Rattle.hp_model.specs.Monarch.{Adds, Ejects, refuses};
-ghost use Rattle.hp_worked.specs.Looked.{reported, whole, session_triples, session_lengths, classes, bound_after, known_after, held_after, disturbed_after};
+ghost use Rattle.hp_model.specs.Monarch.{ToAdd, ToEject, refuses};
+ghost use Rattle.hp_worked.specs.Looked.{reported, whole, session_triples, session_lengths, decisions, bound_after, known_after, held_after, disturbed_after};
 ghost use Rattle.hp_worked.specs.Judged.{flag_is_right};
 ghost use Rattle.hp_worked.specs.Files.{an_add_file, two_adds_file, two_new_processors_file, gate_held_file, insert_and_eject_file, disabled_processor_file, already_known_file, not_at_gate_file, ejected_and_added_again_file, no_unplug_file, not_known_file, not_arrived_file, not_parked_file, late_alone_file, selector_taken_away_file, eject_led_astray_file, wide_add_file};
 ghost use Rattle.hp_worked.specs.Adds.{an_add};
@@ -38,26 +38,26 @@ pub fn sessions_report()
     ensures wide_add { session_triples wide_add_file.platform (whole wide_add) ≡ ((reported 1 0x3 70000) ∷ []) ∷ [] }
 {}
 
-/// The class of each report that was answered, read from the platform and the entries alone.
-#[tactic(auto, using(crate::proofs::AccountsRead::classes_read))]
-pub fn reports_have_their_class()
-    ensures an_add { classes an_add_file.platform (whole an_add) ≡ Adds ∷ [] }
-    ensures two_adds { classes two_adds_file.platform (whole two_adds) ≡ Adds ∷ Adds ∷ [] }
-    ensures two_new_processors { classes two_new_processors_file.platform (whole two_new_processors) ≡ Adds ∷ [] }
-    ensures gate_held { classes gate_held_file.platform (whole gate_held) ≡ Adds ∷ refuses (GateHeld 2 2 1) ∷ Adds ∷ Adds ∷ [] }
-    ensures insert_and_eject { classes insert_and_eject_file.platform (whole insert_and_eject) ≡ refuses (Both 1 0x13) ∷ [] }
-    ensures disabled_processor { classes disabled_processor_file.platform (whole disabled_processor) ≡ refuses (Disabled 1 0x2) ∷ [] }
-    ensures already_known { classes already_known_file.platform (whole already_known) ≡ Adds ∷ refuses (AlreadyKnown 1 1 1) ∷ [] }
-    ensures not_at_gate { classes not_at_gate_file.platform (whole not_at_gate) ≡ Adds ∷ [] }
-    ensures ejected_and_added_again { classes ejected_and_added_again_file.platform (whole ejected_and_added_again) ≡ Adds ∷ Ejects ∷ Adds ∷ [] }
-    ensures no_unplug { classes no_unplug_file.platform (whole no_unplug) ≡ Adds ∷ refuses (NoUnplug 1 3) ∷ [] }
-    ensures not_known { classes not_known_file.platform (whole not_known) ≡ refuses (NotKnown 1 1) ∷ [] }
-    ensures not_arrived { classes not_arrived_file.platform (whole not_arrived) ≡ refuses (NotArrived 1 1) ∷ [] }
-    ensures not_parked { classes not_parked_file.platform (whole not_parked) ≡ Ejects ∷ [] }
-    ensures late_alone { classes late_alone_file.platform (whole late_alone) ≡ [] }
-    ensures selector_taken_away { classes selector_taken_away_file.platform (whole selector_taken_away) ≡ refuses (Foreign 1 0) ∷ [] }
-    ensures eject_led_astray { classes eject_led_astray_file.platform (whole eject_led_astray) ≡ Ejects ∷ [] }
-    ensures wide_add { classes wide_add_file.platform (whole wide_add) ≡ Adds ∷ [] }
+/// The decision on each report that was answered, read from the platform and the entries alone.
+#[tactic(auto, using(crate::proofs::AccountsRead::decisions_read))]
+pub fn reports_have_their_decision()
+    ensures an_add { decisions an_add_file.platform (whole an_add) ≡ ToAdd ∷ [] }
+    ensures two_adds { decisions two_adds_file.platform (whole two_adds) ≡ ToAdd ∷ ToAdd ∷ [] }
+    ensures two_new_processors { decisions two_new_processors_file.platform (whole two_new_processors) ≡ ToAdd ∷ [] }
+    ensures gate_held { decisions gate_held_file.platform (whole gate_held) ≡ ToAdd ∷ refuses (GateHeld 2 2 1) ∷ ToAdd ∷ ToAdd ∷ [] }
+    ensures insert_and_eject { decisions insert_and_eject_file.platform (whole insert_and_eject) ≡ refuses (Both 1 0x13) ∷ [] }
+    ensures disabled_processor { decisions disabled_processor_file.platform (whole disabled_processor) ≡ refuses (Disabled 1 0x2) ∷ [] }
+    ensures already_known { decisions already_known_file.platform (whole already_known) ≡ ToAdd ∷ refuses (AlreadyKnown 1 1 1) ∷ [] }
+    ensures not_at_gate { decisions not_at_gate_file.platform (whole not_at_gate) ≡ ToAdd ∷ [] }
+    ensures ejected_and_added_again { decisions ejected_and_added_again_file.platform (whole ejected_and_added_again) ≡ ToAdd ∷ ToEject ∷ ToAdd ∷ [] }
+    ensures no_unplug { decisions no_unplug_file.platform (whole no_unplug) ≡ ToAdd ∷ refuses (NoUnplug 1 3) ∷ [] }
+    ensures not_known { decisions not_known_file.platform (whole not_known) ≡ refuses (NotKnown 1 1) ∷ [] }
+    ensures not_arrived { decisions not_arrived_file.platform (whole not_arrived) ≡ refuses (NotArrived 1 1) ∷ [] }
+    ensures not_parked { decisions not_parked_file.platform (whole not_parked) ≡ ToEject ∷ [] }
+    ensures late_alone { decisions late_alone_file.platform (whole late_alone) ≡ [] }
+    ensures selector_taken_away { decisions selector_taken_away_file.platform (whole selector_taken_away) ≡ refuses (Foreign 1 0) ∷ [] }
+    ensures eject_led_astray { decisions eject_led_astray_file.platform (whole eject_led_astray) ≡ ToEject ∷ [] }
+    ensures wide_add { decisions wide_add_file.platform (whole wide_add) ≡ ToAdd ∷ [] }
 {}
 
 /// The APIC IDs that are bound in the end, each at its slot's place.

@@ -12,7 +12,7 @@ mod steps;
 mod voices;
 
 pub use accounts::{
-    an_apic_id_is_held, apic_ids_are_bound, apic_ids_are_known, reports_have_their_class,
+    an_apic_id_is_held, apic_ids_are_bound, apic_ids_are_known, reports_have_their_decision,
     sessions_are_disturbed, sessions_report,
 };
 pub use adds::{

@@ -10,5 +10,5 @@ use Rattle.hp_eject.proofs.ejects.Eject.feed.Goals as goal
 pub overflow_cast-value : goal.overflow_cast-value
 overflow_cast-value c =
     let e = c.args.self.now in
-    let at : e.led ≡ EjectsAt E4g e.eject = c.row.ensures ∙ ap (λ (w : Row). EjectsAt (label_of w) e.eject) c.in-E4g.is in
-    omega (arith, c.value-value.ensures, status_read e.tseg e.led e.eject c.args.answer at c.requires)
+    let at : e.next ≡ EjectsAt E4g e.eject = c.row.ensures ∙ ap (λ (w : Row). EjectsAt (label_of w) e.eject) c.in-E4g.is in
+    omega (arith, c.value-value.ensures, status_read e.tseg e.next e.eject c.args.answer at c.requires)

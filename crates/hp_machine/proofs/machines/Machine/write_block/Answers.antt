@@ -1,6 +1,6 @@
 -- What a write of the register block leaves.
 use Rattle.std.proofs.Common.{sym, subst, ◌-◌}
-use Rattle.hp_machine.specs.Machine.{Machine, IsState}
+use Rattle.hp_machine.specs.Machine.{Machine, StandsFor}
 use Rattle.hp_machine.proofs.Sizes.{sized_block}
 use Rattle.hp_machine.proofs.PortWrites.{block_state}
 use Rattle.hp_machine.proofs.machines.Machine.write_block.Goals as goal
@@ -12,5 +12,5 @@ invariant_of-self c =
 
 pub returns-clause-state : goal.returns-clause-state
 returns-clause-state c = λ p s is.
-    block_state p _ s (subst (λ (m : Machine). IsState p m s) (sym c.self.view_is) is) _ (c.args.port - 0xcd8) c.args.width c.args.value
+    block_state p _ s (subst (λ (m : Machine). StandsFor p m s) (sym c.self.view_is) is) _ (c.args.port - 0xcd8) c.args.width c.args.value
     c.write_block-ejected.new.block c.write_block-ejected.new.cpus c.write_block-ejected.ensures.block c.write_block-ejected.ensures.cpus

@@ -12,7 +12,7 @@ pub returns : goal.returns
 returns c =
     let v = c.self.inside in
     let look = c.in-Some.ensures.lookup in
-    let due : slice_get (collection_in v.collect.collected).reports v.taken ≡ Some (report_of c.in-Some.report.now) =
+    let due : slice_get (collection_in v.collect.next).reports v.taken ≡ Some (report_of c.in-Some.report.now) =
     ap (λ (ts : List Report). slice_get ts v.taken) (sym c.report.ensures.value) ∙ shown report_of c.report.result.now v.taken c.in-Some.report.now c.in-Some.report.now look.0 look.1 in
     c.answer.ensures
     ∙ (taking (the_view v) (report_of c.in-Some.report.now) due

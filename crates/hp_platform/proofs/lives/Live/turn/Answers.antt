@@ -9,7 +9,7 @@ use Rattle.hp_model.specs.declared.entries.Event.{Event}
 use Rattle.hp_model.specs.declared.entries.Event.TheVariants as event
 use Rattle.hp_model.specs.declared.turns.Due.TheVariants as due
 use Rattle.hp_model.specs.Access.{normal}
-use Rattle.hp_model.specs.Following.{told_at, without_agent}
+use Rattle.hp_model.specs.Following.{voice_told, without_agent}
 use Rattle.hp_agent.specs.Kinds.{hears_at}
 use Rattle.hp_agent.specs.Speaking.{Speaks, asked}
 use Rattle.hp_platform.specs.Agents.{without_heard}
@@ -37,14 +37,14 @@ make-entry-requires-in-Asks-clause-ready g c =
     let b = c.reserve.new.self in
     let kept = kept_same c.self.inside.board b c.self.inside.steps.items c.self.invariant c.in_ok-reserve.ensures.platform c.in_ok-reserve.ensures.unchanged in
     let s = state_in b c.self.inside.steps.items in
-    subst (λ (x : Access). IsReady b (event.Do c.in-Asks.k x)) (sym c.normal.ensures)
-    (ready_of b s (event.Do c.in-Asks.k (normal c.next-access.result)) kept ((asks_is b.platform s c.args.a c.in-Asks.k (sym (c.in-Asks.ensures.due s kept.shows))).step c.next-access.result))
+    subst (λ (x : Access). IsReady b (event.Do c.in-Asks.cpu x)) (sym c.normal.ensures)
+    (ready_of b s (event.Do c.in-Asks.cpu (normal c.next-access.result)) kept ((asks_is b.platform s c.args.a c.in-Asks.cpu (sym (c.in-Asks.ensures.due s kept.shows))).step c.next-access.result))
 
 pub make-entry-requires-in-Asks-clause-found : goal.make-entry-requires-in-Asks-clause-found
 make-entry-requires-in-Asks-clause-found g c =
     let b = c.reserve.new.self in
     let kept = kept_same c.self.inside.board b c.self.inside.steps.items c.self.invariant c.in_ok-reserve.ensures.platform c.in_ok-reserve.ensures.unchanged in
-    asks_found b (state_in b c.self.inside.steps.items) c.args.a c.in-Asks.k c.normal.result kept (λ s shows. asks_is b.platform s c.args.a c.in-Asks.k (sym (c.in-Asks.ensures.due s shows)))
+    asks_found b (state_in b c.self.inside.steps.items) c.args.a c.in-Asks.cpu c.normal.result kept (λ s shows. asks_is b.platform s c.args.a c.in-Asks.cpu (sym (c.in-Asks.ensures.due s shows)))
 
 pub invariant_of-self-in-Makes : goal.invariant_of-self-in-Makes
 invariant_of-self-in-Makes g c =
@@ -60,9 +60,9 @@ invariant_of-self-in-Asks g c =
     let b = c.reserve.new.self in
     let kept = kept_same c.self.inside.board b c.self.inside.steps.items c.self.invariant c.in_ok-reserve.ensures.platform c.in_ok-reserve.ensures.unchanged in
     let s = state_in b c.self.inside.steps.items in
-    let event_is : c.make-entry-in-Asks.result.event ≡ event.Do c.in-Asks.k (normal c.next-access.result) = c.make-entry-in-Asks.ensures.event ∙ ap (λ (x : Access). event.Do c.in-Asks.k x) c.normal.ensures in
+    let event_is : c.make-entry-in-Asks.result.event ≡ event.Do c.in-Asks.cpu (normal c.next-access.result) = c.make-entry-in-Asks.ensures.event ∙ ap (λ (x : Access). event.Do c.in-Asks.cpu x) c.normal.ensures in
     kept_made b c.make-entry-in-Asks.new.board c.self.inside.steps.items c.make-entry-in-Asks.new.steps.items c.make-entry-in-Asks.result kept c.make-entry-in-Asks.ensures.made
-    (subst (λ (x : Event). is_step b.platform s x ≡ true) (sym event_is) ((asks_is b.platform s c.args.a c.in-Asks.k (sym (c.in-Asks.ensures.due s kept.shows))).step c.next-access.result))
+    (subst (λ (x : Event). is_step b.platform s x ≡ true) (sym event_is) ((asks_is b.platform s c.args.a c.in-Asks.cpu (sym (c.in-Asks.ensures.due s kept.shows))).step c.next-access.result))
 
 pub returns-in-Idle-clause-turned : goal.returns-in-Idle-clause-turned
 returns-in-Idle-clause-turned g c =
@@ -98,11 +98,11 @@ returns-in-Asks-clause-turned g c =
     (ap (λ (p : Platform). seen p c.self.inside.steps.items c.self.inside.agents.voices c.self.inside.agents.heard c.self.inside.last.items) c.in_ok-reserve.ensures.platform ∙ c.self.view_is)
     (asks_turn b c.make-entry-in-Asks.new.board c.self.inside.steps.items c.make-entry-in-Asks.new.steps.items c.make-entry-in-Asks.result kept c.make-entry-in-Asks.ensures.made
     c.self.inside.agents.voices c.drop_ejected-in-Asks.new.agents.voices c.self.inside.agents.heard c.drop_ejected-in-Asks.new.agents.heard c.self.inside.last.items c.note_answer.new.last.items
-    c.args.a c.in-Asks.k c.page-page.result c.next-access.result (told_at c.next-access.new.self.voices c.in-Asks.k) (sym (c.in-Asks.ensures.due s kept.shows)) (c.page-page.ensures s kept.shows)
-    (subst (λ (v : Answer). Speaks (told_at c.self.inside.agents.voices c.in-Asks.k) (told_at c.next-access.new.self.voices c.in-Asks.k) (asked c.in-Asks.k c.page-page.result v) c.next-access.result) (c.answer_at.ensures ∙ ap (λ (vs : List Answer). slice_index_or vs c.in-Asks.k Quiet) c.as_slice.ensures.value) c.next-access.ensures.says)
-    (c.make-entry-in-Asks.ensures.event ∙ ap (λ (x : Access). event.Do c.in-Asks.k x) c.normal.ensures)
+    c.args.a c.in-Asks.cpu c.page-page.result c.next-access.result (voice_told c.next-access.new.self.voices c.in-Asks.cpu) (sym (c.in-Asks.ensures.due s kept.shows)) (c.page-page.ensures s kept.shows)
+    (subst (λ (v : Answer). Speaks (voice_told c.self.inside.agents.voices c.in-Asks.cpu) (voice_told c.next-access.new.self.voices c.in-Asks.cpu) (asked c.in-Asks.cpu c.page-page.result v) c.next-access.result) (c.answer_at.ensures ∙ ap (λ (vs : List Answer). slice_index_or vs c.in-Asks.cpu Quiet) c.as_slice.ensures.value) c.next-access.ensures.says)
+    (c.make-entry-in-Asks.ensures.event ∙ ap (λ (x : Access). event.Do c.in-Asks.cpu x) c.normal.ensures)
     (c.drop_ejected-in-Asks.ensures.voices ∙ ap (λ (o : Option ℕ). without_agent o c.next-access.new.self.voices) c.ejected-in-Asks.ensures ∙ ap (without_agent c.make-entry-in-Asks.new.board.machine.ejected) c.next-access.ensures.others)
     (c.drop_ejected-in-Asks.ensures.heard ∙ ap (λ (o : Option ℕ). without_heard o c.next-access.new.self.heard) c.ejected-in-Asks.ensures
     ∙ ap (without_heard c.make-entry-in-Asks.new.board.machine.ejected) (c.next-access.ensures.hears
-    ∙ ap (λ (v : Answer). hears_at c.self.inside.agents.heard c.in-Asks.k (asked c.in-Asks.k c.page-page.result v) c.next-access.result) (c.answer_at.ensures ∙ ap (λ (vs : List Answer). slice_index_or vs c.in-Asks.k Quiet) c.as_slice.ensures.value)))
+    ∙ ap (λ (v : Answer). hears_at c.self.inside.agents.heard c.in-Asks.cpu (asked c.in-Asks.cpu c.page-page.result v) c.next-access.result) (c.answer_at.ensures ∙ ap (λ (vs : List Answer). slice_index_or vs c.in-Asks.cpu Quiet) c.as_slice.ensures.value)))
     c.note_answer.ensures)

@@ -13,16 +13,16 @@ use Rattle.hp_smm.proofs.handlers.Handlers.next_at.Goals as goal
 pub feed-requires : goal.feed-requires
 feed-requires c =
     let h = c.args.self.now in
-    let s = c.args.s.now in
-    let part : part_of c.args.label ≡ Monarchs = sym c.place_of.ensures.handler ∙ ap part_named c.in-Monarch.is in
+    let s = c.args.me.now in
+    let part : part_of c.args.label ≡ Monarchs = sym c.position_of.ensures.handler ∙ ap part_named c.in-Monarch.is in
     let at : c.args.label ≡ h.monarch.label = monarch_label h.layout h.monarch s.cpu s.smbase s.mark c.args.label c.requires.row part in
     subst (λ (k : Session). Fits k c.args.answer) (sym c.self.view_is) (fits_all h (seat_for h s) c.args.label c.args.answer at part c.requires.fits)
 
 pub returns-in-Monarch-clause-next : goal.returns-in-Monarch-clause-next
 returns-in-Monarch-clause-next c =
     let h = c.args.self.now in
-    let s = c.args.s.now in
-    let part : part_of c.args.label ≡ Monarchs = sym c.place_of.ensures.handler ∙ ap part_named c.in-Monarch.is in
+    let s = c.args.me.now in
+    let part : part_of c.args.label ≡ Monarchs = sym c.position_of.ensures.handler ∙ ap part_named c.in-Monarch.is in
     let at : c.args.label ≡ h.monarch.label = monarch_label h.layout h.monarch s.cpu s.smbase s.mark c.args.label c.requires.row part in
     let fed : c.feed.new.self ≡ record h { monarch = (next_at h.layout (seat_for h s) h.monarch h.monarch.label (value_in c.args.answer)).monarch } =
     subst (λ (k : Session). c.feed.new.self ≡ record k { monarch = (next_at k.layout (seat_for h s) k.monarch k.monarch.label (value_in c.args.answer)).monarch }) c.self.view_is (c.feed.ensures.monarch (seat_for h s)) in
@@ -30,4 +30,4 @@ returns-in-Monarch-clause-next c =
 
 pub returns-in-Monarch-clause-layout : goal.returns-in-Monarch-clause-layout
 returns-in-Monarch-clause-layout c =
-    ap (λ (k : Session). k.layout) (c.feed.ensures.monarch (seat_for c.args.self.now c.args.s.now)) ∙ ap (λ (k : Session). k.layout) c.self.view_is
+    ap (λ (k : Session). k.layout) (c.feed.ensures.monarch (seat_for c.args.self.now c.args.me.now)) ∙ ap (λ (k : Session). k.layout) c.self.view_is

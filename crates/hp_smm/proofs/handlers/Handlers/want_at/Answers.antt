@@ -12,8 +12,8 @@ use Rattle.hp_smm.proofs.handlers.Handlers.want_at.Goals as goal
 pub returns-in-Monarch : goal.returns-in-Monarch
 returns-in-Monarch c =
     let h = c.args.self.now in
-    let s = c.args.s.now in
-    let part : part_of c.args.label ≡ Monarchs = sym c.place_of.ensures.handler ∙ ap part_named c.in-Monarch.is in
+    let s = c.args.me.now in
+    let part : part_of c.args.label ≡ Monarchs = sym c.position_of.ensures.handler ∙ ap part_named c.in-Monarch.is in
     let at : c.args.label ≡ h.monarch.label = monarch_label h.layout h.monarch s.cpu s.smbase s.mark c.args.label c.requires.row part in
     ap (λ (l : Label). want_at h.layout (seat_for h s) h.monarch l) at
     ∙ subst (λ (k : Session). want_at k.layout (seat_for h s) k.monarch k.monarch.label ≡ Some c.want.result) c.self.view_is (c.want.ensures (seat_for h s))

@@ -1,10 +1,10 @@
 //! What becomes of a report.
 
 ghost use Rattle.std.specs.Prelude.{◌≡◌, ◌<◌, true, slice_index_or};
-ghost use Rattle.hp_model.specs.Monarch.{class as class_at, eject_class, insert_class, is_own, refuses};
-ghost use Rattle.hp_model.specs.Slots.{is_known, place_of};
+ghost use Rattle.hp_model.specs.Monarch.{decision as decision_at, eject_decision, insert_decision, is_own, refuses};
+ghost use Rattle.hp_model.specs.Slots.{is_known, slot_among};
 ghost use Rattle.hp_collect.specs.Collecting.{report_of};
-ghost use Rattle.hp_monarch.specs.Session.{class_of, facts_in, facts_by};
+ghost use Rattle.hp_monarch.specs.Session.{decision_of, facts_in, facts_by};
 
 use hp_collect::Reported;
 use hp_model::{Outcome, Refusal};
@@ -23,13 +23,13 @@ pub const UNREAD: u8 = 2;
 
 /// What becomes of a report.
 #[derive(Clone, Copy)]
-pub enum Class {
+pub enum Decision {
     /// This outcome is told.
-    Tells(Outcome),
+    Tell(Outcome),
     /// An add begins.
-    Adds,
+    Add,
     /// An eject begins.
-    Ejects,
+    Eject,
 }
 
 /// What is known of a report when it is taken up.
@@ -39,7 +39,7 @@ pub struct Facts {
     own: bool,
     /// Its APIC ID is a boot processor's or was added, and not ejected since.
     known: bool,
-    /// The place of its APIC ID among those bound, and their number where it isn't bound.
+    /// The slot of its APIC ID among those bound, and their number where it isn't bound.
     slot: u32,
     /// The APIC ID whose add isn't complete.
     held: Option<u32>,
@@ -56,10 +56,10 @@ fn look_at(last: &[u8], slot: u32) -> u8
     last.get(slot as usize).copied().unwrap_or(UNREAD)
 }
 
-/// The place of an APIC ID among those bound, and their number where it isn't bound.
+/// The slot of an APIC ID among those bound, and their number where it isn't bound.
 #[tactic(auto, using(crate::proofs::Adds::place_facts))]
-pub fn place(slots: &Slots, apic: u32) -> u32
-    ensures value { result ≡ place_of slots.now.slots.bound apic }
+pub fn bound_slot(slots: &Slots, apic: u32) -> u32
+    ensures value { result ≡ slot_among slots.now.slots.bound apic }
     ensures known { is_known slots.now.slots apic ≡ true → result < 512 }
 {
     slots.bound(apic).unwrap_or(slots.count())
@@ -69,7 +69,7 @@ pub fn place(slots: &Slots, apic: u32) -> u32
 pub fn gather(slots: &Slots, last: &[u8], features: u64, report: Reported) -> Facts
     ensures { facts_in result ≡ facts_by slots.now last.now features (report_of report) }
 {
-    let slot = place(slots, report.apic);
+    let slot = bound_slot(slots, report.apic);
     Facts {
         own: has_own_id(slots, report),
         known: slots.known(report.apic),
@@ -88,15 +88,15 @@ fn has_own_id(slots: &Slots, report: Reported) -> bool
 }
 
 /// A refusal is told.
-fn refuse(why: Refusal) -> Class
-    ensures { class_of result ≡ refuses why }
+fn refuse(why: Refusal) -> Decision
+    ensures { decision_of result ≡ refuses why }
 {
-    Class::Tells(Outcome::Refused(why))
+    Decision::Tell(Outcome::Refused(why))
 }
 
 /// A report of a processor with an insert event. While another APIC ID is held, none is added.
-fn insert(facts: Facts, report: Reported) -> Class
-    ensures { class_of result ≡ insert_class (facts_in facts) (report_of report) }
+fn insert(facts: Facts, report: Reported) -> Decision
+    ensures { decision_of result ≡ insert_decision (facts_in facts) (report_of report) }
 {
     let Reported { cpu, apic, .. } = report;
     if facts.known {
@@ -105,13 +105,13 @@ fn insert(facts: Facts, report: Reported) -> Class
     }
     match facts.held {
         Some(held) if held != apic => refuse(Refusal::GateHeld { cpu, apic, held }),
-        _ => Class::Adds,
+        _ => Decision::Add,
     }
 }
 
 /// A report of a processor with a firmware eject.
-fn eject(facts: Facts, report: Reported) -> Class
-    ensures { class_of result ≡ eject_class (facts_in facts) (report_of report) }
+fn eject(facts: Facts, report: Reported) -> Decision
+    ensures { decision_of result ≡ eject_decision (facts_in facts) (report_of report) }
 {
     let Reported { cpu, apic, .. } = report;
     let features = facts.features;
@@ -124,13 +124,13 @@ fn eject(facts: Facts, report: Reported) -> Class
     if facts.look == 0 {
         return refuse(Refusal::NotArrived { cpu, apic });
     }
-    Class::Ejects
+    Decision::Eject
 }
 
 /// What becomes of this report: each has an answer. One whose APIC ID isn't its processor's, one of a processor that isn't enabled, and
 /// one with an insert event and a firmware eject at once are refused, in this order.
-pub fn judge(facts: Facts, report: Reported) -> Class
-    ensures { class_of result ≡ class_at (facts_in facts) (report_of report) }
+pub fn judge(facts: Facts, report: Reported) -> Decision
+    ensures { decision_of result ≡ decision_at (facts_in facts) (report_of report) }
 {
     let Reported { cpu, status, apic } = report;
     if !facts.own {
