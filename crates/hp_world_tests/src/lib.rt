@@ -4,6 +4,8 @@
 #[cfg(test)]
 mod agents;
 #[cfg(test)]
+mod checks;
+#[cfg(test)]
 mod echoes;
 #[cfg(test)]
 mod handed;
