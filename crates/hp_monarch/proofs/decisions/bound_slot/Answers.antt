@@ -3,7 +3,7 @@ use Rattle.std.proofs.Common.{◌≡◌, ◌∙◌, arith}
 use Rattle.hp_model.specs.Slots.{slot_among}
 use Rattle.hp_monarch.proofs.Adds.{slot_or}
 use Rattle.hp_monarch.proofs.Deciding.{true_below}
-use Rattle.hp_monarch.proofs.decisions.place.Goals as goal
+use Rattle.hp_monarch.proofs.decisions.bound_slot.Goals as goal
 
 pub returns-clause-known : goal.returns-clause-known
 returns-clause-known c = λ known.
