@@ -6,3 +6,4 @@ pub mod Making
 pub mod Stepping
 pub mod Turning
 pub mod Telling
+pub mod Carrying
