@@ -2,21 +2,18 @@
 
 ghost use Rattle.std.specs.Prelude.{◌≡◌, Some};
 ghost use Rattle.hp_agent.specs.Speaking.{fresh};
-ghost use Rattle.hp_model.specs.Seeded.{drawn_access, draw as draw_of, generator_of};
+ghost use Rattle.hp_model.specs.Seeded.{drawn_access, generator_of};
 ghost use Rattle.hp_model.specs.Voices.{seeded};
 
 use crate::asking::Agent;
-use hp_model::{Access, Answer};
+use hp_model::{Access, Answer, Generator};
 use http_server::Log;
-use rand_core::SeedableRng;
-use rand_core::utils::NextWord;
-use rand_pcg::Lcg64Xsh32;
 use std::marker::Model;
 
 /// One drawn access each time that it is asked, whatever it is asked.
 #[derive(Drop)]
 pub struct Seeded {
-    generator: Lcg64Xsh32,
+    generator: Generator,
     log: Log<(u32, u32, Answer), Access>,
 }
 
@@ -27,15 +24,6 @@ impl Model for Seeded {
     ghost Value = { Speaker };
 
     ghost view = { λ s. record { voice = seeded s.generator; heard = s.log.items } };
-}
-
-/// The next word.
-#[tactic(auto, unfolding(hp_model::specs::Seeded::draw))]
-fn draw(generator: &mut Lcg64Xsh32) -> u32
-    ensures word { result ≡ (draw_of generator.old).0 }
-    ensures rest { generator.new ≡ (draw_of generator.old).1 }
-{
-    generator.next_word()
 }
 
 /// A word as an access.
@@ -80,12 +68,11 @@ fn access_of(word: u32) -> Access
 
 impl Seeded {
     /// Of the generator that this seed gives.
-    #[tactic(auto, unfolding(hp_model::specs::Seeded::generator_of))]
     pub fn new(seed: u64) -> Seeded
         ensures { result ≡ fresh (seeded (generator_of seed)) }
     {
         Seeded {
-            generator: Lcg64Xsh32::seed_from_u64(seed),
+            generator: Generator::new(seed),
             log: Log::new(),
         }
     }
@@ -98,7 +85,7 @@ impl Agent for Seeded {
 
     #[tactic(auto, unfolding(hp_model::specs::Voices::says))]
     fn next(&mut self, cpu: u32, page: u32, last: Answer) -> Access {
-        let access = access_of(draw(&mut self.generator));
+        let access = access_of(self.generator.draw());
         self.log = self.log.and(&(cpu, page, last), &access);
         access
     }

@@ -8,3 +8,4 @@ pub mod StepText
 pub mod StepRead
 pub mod HostRows
 pub mod Good
+mod Rounds

@@ -8,3 +8,4 @@ pub mod Kinds
 pub mod Reading
 pub mod Spelling
 pub mod Sound
+pub mod Generated

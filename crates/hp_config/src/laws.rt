@@ -4,6 +4,7 @@ ghost use Rattle.std.specs.Prelude.{◌≡◌, ◌↔◌, ℕ, List, Some, Ok};
 ghost use Rattle.hp_model.specs.declared.accesses.Access.{Access};
 ghost use Rattle.hp_model.specs.declared.files.File.{File};
 ghost use Rattle.toml.specs.Data.{Members};
+ghost use Rattle.hp_config.specs.Generated.{generated_file};
 ghost use Rattle.hp_config.specs.Reading.{file_of, good, IsReadAs};
 ghost use Rattle.hp_config.specs.Script.{script_step};
 ghost use Rattle.hp_config.specs.Sound.{IsSound};
@@ -24,4 +25,9 @@ pub fn good_files_are_sound()
 /// The same of each text that `read` reads as a file.
 pub fn read_files_are_sound()
     ensures { (text : List ℕ) (f : File) → IsReadAs text (Ok f) → IsSound f }
+{}
+
+/// The same of the file that a number makes.
+pub fn generated_files_are_sound()
+    ensures { (n : ℕ) → IsSound (generated_file n) }
 {}

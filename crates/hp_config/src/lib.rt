@@ -2,6 +2,7 @@
 #![tactic(auto)]
 
 mod faults;
+mod generating;
 mod keys;
 mod kinds;
 mod laws;
@@ -14,6 +15,10 @@ mod steps;
 mod tree;
 
 pub use faults::ConfigFault;
-pub use laws::{good_files_are_sound, read_files_are_sound, steps_are_read_as_spelled};
+pub use generating::generated;
+pub use laws::{
+    generated_files_are_sound, good_files_are_sound, read_files_are_sound,
+    steps_are_read_as_spelled,
+};
 pub use reading::read;
 pub use steps::step_of;

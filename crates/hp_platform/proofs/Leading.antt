@@ -1,5 +1,5 @@
 -- What a step leaves of the firmware's record, and what a step that is due says of who wanted it.
-use Rattle.std.proofs.Common.{◌≡◌, ◌≢◌, ℕ, Bool, true, false, ◌&&◌, ◌||◌, not, ◌==◌, List, length, Option, Some, None, refl, sym, ap, subst, ◌∙◌}
+use Rattle.std.proofs.Common.{◌≡◌, ℕ, Bool, true, false, ◌&&◌, ◌||◌, not, ◌==◌, List, length, Option, Some, None, refl, sym, ap, subst, ◌∙◌}
 use Rattle.std.specs.Prelude.{if◌then◌else◌}
 use Rattle.std.proofs.lemmas.Bool.{and_parts}
 use Rattle.hp_model.specs.declared.platforms.Platform.{Platform}
@@ -25,7 +25,7 @@ use Rattle.hp_model.specs.Firmware.{is_handlers, is_wanted, wanted_in, is_that_a
 use Rattle.hp_model.specs.Step.{can_do, is_enabled, effect_of, answer_of}
 use Rattle.hp_model.proofs.Same.{same_access-equal}
 use Rattle.hp_machine.specs.Machine.{FitsEvent}
-use Rattle.hp_platform.specs.Board.{Board, IsPlain, IsReady, IsRowEvent, Shows}
+use Rattle.hp_platform.specs.Board.{Board, IsPlain, IsReady, IsRowEvent}
 
 -- the monarch's record is the firmware's alone
 either : (b : Bool) (m : Monarch) (x y : State) → x.monarch ≡ m → y.monarch ≡ m → (if b then x else y).monarch ≡ m

@@ -2,8 +2,9 @@ pub mod Ids
 pub mod Setting
 pub mod Standing
 pub mod Leading
-pub mod Making
+pub mod Shown
 pub mod Stepping
 pub mod Turning
+pub mod Living
 pub mod Telling
 pub mod Carrying

@@ -28,7 +28,7 @@ use Rattle.hp_model.specs.declared.turns.Due.{Due}
 use Rattle.hp_model.specs.declared.turns.Due.TheVariants.{Idle, Makes, Asks}
 use Rattle.hp_platform.specs.Board.{is_step}
 use Rattle.hp_model.specs.Turn.{makes_if, boot_due, smm_due, cpu_due, handed_due, due_in, due_of}
-use Rattle.hp_platform.specs.World.{HasNone}
+use Rattle.hp_platform.specs.Agents.{HasNone}
 use Rattle.hp_platform.proofs.Leading.{left, right, that_access, that_outcome, that_rsm}
 
 -- which event, which processor
@@ -277,7 +277,7 @@ makes_is p s a e due = by s.stage refl due
     by (Handed requested) is due = handed_makes p s requested is a e due
 
 -- where nothing is due the actor has no step
-unmade : (p : Platform) (s : State) (x : Event) → is_step p s x ≡ false → step p s x ≡ None
+pub unmade : (p : Platform) (s : State) (x : Event) → is_step p s x ≡ false → step p s x ≡ None
 unfolding step
 unmade p s x e = ap (λ (b : Bool). if b then Some (after p s x) else None) e
 

@@ -1,5 +1,5 @@
 -- What contracts see of a machine with its firmware, and which states of the model it shows.
-use Rattle.std.specs.Prelude.{◌≡◌, ◌≤◌, ⊤, ⊥, ℕ, Bool, true, false, ◌&&◌, ◌==◌, List, Some, if◌then◌else◌}
+use Rattle.std.specs.Prelude.{◌≡◌, ◌≤◌, ⊤, ℕ, Bool, true, false, ◌&&◌, ◌==◌, List, Some, if◌then◌else◌}
 use Rattle.hp_model.specs.declared.platforms.Platform.{Platform}
 use Rattle.hp_model.specs.declared.entries.Event.{Event}
 use Rattle.hp_model.specs.declared.entries.Event.TheVariants.{Insert, Remove, Do, TakeSmi, TakeInit, Resume, Tell}
@@ -21,10 +21,10 @@ use Rattle.hp_machine.specs.Machine.{Machine, IsState}
 use Rattle.hp_monarch.specs.Session.{Session}
 use Rattle.hp_smm.specs.Rows.{row_for}
 use Rattle.hp_smm.specs.declared.handlers.Stand.{Stand}
-use Rattle.hp_platform.specs.declared.boards.Found.{Found}
-use Rattle.hp_platform.specs.declared.boards.Found.TheVariants.{Boot, Row, Plain}
-use Rattle.hp_platform.specs.declared.boards.Finding.{Finding}
-use Rattle.hp_platform.specs.declared.boards.Finding.TheVariants as finding
+use Rattle.hp_platform.specs.declared.findings.Found.{Found}
+use Rattle.hp_platform.specs.declared.findings.Found.TheVariants.{Boot, Row, Plain}
+use Rattle.hp_platform.specs.declared.findings.Finding.{Finding}
+use Rattle.hp_platform.specs.declared.findings.Finding.TheVariants as finding
 
 pub record Board : Type 0 where
   pub platform : Platform

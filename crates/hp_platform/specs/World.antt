@@ -1,31 +1,25 @@
--- What contracts see of a world, and what a turn makes of it.
+-- What contracts see of a world, and what a turn and an event make of it.
 use Rattle.std.specs.Prelude.{◌≡◌, ◌≤◌, ℕ, Bool, ◌&&◌, nat_lt, ◌+◌, ◌-◌, ◌^◌, min, List, [], ◌∷◌, ◌++◌, length, map, take, Option, Some, None, IsSome, slice_index_or, slice_set, if◌then◌else◌}
 use Rattle.hp_model.specs.declared.platforms.Platform.{Platform}
-use Rattle.hp_model.specs.declared.accesses.Access.{Access}
 use Rattle.hp_model.specs.declared.accesses.Answer.{Answer}
 use Rattle.hp_model.specs.declared.entries.Actor.{Actor}
 use Rattle.hp_model.specs.declared.entries.Actor.TheVariants as actor
 use Rattle.hp_model.specs.declared.entries.Event.{Event}
-use Rattle.hp_model.specs.declared.entries.Event.TheVariants as event
 use Rattle.hp_model.specs.declared.entries.Entry.{Entry}
 use Rattle.hp_model.specs.declared.turns.Due.{Due}
-use Rattle.hp_model.specs.declared.turns.Due.TheVariants as due
-use Rattle.hp_model.specs.Block.{ejected_by}
 use Rattle.hp_model.specs.Boot.{is_handed}
-use Rattle.hp_model.specs.Following.{told_at, without_agent}
 use Rattle.hp_model.specs.Platform.{IsFit, count_of, is_late}
-use Rattle.hp_model.specs.Runs.{IsStepBy, address_of, run}
-use Rattle.hp_model.specs.Schedule.{Scene, question_in, Made as Scheduled}
+use Rattle.hp_model.specs.Runs.{address_of, run}
+use Rattle.hp_model.specs.Schedule.{Scene, Made as Scheduled}
 use Rattle.hp_model.specs.State.{State}
-use Rattle.hp_model.specs.Access.{normal}
-use Rattle.hp_model.specs.Step.{after, answer_of, step}
-use Rattle.hp_model.specs.Turn.{due_of}
+use Rattle.hp_model.specs.Step.{step}
 use Rattle.hp_model.specs.Voices.{Voice}
-use Rattle.hp_agent.specs.Kinds.{hears_at}
-use Rattle.hp_agent.specs.Speaking.{Heard, Speaks}
+use Rattle.hp_agent.specs.Speaking.{Heard}
 use Rattle.hp_platform.specs.declared.worlds.Turn.{Turn}
 use Rattle.hp_platform.specs.declared.worlds.Turn.TheVariants.{Made, Idle}
-use Rattle.hp_platform.specs.Board.{Board, Shows}
+use Rattle.hp_platform.specs.Agents as agents
+use Rattle.hp_platform.specs.Agents.{HasNone, IsGiven}
+use Rattle.hp_platform.specs.Live.{Live}
 
 pub record World : Type 0 where
   pub platform : Platform
@@ -76,40 +70,21 @@ turns_at (Some place) ns = slice_index_or ns place 0
 abbrev pub turns_of : ℕ → Actor → List ℕ → ℕ
 turns_of count a ns = turns_at (asked_place count a) ns
 
--- an ejected processor has no agent: nobody hears there
-abbrev pub without_heard : Option ℕ → List (Option Heard) → List (Option Heard)
-without_heard None heard = heard
-without_heard (Some k) heard = slice_set heard k None
+abbrev pub agents_of : World → agents.Agents
+agents_of w = record { voices = w.voices; heard = w.heard; last = w.last }
 
--- the agent of processor k was asked, once, and no other. It said this access, which the machine takes as a normal one, and tells what is left of its voice
-pub record IsSaid (old new : World) (s : State) (k : ℕ) (e : Entry) (ejected : Option ℕ) : Type 0 where
-  pub access : Access
-  pub left : Option Voice
-  pub speaks : Speaks (told_at old.voices k) left (question_in s k old.last) access
-  pub event : e.event ≡ event.Do k (normal access)
-  pub voices : new.voices ≡ without_agent ejected (slice_set old.voices k left)
-  pub heard : new.heard ≡ without_heard ejected (hears_at old.heard k (question_in s k old.last) access)
-  pub last : new.last ≡ slice_set old.last k e.answer
+-- what a step leaves of the agents, by the world before it and the one after it
+abbrev pub IsSaid : World → World → State → ℕ → Entry → Option ℕ → Type 0
+IsSaid old new s k e ejected = agents.IsSaid (agents_of old) (agents_of new) s k e ejected
 
--- nobody was asked
-pub record IsUnasked (old new : World) (ejected : Option ℕ) : Type 0 where
-  pub voices : new.voices ≡ without_agent ejected old.voices
-  pub heard : new.heard ≡ without_heard ejected old.heard
-  pub last : new.last ≡ old.last
+abbrev pub IsUnasked : World → World → Option ℕ → Type 0
+IsUnasked old new ejected = agents.IsUnasked (agents_of old) (agents_of new) ejected
 
--- what was due is what was made
 abbrev pub Says : Due → World → World → State → Entry → Option ℕ → Type 0
-Says due.Idle old new s e ejected = ⊥
-Says (due.Makes x) old new s e ejected = (e.event ≡ x) × IsUnasked old new ejected
-Says (due.Asks k) old new s e ejected = IsSaid old new s k e ejected
+Says due old new s e ejected = agents.Says due (agents_of old) (agents_of new) s e ejected
 
--- the entry is a step of this actor in the state s, with that step's answer and address, and what it left of the agents
-pub record IsStepOf (old new : World) (s : State) (a : Actor) (e : Entry) : Type 0 where
-  pub actor : IsStepBy (is_late old.platform.delivery) a e.event
-  pub step : step old.platform s e.event ≡ Some (after old.platform s e.event)
-  pub answer : e.answer ≡ answer_of s e.event
-  pub address : e.at ≡ address_of s e.event
-  pub says : Says (due_of old.platform s a) old new s e (ejected_by s.block (after old.platform s e.event).state.block)
+abbrev pub IsStepOf : World → World → State → Actor → Entry → Type 0
+IsStepOf old new s a e = agents.IsStepOf old.platform (agents_of old) (agents_of new) s a e
 
 -- a turn that made this entry
 pub record IsMade (old new : World) (a : Actor) (e : Entry) : Type 0 where
@@ -126,10 +101,6 @@ noted_at (Some place) n idle = slice_set idle place (Some n)
 abbrev pub noted : Bool → Option ℕ → ℕ → List (Option ℕ) → List (Option ℕ)
 noted handed place n idle = if handed then noted_at place n idle else idle
 
--- the machine has no event of this actor as a step
-pub record HasNone (p : Platform) (s : State) (a : Actor) : Type 0 where
-  pub none : (x : Event) → IsStepBy (is_late p.delivery) a x → step p s x ≡ None
-
 -- a turn without a step
 pub record IsIdle (old new : World) (a : Actor) : Type 0 where
   pub entries : new.entries ≡ old.entries
@@ -144,11 +115,23 @@ abbrev pub IsTurned : World → World → Actor → Turn → Type 0
 IsTurned old new a (Made e) = IsMade old new a e
 IsTurned old new a Idle = IsIdle old new a
 
--- the board shows the state that the entries lead to
-pub record IsReplay (b : Board) (es : List Entry) : Type 0 where
-  pub state : State
-  pub run : run b.platform es ≡ Some state
-  pub shows : Shows b state
+-- an event that made this entry, a step of the model in the state that the entries before it lead to
+pub record IsApplied (old new : World) (x : Event) (e : Entry) : Type 0 where
+  pub entries : new.entries ≡ old.entries ++ e ∷ []
+  pub event : e.event ≡ x
+  pub address : (s : State) → run old.platform old.entries ≡ Some s → e.at ≡ address_of s x
+  pub is : (s : State) → run old.platform old.entries ≡ Some s → IsGiven old.platform (agents_of old) (agents_of new) s x e.answer
+  pub asked : new.asked ≡ old.asked
+  pub idle : new.idle ≡ old.idle
+
+-- the event is no step there
+pub record IsRefused (old new : World) (x : Event) : Type 0 where
+  pub none : (s : State) → run old.platform old.entries ≡ Some s → step old.platform s x ≡ None
+  pub same : new ≡ old
+
+abbrev pub Applies : World → World → Event → Option Entry → Type 0
+Applies old new x (Some e) = IsApplied old new x e
+Applies old new x None = IsRefused old new x
 
 -- a number of entries after which an actor had no step
 pub record WasIdle (p : Platform) (es : List Entry) (a : Actor) (n : ℕ) : Type 0 where
@@ -161,13 +144,13 @@ pub record IsNoted (p : Platform) (es : List Entry) (asked : List ℕ) (notes : 
   pub places : length notes ≡ idle_places (is_late p.delivery) (count_of p)
   pub was : (a : Actor) (i n : ℕ) → idle_place_of p a ≡ Some i → slice_index_or notes i None ≡ Some n → WasIdle p es a n
 
--- what a world keeps: its platform fits, its machine is the replay of its entries, and its counts and notes are what they say
-pub record IsKept (b : Board) (es : List Entry) (asked : List ℕ) (notes : List (Option ℕ)) : Type 0 where
-  pub fit : IsFit b.platform
-  pub replay : IsReplay b es
-  pub noted : IsNoted b.platform es asked notes
+-- what a world keeps: its platform fits, its state is the one that its entries lead to, and its counts and notes are what they say
+pub record IsKept (l : Live) (es : List Entry) (asked : List ℕ) (notes : List (Option ℕ)) : Type 0 where
+  pub fit : IsFit l.platform
+  pub replay : run l.platform es ≡ Some l.state
+  pub noted : IsNoted l.platform es asked notes
 
--- the same, as callers see it
+-- what callers see of what is kept
 pub record IsSound (w : World) : Type 0 where
   pub fit : IsFit w.platform
   pub run : IsSome (run w.platform w.entries)

@@ -1,33 +1,27 @@
-//! The world: its machine, its agents, and all steps that were made.
+//! The world: a machine at work with its agents, and all steps that were made.
 
-ghost use Rattle.std.specs.Prelude.{◌≡◌, ◌≤◌, ◌<◌, ◌+◌, ◌-◌, ◌^◌, ◌∷◌, ◌++◌, [], min, IfErr, IfOk, OnErr, OnOk, None, Some, IsSome, ℕ, length, replicate, slice_index_or, slice_set, vec_len, vec_capacity};
+ghost use Rattle.std.specs.Prelude.{◌≡◌, ◌+◌, ◌∷◌, [], IfOk, OnErr, None, Some, IsSome, length, replicate, slice_set};
 ghost use Rattle.hp_model.specs.declared.accesses.Answer.TheVariants.{Quiet};
-ghost use Rattle.hp_model.specs.Block.{ejected_by};
 ghost use Rattle.hp_model.specs.Boot.{fact_of, is_handed};
-ghost use Rattle.hp_model.specs.Following.{without_agent};
 ghost use Rattle.hp_model.specs.Platform.{IsFit, count_of, is_late as comes_late};
-ghost use Rattle.hp_model.specs.Runs.{address_of, run};
+ghost use Rattle.hp_model.specs.Runs.{run};
 ghost use Rattle.hp_model.specs.Safety.{IsSafe};
 ghost use Rattle.hp_model.specs.State.{State};
-ghost use Rattle.hp_model.specs.Access.{normal as normal_of};
-ghost use Rattle.hp_model.specs.Step.{after as step_after, answer_of};
-ghost use Rattle.hp_platform.specs.Board.{IsFound, IsReady, Shows, event_of};
-ghost use Rattle.hp_platform.specs.World.{IsSound, IsTurned, asked_place, counted, counted_at, idle_place_of, idle_places, noted, turns_at, turns_of, without_heard};
+ghost use Rattle.hp_platform.specs.World.{Applies, IsSound, IsTurned, asked_place, counted, counted_at, idle_place_of, idle_places, noted, turns_at, turns_of};
 
-use crate::boards::{Board, Finding, Found};
-use crate::normal::normal;
+use crate::lives::{Live, possible};
 use hp_agent::{Agent, Agents};
 use hp_exact::runs_are_safe;
-use hp_model::{Actor, Answer, BootFact, Entry, Event, NoMemory, Platform};
+use hp_model::{Actor, BootFact, Entry, Event, NoMemory, Platform};
 use std::alloc::Global;
 use std::marker::Model;
 
 /// What an actor's turn made.
 #[derive(Clone, Copy)]
 pub enum Turn {
-    /// One step, which is the last of the world's entries.
+    /// One step. Of a world its entry is the last.
     Made(Entry),
-    /// Nothing: the machine has no step of that actor.
+    /// Nothing: there is no step of that actor.
     Idle,
 }
 
@@ -36,10 +30,8 @@ pub enum Turn {
 /// Its type keeps that the entries are a run of the machine from its start, and that its state is the one that they lead to.
 #[derive(Drop)]
 pub struct World<A: Agent> {
-    board: Board,
+    live: Live<A>,
     entries: Vec<Entry>,
-    agents: Agents<A>,
-    last: Vec<Answer>,
     asked: Vec<u64>,
     idle: Vec<Option<u64>>,
 }
@@ -50,17 +42,9 @@ impl<A: Agent> Model for World<A> {
 
     ghost Value = { seen.World };
 
-    ghost view = { λ w. record { platform = w.board.platform; entries = w.entries.items; voices = w.agents.voices; heard = w.agents.heard; last = w.last.items; asked = w.asked.items; idle = w.idle.items } };
+    ghost view = { λ w. record { platform = w.live.platform; entries = w.entries.items; voices = w.live.voices; heard = w.live.heard; last = w.live.last; asked = w.asked.items; idle = w.idle.items } };
 
-    ghost invariant = { λ w. IsKept w.board w.entries.items w.asked.items w.idle.items };
-}
-
-/// How many processors are possible.
-fn possible(p: &Platform) -> usize
-    ensures value { result ≡ count_of p.now }
-    ensures few { result < 2 ^ 63 }
-{
-    p.apic.0.as_slice().len()
+    ghost invariant = { λ w. IsKept w.live w.entries.items w.asked.items w.idle.items };
 }
 
 /// No idle turn, of so many processors.
@@ -117,28 +101,6 @@ fn turns_at_place(asked: &[u64], place: usize) -> u64
     if place < asked.len() { asked[place] } else { 0 }
 }
 
-/// The answer in the place of a processor; `Quiet` past the last place.
-fn answer_at(last: &[Answer], k: u32) -> Answer
-    ensures { result ≡ slice_index_or last.now k Quiet }
-{
-    let place = k as usize;
-    if place < last.len() {
-        last[place]
-    } else {
-        Answer::Quiet
-    }
-}
-
-/// The answer to what an agent was asked for.
-fn note_answer(last: &mut Vec<Answer>, k: u32, answer: Answer)
-    ensures { last.new.items ≡ slice_set last.old.items k answer }
-{
-    let place = k as usize;
-    if place < last.len() {
-        last[place] = answer;
-    }
-}
-
 /// How many actors the processors have: each its own, and where SMIs may come late that of its SMI.
 fn many_places(p: &Platform) -> usize
     ensures { result ≡ idle_places (comes_late p.now.delivery) (count_of p.now) }
@@ -182,38 +144,6 @@ fn note_idle(idle: &mut Vec<Option<u64>>, handed: bool, place: Option<usize>, en
     }
 }
 
-/// An ejected processor loses its agent.
-fn drop_ejected<A: Agent>(agents: &mut Agents<A>, ejected: Option<u32>)
-    ensures voices { agents.new.voices ≡ without_agent ejected agents.old.voices }
-    ensures heard { agents.new.heard ≡ without_heard ejected agents.old.heard }
-{
-    if let Some(k) = ejected {
-        agents.drop_of(k);
-    }
-}
-
-/// Makes a step that is due, and its entry. Room for both was taken.
-fn make(board: &mut Board, entries: &mut Vec<Entry>, found: &Found) -> Entry
-    requires room { 272 ≤ board.old.machine.memory.spare }
-    requires capacity { vec_len entries.old < vec_capacity entries.old }
-    requires ready { IsReady board.old (event_of found.now) }
-    requires found { IsFound board.old found.now }
-    ensures platform { board.new.platform ≡ board.old.platform }
-    ensures entries { entries.new.items ≡ entries.old.items ++ result ∷ [] }
-    ensures event { result.event ≡ event_of found.now }
-    ensures address { (s : State) → Shows board.old s → result.at ≡ address_of s (event_of found.now) }
-    ensures answer { (s : State) → Shows board.old s → result.answer ≡ answer_of s (event_of found.now) }
-    ensures state { (s : State) → Shows board.old s → Shows board.new (step_after board.old.platform s (event_of found.now)).state }
-    ensures ejected { board.new.machine.ejected ≡ ejected_by board.old.machine.block board.new.machine.block }
-{
-    let event = found.event();
-    let at = board.address_of(&event);
-    let answer = board.make(found);
-    let entry = Entry { event, at, answer };
-    entries.push_reserved(entry);
-    entry
-}
-
 impl<A: Agent> World<A> {
     /// A machine before its first step, in front of its boot sequence, with an agent, or none, for each possible processor.
     pub fn new(alloc: Global, p: &Platform, agents: Agents<A>) -> Result<World<A>, NoMemory>
@@ -227,33 +157,21 @@ impl<A: Agent> World<A> {
         ensures asked { IfOk result (λ w. w.asked ≡ replicate (count_of p.now + 1) 0) }
         ensures idle { IfOk result (λ w. w.idle ≡ replicate (idle_places (comes_late p.now.delivery) (count_of p.now)) None) }
     {
-        let count = possible(p);
-        let last = vec![in alloc; Answer::Quiet; count]?;
-        let asked = vec![in alloc; 0u64; count + 1]?;
+        let asked = vec![in alloc; 0u64; possible(p) + 1]?;
         let idle = nothing_noted(alloc, many_places(p))?;
-        let board = Board::new(alloc, p)?;
+        let live = Live::new(alloc, p, agents)?;
         Ok(World {
-            board,
+            live,
             entries: Vec::new(alloc),
-            agents,
-            last,
             asked,
             idle,
         })
     }
 
-    /// One turn of an actor: its step, if the machine and its firmware have one of it now, and the entry of that step.
+    /// One turn of an actor: its step, if the machine and its firmware have one of it now, and the entry of that step. What is due
+    /// of an actor, and what its agent is asked, is as for `Live::turn`.
     ///
-    /// Before the hand-over processor 0 alone has steps, those of the boot sequence; after a refusal of the boot nobody has.
-    /// After the hand-over the host inserts an absent processor or requests the removal of one that is present and isn't
-    /// processor 0; a processor takes a latched SMI, else a latched INIT, else in SMM does what its handler wants, and outside
-    /// SMM makes the access that its agent says, where it is running. The SMI of a processor is an actor too; where SMIs may
-    /// come late it alone takes them, and a running processor goes on until then. An access of a width that there is none is made as
-    /// `Nop`, and a value is cut to its width. A step that ejects a processor drops its agent.
-    ///
-    /// Where the step is an agent's, that agent alone is asked, and once: as that processor, at the page where it runs, with the
-    /// answer to its last access. `Idle` comes exactly where there is no step of the actor; no agent is asked then. All this is said
-    /// of each agent but one that the step itself drops: what that one has heard ends with it. Room for the entry and for what the
+    /// `Idle` comes exactly where there is no step of the actor; no agent is asked then. Room for the entry and for what the
     /// step writes is taken first, so after `NoMemory` no agent was asked and nothing has changed but that room.
     pub fn turn(&mut self, a: Actor) -> Result<Turn, NoMemory>
         ensures platform { self.new.platform ≡ self.old.platform }
@@ -261,32 +179,45 @@ impl<A: Agent> World<A> {
         ensures no_memory { OnErr result (self.new ≡ self.old) }
     {
         self.entries.reserve(1)?;
-        self.board.reserve()?;
-        let count = possible(self.board.platform());
-        let place = place_in(self.board.platform(), a);
-        count_turn(&mut self.asked, count, a);
-        match self.board.due(a) {
-            Finding::Idle => {
-                let handed = self.board.handed();
-                note_idle(&mut self.idle, handed, place, many(&self.entries));
-                Ok(Turn::Idle)
+        let turn = self.live.turn(a)?;
+        count_turn(&mut self.asked, possible(self.live.platform()), a);
+        match turn {
+            Turn::Made(entry) => self.entries.push_reserved(entry),
+            Turn::Idle => {
+                let place = place_in(self.live.platform(), a);
+                note_idle(
+                    &mut self.idle,
+                    self.live.handed(),
+                    place,
+                    many(&self.entries),
+                );
             }
-            Finding::Makes(found) => {
-                let entry = make(&mut self.board, &mut self.entries, &found);
-                drop_ejected(&mut self.agents, self.board.ejected());
-                Ok(Turn::Made(entry))
+        }
+        Ok(turn)
+    }
+
+    /// Makes an event, if the machine and its firmware have it as a step now, and gives its entry, which is then the last. No
+    /// agent is asked, and no turn is counted; a step that ejects a processor drops its agent. `None` comes exactly where the
+    /// event is no step now, and changes nothing. Room for the entry and for what the step writes is taken first, so after
+    /// `NoMemory` nothing has changed but that room.
+    pub fn apply(&mut self, e: &Event) -> Result<Option<Entry>, NoMemory>
+        ensures platform { self.new.platform ≡ self.old.platform }
+        ensures applied { IfOk result (Applies self.old self.new e.now) }
+        ensures no_memory { OnErr result (self.new ≡ self.old) }
+    {
+        self.entries.reserve(1)?;
+        let at = self.live.address_of(e);
+        match self.live.apply(e)? {
+            Some(answer) => {
+                let entry = Entry {
+                    event: *e,
+                    at,
+                    answer,
+                };
+                self.entries.push_reserved(entry);
+                Ok(Some(entry))
             }
-            Finding::Asks(k) => {
-                let page = self.board.page(k);
-                let access = self
-                    .agents
-                    .next(k, page, answer_at(self.last.as_slice(), k));
-                let found = Found::Plain(Event::Do(k, normal(access)));
-                let entry = make(&mut self.board, &mut self.entries, &found);
-                note_answer(&mut self.last, k, entry.answer);
-                drop_ejected(&mut self.agents, self.board.ejected());
-                Ok(Turn::Made(entry))
-            }
+            None => Ok(None),
         }
     }
 
@@ -315,20 +246,20 @@ impl<A: Agent> World<A> {
     pub fn handed(&self) -> bool
         ensures { (s : State) → run self.now.platform self.now.entries ≡ Some s → result ≡ is_handed s.stage }
     {
-        self.board.handed()
+        self.live.handed()
     }
 
     /// The value that refused the boot; None while it goes on, and after the hand-over.
     pub fn boot_fact(&self) -> Option<BootFact>
         ensures { (s : State) → run self.now.platform self.now.entries ≡ Some s → result ≡ fact_of s.stage }
     {
-        self.board.boot_fact()
+        self.live.boot_fact()
     }
 
     pub fn platform(&self) -> &Platform
         ensures { result.now ≡ self.now.platform }
     {
-        self.board.platform()
+        self.live.platform()
     }
 
     /// How many turns an actor had that weren't answered `NoMemory`: those of a processor and its SMI, or of the host with all its
@@ -336,7 +267,7 @@ impl<A: Agent> World<A> {
     pub fn asked(&self, a: &Actor) -> u64
         ensures { result ≡ turns_of (count_of self.now.platform) a.now self.now.asked }
     {
-        match place_of(possible(self.board.platform()), *a) {
+        match place_of(possible(self.live.platform()), *a) {
             Some(place) => turns_at_place(self.asked.as_slice(), place),
             None => 0,
         }

@@ -1,24 +1,34 @@
 -- Which accesses have a byte in a range, and which are holes.
-use Rattle.std.proofs.Common.{◌≡◌, ◌⊎◌, inl, inr, ℕ, zero, suc, Bool, true, false, ◌&&◌, ◌||◌, not, ◌==◌, ◌+◌, ◌-◌, ◌*◌, ◌<◌, ◌≤◌, refl, ap, subst, arith}
+use Rattle.std.proofs.Common.{◌≡◌, ◌⊎◌, inl, inr, ℕ, zero, suc, Bool, true, false, Some, None, ◌&&◌, ◌||◌, not, ◌+◌, ◌<◌, ◌≤◌, refl, subst, arith}
 use Rattle.std.specs.Prelude.{nat_lt, nat_le}
 use Rattle.std.proofs.lemmas.Grind.{common_steps}
 use Rattle.std.proofs.lemmas.Bool.{false≢true, or_cases, or_left, or_right, cases_lt}
 use Rattle.std.proofs.lemmas.Bool.Decides.{nat_tests}
-use Rattle.hp_model.specs.View.{Locks, is_hidden, is_hole, is_in_default, is_in_tseg, tseg_size}
-use Rattle.hp_smram.specs.Reach.{HidesSome, has_byte, is_between}
-use Rattle.hp_smram.proofs.Bits.{locking, tseg_room}
+use Rattle.hp_model.specs.declared.spans.Span.{Span}
+use Rattle.hp_model.specs.View.{Locks, is_hidden, is_hole, is_locked}
+use Rattle.hp_smram.specs.Reach.{HidesSome, has_byte}
+use Rattle.hp_smram.specs.Spans.{is_in_some}
 
-between_more : (first end x n : ℕ) →
-    has_byte (is_between first end) x (suc n) ≡ (nat_lt first end && (nat_lt x end && nat_lt first (x + suc n)))
+span_more : (from to x n : ℕ) →
+    has_byte (λ y. nat_le from y && nat_le y to) x (suc n) ≡ (nat_le from to && (nat_le x to && nat_lt from (x + suc n)))
 unfolding has_byte
-between_more first end x zero = grind (arith, nat_tests)
-between_more first end x (suc n) = rw (between_more first end (x + 1) n) (grind (arith, nat_tests))
+span_more from to x zero = grind (arith, nat_tests)
+span_more from to x (suc n) = rw (span_more from to (x + 1) n) (grind (arith, nat_tests))
 
 -- an access and a range have a byte in common exactly where neither ends before the other begins
-pub between : (first end x n : ℕ) → 0 < n →
-    has_byte (is_between first end) x n ≡ (nat_lt first end && (nat_lt x end && nat_lt first (x + n)))
-between first end x zero h = absurd (omega (arith, h))
-between first end x (suc n) h = between_more first end x n
+in_range : (from to x n : ℕ) → 0 < n → has_byte (λ y. nat_le from y && nat_le y to) x n ≡ (nat_le from to && (nat_le x to && nat_lt from (x + n)))
+in_range from to x zero h = absurd (omega (arith, h))
+in_range from to x (suc n) h = span_more from to x n
+
+pub in_some : (s : Span) (x n : ℕ) → 0 < n → has_byte (is_in_some (Some s)) x n ≡ (nat_le s.from s.to && (nat_le x s.to && nat_lt s.from (x + n)))
+in_some s x n h = in_range s.from s.to x n h
+
+pub in_none : (x n : ℕ) → has_byte (is_in_some None) x n ≡ false
+unfolding has_byte
+in_none x zero = refl
+in_none x (suc n) = in_none (x + 1) n
+
+pub ruleset within_span = (in_some, in_none)
 
 past_more : (low x n : ℕ) → has_byte (nat_le low) x (suc n) ≡ nat_lt low (x + suc n)
 unfolding has_byte
@@ -29,40 +39,17 @@ pub past : (low x n : ℕ) → 0 < n → has_byte (nat_le low) x n ≡ nat_lt lo
 past low x zero h = absurd (omega (arith, h))
 past low x (suc n) h = past_more low x n
 
-guarded : (b : Bool) (test : ℕ → Bool) (x n : ℕ) → has_byte (λ y. b && test y) x n ≡ (b && has_byte test x n)
-unfolding has_byte
-guarded true test x zero = refl
-guarded false test x zero = refl
-guarded true test x (suc n) = ap (λ (r : Bool). test x || r) (guarded true test (x + 1) n)
-guarded false test x (suc n) = guarded false test (x + 1) n
-
-pub default_parts : (l : Locks) (x n : ℕ) →
-    has_byte (is_in_default l) x n ≡ ((l.f_smbase == 2) && has_byte (is_between 0x30000 0x50000) x n)
-default_parts l x n = guarded (l.f_smbase == 2) (is_between 0x30000 0x50000) x n
-
-pub tseg_parts : (l : Locks) (x n : ℕ) →
-    has_byte (is_in_tseg l) x n ≡
-    ((l.smram == 0x18) && has_byte (is_between (l.low_memory - tseg_size l.ext_tseg l.esmramc * 0x100000) l.low_memory) x n)
-tseg_parts l x n = guarded (l.smram == 0x18) (is_between (l.low_memory - tseg_size l.ext_tseg l.esmramc * 0x100000) l.low_memory) x n
-
-pub ruleset in_default = (default_parts, locking)
-
-pub ruleset in_tseg = (tseg_parts, tseg_room)
-
-shuffled : (p d t m P D T : Bool) →
-    ((p || (m && (d || t))) || (P || (m && (D || T)))) ≡ ((p || P) || (m && ((d || D) || (t || T))))
-shuffled p d t m P D T = grind (arith, common_steps)
+shuffled : (p h m P H : Bool) → ((p || (m && h)) || (P || (m && H))) ≡ ((p || P) || (m && (h || H)))
+shuffled p h m P H = grind (arith, common_steps)
 
 -- a hole has a byte past RAM or, outside SMM, one in a locked range
 pub hole_parts : (l : Locks) (in_smm : Bool) (x n : ℕ) →
-    is_hole l in_smm x n ≡
-    (has_byte (nat_le l.low_memory) x n || (not in_smm && (has_byte (is_in_default l) x n || has_byte (is_in_tseg l) x n)))
+    is_hole l in_smm x n ≡ (has_byte (nat_le l.low_memory) x n || (not in_smm && has_byte (is_locked l) x n))
 unfolding has_byte is_hole
 hole_parts l in_smm x zero = grind (arith, common_steps)
 hole_parts l in_smm x (suc n) =
     rw (hole_parts l in_smm (x + 1) n)
-    (shuffled (nat_le l.low_memory x) (is_in_default l x) (is_in_tseg l x) (not in_smm)
-    (has_byte (nat_le l.low_memory) (x + 1) n) (has_byte (is_in_default l) (x + 1) n) (has_byte (is_in_tseg l) (x + 1) n))
+    (shuffled (nat_le l.low_memory x) (is_locked l x) (not in_smm) (has_byte (nat_le l.low_memory) (x + 1) n) (has_byte (is_locked l) (x + 1) n))
 
 pub hole_from : (l : Locks) (in_smm : Bool) (x n : ℕ) → HidesSome l in_smm x n → is_hole l in_smm x n ≡ true
 unfolding is_hole

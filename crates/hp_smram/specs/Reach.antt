@@ -1,5 +1,5 @@
 -- The bytes of an access, one by one.
-use Rattle.std.specs.Prelude.{◌≡◌, ◌⊎◌, ℕ, zero, suc, Bool, true, false, ◌&&◌, ◌||◌, nat_lt, nat_le, ◌+◌, ◌<◌, ◌≤◌}
+use Rattle.std.specs.Prelude.{◌≡◌, ◌⊎◌, ℕ, zero, suc, Bool, true, false, ◌||◌, ◌+◌, ◌<◌, ◌≤◌}
 use Rattle.hp_model.specs.View.{Locks, is_hidden}
 
 -- an access to memory has 1, 2, 4 or 8 bytes
@@ -17,6 +17,3 @@ pub record HidesSome (l : Locks) (in_smm : Bool) (addr width : ℕ) : Type 0 whe
 unfoldable pub has_byte : (ℕ → Bool) → ℕ → ℕ → Bool
 has_byte test x zero = false
 has_byte test x (suc n) = test x || has_byte test (x + 1) n
-
-abbrev pub is_between : ℕ → ℕ → ℕ → Bool
-is_between first end x = nat_le first x && nat_lt x end

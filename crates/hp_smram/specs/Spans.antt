@@ -1,6 +1,7 @@
 -- The locked ranges, each where it is locked.
-use Rattle.std.specs.Prelude.{ℕ, ◌&&◌, ◌==◌, nat_lt, ◌-◌, ◌*◌, List, [], ◌∷◌, Option, Some, None, if◌then◌else◌}
+use Rattle.std.specs.Prelude.{ℕ, Bool, false, ◌&&◌, ◌==◌, nat_lt, ◌-◌, ◌*◌, List, [], ◌∷◌, Option, Some, None, if◌then◌else◌}
 use Rattle.hp_model.specs.declared.spans.Span.{Span}
+use Rattle.hp_model.specs.Spans.{in_span}
 use Rattle.hp_model.specs.View.{Locks, tseg_size}
 
 -- the default area
@@ -22,3 +23,8 @@ abbrev pub spans_in : List (Option Span) → List Span
 spans_in [] = []
 spans_in (None ∷ ss) = spans_in ss
 spans_in (Some s ∷ ss) = s ∷ spans_in ss
+
+-- an address lies in the range, where that is there
+abbrev pub is_in_some : Option Span → ℕ → Bool
+is_in_some None x = false
+is_in_some (Some s) x = in_span x s

@@ -3,10 +3,11 @@
 
 mod flags;
 mod laws;
+mod locks;
 mod registers;
 
 pub use laws::{
     default_area_stays_locked, locks_start_as_the_machine, memory_is_open_in_smm,
     nothing_changes_once_all_is_locked, tseg_stays_once_fixed, what_is_locked_stays_locked,
 };
-pub use registers::{Locks, Touch};
+pub use locks::{Locks, Touch};

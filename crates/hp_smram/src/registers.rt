@@ -1,11 +1,10 @@
-//! The registers that lock memory, and what an access finds.
+//! The registers that lock memory, and the ranges that they lock.
 
 ghost use Rattle.std.specs.Prelude.{◌≡◌, ◌↔◌, ℕ, IsTrue, ◌<◌, ◌+◌, true, false, nat_le, bit_and, ◌≤◌, ◌^◌};
 ghost use Rattle.hp_model.specs.View.{f_smbase_written, ext_tseg_written, is_fixed as has_lock, lock_write, lock_read, is_hole, is_in_default as default_byte, is_in_tseg as tseg_byte, is_locked};
 ghost use Rattle.hp_model.specs.Spans.{in_some_span};
 ghost use Rattle.hp_smram.specs.Memory.{IsMemorySize, locks_of};
 ghost use Rattle.hp_smram.specs.Spans.{default_span, tseg_span, locked_spans, spans_in};
-ghost use Rattle.hp_smram.specs.Reach.{IsWidth, HidesSome, has_byte, is_between};
 
 use crate::flags::{Esmramc, FSmbase, Smram, tseg_mib};
 use bitflags::Flags;
@@ -17,18 +16,18 @@ const EXT_TSEG_MIB: u8 = 0x30;
 
 const LEAST_MEMORY_FOR_EXT_TSEG: u32 = 0x4000000;
 
-/// What an access finds.
-#[derive(Clone, Copy, Debug, PartialEq)]
-pub enum Touch {
-    /// Each of its bytes is memory that the actor reaches.
-    Ram,
-    /// Some byte is out of reach: the whole access reads as ones, and writes nothing.
-    Hole,
+/// The ranges that are locked, ascending. What isn't in one is open, up to the end of RAM.
+#[derive(Clone, Copy, Drop)]
+pub(crate) struct Table {
+    /// 30000 to 4ffff.
+    pub(crate) default_area: Option<Span>,
+    /// The last MiB of RAM.
+    pub(crate) tseg: Option<Span>,
 }
 
 /// The registers that lock memory, of a machine with so much RAM.
 #[derive(Drop)]
-pub struct Locks {
+pub(crate) struct Registers {
     low_memory: u32,
     has_default: bool,
     f_smbase: FSmbase,
@@ -39,7 +38,7 @@ pub struct Locks {
     ext_tseg: u8,
 }
 
-impl Model for Locks {
+impl Model for Registers {
     ghost use Rattle.std.specs.Prelude.{◌≡◌, ◌≤◌, ◌<◌, ◌*◌, bit_and};
     ghost use Rattle.hp_model.specs.View as model;
 
@@ -52,30 +51,14 @@ impl Model for Locks {
     ghost invariant = { λ l. IsMemorySize l.low_memory × (l.f_smbase.0 ≤ 2) × (bit_and l.smram.0 0x18 ≡ l.smram.0) × (l.esmramc.0 < 8) × (l.ext_tseg * 0x100000 ≤ l.low_memory) };
 }
 
-/// The address past an access: more than 2^32 where it runs over the end of the addresses.
-fn end_of(addr: u32, width: u8) -> u64
-    ensures { result ≡ addr + width }
-{
-    u64::from(addr) + u64::from(width)
-}
-
-/// Whether a byte of the access lies in the range from `first` to `end`, without `end`.
-#[tactic(auto, using(crate::proofs::Reach::between))]
-fn meets(addr: u32, width: u8, first: u32, end: u32) -> bool
-    requires { 0 < width }
-    ensures { result ≡ has_byte (is_between first end) addr width }
-{
-    first < end && addr < end && u64::from(first) < end_of(addr, width)
-}
-
-impl Locks {
+impl Registers {
     /// All registers 0. RAM is the addresses below `low_memory`; `default_smram` says whether the default area can be
     /// locked, and `ext_tseg` whether TSEG can have 48 MiB.
-    pub fn new(low_memory: u32, default_smram: bool, ext_tseg: bool) -> Locks
+    pub(crate) fn new(low_memory: u32, default_smram: bool, ext_tseg: bool) -> Registers
         requires { IsMemorySize low_memory }
         ensures { result ≡ locks_of low_memory default_smram ext_tseg }
     {
-        Locks {
+        Registers {
             low_memory,
             has_default: default_smram,
             f_smbase: FSmbase(0),
@@ -127,7 +110,7 @@ impl Locks {
     }
 
     /// Writes a byte of the controller's configuration space.
-    pub fn write(&mut self, reg: u8, value: u8)
+    pub(crate) fn write(&mut self, reg: u8, value: u8)
         ensures { self.new ≡ lock_write self.old reg value }
     {
         match reg {
@@ -140,7 +123,7 @@ impl Locks {
     }
 
     /// Whether the two are the same, register for register.
-    pub fn same(&self, other: &Locks) -> bool
+    pub(crate) fn same(&self, other: &Registers) -> bool
         ensures { IsTrue result ↔ (self.now ≡ other.now) }
     {
         self.low_memory == other.low_memory
@@ -181,25 +164,34 @@ impl Locks {
         }
     }
 
-    /// The default area and TSEG, each where it is locked.
-    pub fn locked(&self) -> [Option<Span>; 2]
-        ensures spans { result ≡ locked_spans self.now }
-        ensures bytes { (x : ℕ) → in_some_span (spans_in result) x ≡ is_locked self.now x }
+    /// The ranges that they lock, each where it is locked.
+    pub(crate) fn table(&self) -> Table
+        ensures default_area { result.default_area ≡ default_span self.now }
+        ensures tseg { result.tseg ≡ tseg_span self.now }
+    {
+        Table {
+            default_area: self.locked_default(),
+            tseg: self.locked_tseg(),
+        }
+    }
+
+    /// The RAM of a machine.
+    pub(crate) fn sizes(&self)
+        ensures { IsMemorySize self.now.low_memory }
     {
         // brings in what is known of the registers
         let _ = &self.low_memory;
-        [self.locked_default(), self.locked_tseg()]
     }
 
     /// The first address past RAM.
-    pub fn low_memory(&self) -> u32
+    pub(crate) fn low_memory(&self) -> u32
         ensures { result ≡ self.now.low_memory }
     {
         self.low_memory
     }
 
     /// Reads a byte of the controller's configuration space.
-    pub fn read(&self, reg: u8) -> u8
+    pub(crate) fn read(&self, reg: u8) -> u8
         ensures { result ≡ lock_read self.now reg }
     {
         match reg {
@@ -208,61 +200,6 @@ impl Locks {
             0x9e => self.esmramc.bits(),
             0x50 => self.ext_tseg,
             _ => 0,
-        }
-    }
-
-    /// Whether a byte of the access lies past RAM.
-    #[tactic(auto, using(crate::proofs::Reach::past))]
-    fn is_past_memory(&self, addr: u32, width: u8) -> bool
-        requires { 0 < width }
-        ensures value { result ≡ has_byte (nat_le self.now.low_memory) addr width }
-        ensures within { result ≡ false → addr + width ≤ 2 ^ 31 }
-    {
-        u64::from(self.low_memory) < end_of(addr, width)
-    }
-
-    /// Whether a byte of the access lies in the default area, and that is locked.
-    #[tactic(auto, using(crate::proofs::Reach::in_default))]
-    fn is_in_default(&self, addr: u32, width: u8) -> bool
-        requires { 0 < width }
-        ensures { result ≡ has_byte (default_byte self.now) addr width }
-    {
-        self.f_smbase.contains(FSmbase::LCK) && meets(addr, width, 0x30000, 0x50000)
-    }
-
-    /// Whether a byte of the access lies in TSEG, and that is locked.
-    #[tactic(auto, using(crate::proofs::Reach::in_tseg))]
-    fn is_in_tseg(&self, addr: u32, width: u8) -> bool
-        requires { 0 < width }
-        ensures { result ≡ has_byte (tseg_byte self.now) addr width }
-    {
-        let first = self.low_memory - tseg_mib(self.ext_tseg, self.esmramc) * 0x100000;
-        self.smram.contains(Smram::LOCKED) && meets(addr, width, first, self.low_memory)
-    }
-
-    #[tactic(auto, using(crate::proofs::Reach::hole_parts))]
-    fn has_hidden_byte(&self, in_smm: bool, addr: u32, width: u8) -> bool
-        requires { 0 < width }
-        ensures value { result ≡ is_hole self.now in_smm addr width }
-        ensures within { result ≡ false → addr + width ≤ 2 ^ 31 }
-    {
-        self.is_past_memory(addr, width)
-            || !in_smm && (self.is_in_default(addr, width) || self.is_in_tseg(addr, width))
-    }
-
-    /// What an access finds that is made at `addr`, in SMM or outside. `width` is in bytes.
-    #[tactic(auto, using(crate::proofs::Reach::hole_bytes))]
-    pub fn open_to(&self, in_smm: bool, addr: u32, width: u8) -> Touch
-        requires { IsWidth width }
-        ensures hole { (result ≡ Touch.Hole) ↔ (is_hole self.now in_smm addr width ≡ true) }
-        ensures ram { (result ≡ Touch.Ram) ↔ (is_hole self.now in_smm addr width ≡ false) }
-        ensures byte { (result ≡ Touch.Hole) ↔ HidesSome self.now in_smm addr width }
-        ensures within { result ≡ Touch.Ram → addr + width ≤ 2 ^ 31 }
-    {
-        if self.has_hidden_byte(in_smm, addr, width) {
-            Touch::Hole
-        } else {
-            Touch::Ram
         }
     }
 }

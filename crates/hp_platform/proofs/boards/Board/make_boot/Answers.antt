@@ -8,7 +8,7 @@ use Rattle.hp_monarch.specs.Session.{Session}
 use Rattle.hp_model.specs.Boot.{is_booting}
 use Rattle.hp_model.specs.Step.{after}
 use Rattle.hp_platform.specs.Board.{Board, Shows}
-use Rattle.hp_platform.proofs.Making.{boot_made}
+use Rattle.hp_platform.proofs.Shown.{boot_made}
 use Rattle.hp_platform.proofs.Leading.{ready_boot}
 use Rattle.hp_platform.proofs.boards.Board.make_boot.Goals as goal
 

@@ -1,11 +1,10 @@
 -- A step that is no row.
-use Rattle.std.proofs.Common.{◌≡◌, true, None, sym, subst, ◌∙◌, ap, refl}
-use Rattle.hp_model.specs.Boot.{is_handed}
+use Rattle.std.proofs.Common.{sym, subst, ◌∙◌, ap, refl}
 use Rattle.hp_model.specs.Step.{after, effect_of}
 use Rattle.hp_monarch.specs.Session.{Session}
 use Rattle.hp_platform.specs.Board.{Board, IsOther, Shows}
 use Rattle.hp_platform.proofs.Leading.{effect_keeps}
-use Rattle.hp_platform.proofs.Making.{plain_made, told_layout, told_monarch}
+use Rattle.hp_platform.proofs.Shown.{plain_made, told_layout, told_monarch}
 use Rattle.hp_platform.proofs.boards.Board.make_plain.Goals as goal
 
 pub returns-clause-state : goal.returns-clause-state

@@ -10,7 +10,7 @@ use Rattle.hp_monarch.specs.Session.{Session}
 use Rattle.hp_smm.specs.Rows.{row_for, seat_for}
 use Rattle.hp_platform.specs.Board.{Board, IsRow, Shows}
 use Rattle.hp_platform.proofs.Leading.{ready_row}
-use Rattle.hp_platform.proofs.Making.{row_made}
+use Rattle.hp_platform.proofs.Shown.{row_made}
 use Rattle.hp_platform.proofs.Standing.{marked_in_smm, want-is}
 use Rattle.hp_platform.proofs.boards.Board.make_row.Goals as goal
 

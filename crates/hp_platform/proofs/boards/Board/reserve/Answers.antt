@@ -1,7 +1,7 @@
 -- Room alone was taken.
 use Rattle.std.proofs.Common.{sym, subst}
 use Rattle.hp_platform.specs.Board.{Board, Shows}
-use Rattle.hp_platform.proofs.Making.{same_shown}
+use Rattle.hp_platform.proofs.Shown.{same_shown}
 use Rattle.hp_platform.proofs.boards.Board.reserve.Goals as goal
 
 pub returns-clause-unchanged : goal.returns-clause-unchanged

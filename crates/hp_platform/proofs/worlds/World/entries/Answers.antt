@@ -7,4 +7,4 @@ use Rattle.hp_platform.proofs.worlds.World.entries.Goals as goal
 pub returns-clause-safe : goal.returns-clause-safe
 returns-clause-safe g c =
     subst (λ (w : World). IsSafe w.platform w.entries) c.self.view_is
-    (c.runs_are_safe.ensures c.self.inside.board.platform c.self.inside.entries.items c.self.invariant.replay.state c.self.invariant.fit c.self.invariant.replay.run)
+    (c.runs_are_safe.ensures c.self.inside.live.platform c.self.inside.entries.items c.self.inside.live.state c.self.invariant.fit c.self.invariant.replay)

@@ -8,6 +8,6 @@ pub returns : goal.returns
 returns g c =
     subst (λ (w : World). IsSound w) c.self.view_is (record {
       fit = c.self.invariant.fit;
-      run = subst (λ (o : Option State). IsSome o) (sym c.self.invariant.replay.run) refl;
+      run = subst (λ (o : Option State). IsSome o) (sym c.self.invariant.replay) refl;
       noted = c.self.invariant.noted;
     })
