@@ -35,5 +35,5 @@ returns g c =
     let empty : into_iter_items at.kind-iterator ≡ [] = none_left _ (sym at.invariant.left ∙ none.0) in
     c.new.ensures.voices ∙ sym (append-nil _)
     ∙ ap (λ (kinds : List VoiceKind). all_tell g.A.Agent.voice at.places.items ++ told_by c.args.p.now kinds (map g.A.Agent.voice (into_iter_items at.left))) (sym empty) ∙ at.invariant.tell
-    ∙ ap (λ (kinds : List VoiceKind). told_by c.args.p.now kinds (map g.A.Agent.voice (into_iter_items c.into_iter.result))) c.into_iter-kind-iterator.ensures.into_iter_gives.0
-    ∙ ap (λ hs. told_by c.args.p.now c.args.kinds.items (map g.A.Agent.voice hs)) c.into_iter.ensures.items
+    ∙ ap (λ (kinds : List VoiceKind). told_by c.args.p.now kinds (map g.A.Agent.voice (into_iter_items c.into_iter-left.result))) c.into_iter-kind-iterator.ensures.into_iter_gives.0
+    ∙ ap (λ hs. told_by c.args.p.now c.args.kinds.items (map g.A.Agent.voice hs)) c.into_iter-left.ensures.rest

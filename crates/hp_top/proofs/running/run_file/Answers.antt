@@ -15,10 +15,10 @@ pub returns-clause-all : goal.returns-clause-all
 returns-clause-all g c =
     subst (λ (f : File). IfOk c.run_voices.result (λ fact. IsWritten f (told_of f (map g.A.Agent.voice c.args.handed.items)) fact (g.K.Sink.held c.args.out.now) (g.K.Sink.held c.run_voices.new.out)))
     c.take_voices-rest.ensures
-    (IfOk-weaker c.run_voices.result _ _ (λ fact. written_rest c.take_voices-rest.kinds.items c.take_voices-rest.rest _ fact _ _) c.run_voices.ensures.all)
+    (IfOk-weaker c.run_voices.result _ _ (λ fact. written_rest c.take_voices-rest.result.1.items c.take_voices-rest.result.0 _ fact _ _) c.run_voices.ensures.all)
 
 pub returns-clause-part : goal.returns-clause-part
 returns-clause-part g c =
     subst (λ (f : File). OnErr c.run_voices.result (IsCut f (told_of f (map g.A.Agent.voice c.args.handed.items)) (g.K.Sink.held c.args.out.now) (g.K.Sink.held c.run_voices.new.out)))
     c.take_voices-rest.ensures
-    (on_err_weaker c.run_voices.result (cut_rest c.take_voices-rest.kinds.items c.take_voices-rest.rest _ _ _) c.run_voices.ensures.part)
+    (on_err_weaker c.run_voices.result (cut_rest c.take_voices-rest.result.1.items c.take_voices-rest.result.0 _ _ _) c.run_voices.ensures.part)
