@@ -1,5 +1,5 @@
 -- The parts of a scheduled run, one after another.
-use Rattle.std.proofs.Common.{◌≡◌, ℕ, suc, ◌+◌, ◌-◌, ◌<◌, ◌≤◌, List, [], ◌∷◌, ◌++◌, length, Option, refl, sym, ◌∙◌, ap, subst, append_assoc, length-append, eq-eqb, ◌≢◌, arith}
+use Rattle.std.proofs.Common.{◌≡◌, ℕ, suc, ◌+◌, ◌-◌, ◌<◌, ◌≤◌, List, [], ◌∷◌, ◌++◌, Option, refl, sym, ◌∙◌, ap, subst, append_assoc, length-append, eq-eqb, ◌≢◌, arith}
 use Rattle.std.proofs.lemmas.Bool.{ne_eqb}
 use Rattle.std.proofs.lemmas.List.{append-nil}
 use Rattle.std.specs.Io.KnownBytes.{Appends}
@@ -14,7 +14,7 @@ use Rattle.hp_model.specs.Schedule.{Scene, Made, both_make, act, act_all}
 use Rattle.hp_model.specs.Text.{line_text, lines_text}
 use Rattle.hp_model.proofs.Agreeing.{some_voices, some_agree}
 use Rattle.hp_platform.specs.declared.worlds.Turn.TheVariants as turn
-use Rattle.hp_platform.specs.Carrying.{AgreesWith, IsMadeOf, Leads}
+use Rattle.hp_platform.specs.Carrying.{AgreesWith, Leads}
 use Rattle.hp_platform.specs.World.{World}
 use Rattle.hp_top.specs.Worlds.{Shows, Takes}
 use Rattle.hp_top.specs.Sent.{HoldsFront}

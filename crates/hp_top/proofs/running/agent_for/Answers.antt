@@ -1,5 +1,5 @@
 -- The next of those that are handed in, or one of the kind.
-use Rattle.std.proofs.Common.{◌≡◌, List, ◌∷◌, Option, Some, None, map, sym, ap, ◌∙◌}
+use Rattle.std.proofs.Common.{◌∷◌, Option, Some, None, map, sym, ap, ◌∙◌}
 use Rattle.std.proofs.lemmas.Result.{IfOk-weaker}
 use Rattle.std.specs.Vec.Iter.{into_iter_items}
 use Rattle.hp_model.specs.Voices as model

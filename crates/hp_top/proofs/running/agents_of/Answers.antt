@@ -3,7 +3,6 @@ use Rattle.std.proofs.Common.{◌≡◌, ◌∷◌, [], ◌++◌, List, length, 
 use Rattle.std.proofs.lemmas.List.{append-nil}
 use Rattle.std.specs.Vec.Iter.{into_iter_items}
 use Rattle.hp_model.specs.declared.files.VoiceKind.{VoiceKind}
-use Rattle.hp_model.specs.Voices as model
 use Rattle.hp_model.specs.Voices.{told_by}
 use Rattle.hp_agent.specs.Kinds.{all_tell}
 use Rattle.hp_top.proofs.Starting.{told_more}

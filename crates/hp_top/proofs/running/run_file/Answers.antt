@@ -2,7 +2,7 @@
 use Rattle.std.proofs.Common.{map, sym, subst, IfOk, OnErr}
 use Rattle.std.proofs.lemmas.Result.{IfOk-weaker, on_err_weaker}
 use Rattle.hp_model.specs.declared.files.File.{File}
-use Rattle.hp_model.specs.Voices.{told_by, told_of}
+use Rattle.hp_model.specs.Voices.{told_of}
 use Rattle.hp_config.specs.Sound.{IsSound}
 use Rattle.hp_top.specs.Answers.{IsWritten, IsCut}
 use Rattle.hp_top.proofs.Booting.{written_rest, cut_rest}
