@@ -12,9 +12,9 @@ ghost use Rattle.hp_model.specs.Schedule.{booted, boot_fact};
 ghost use Rattle.hp_model.specs.Voices.{Voice};
 ghost use Rattle.hp_boot.specs.Ending.{hands_over, refusal_of, end_of, StopsAt};
 
-/// On each platform that fits, whatever voices its processors have, the boot is over after its 27 turns, 29 with a TSEG of 48 MiB, with the fact that the platform says, or
-/// handed over with all supported features requested. So a platform is handed over that is modern, whose default area can be
-/// locked, whose TSEG can have its size and whose features negotiate.
+/// On each platform that fits, whatever voices its processors have, the boot is over after its 27 turns, 29 with a TSEG of 48 MiB, with
+/// the fact that the platform says, or handed over with all supported features requested. So a platform is handed over that is modern,
+/// whose default area can be locked, whose TSEG can have its size and whose features negotiate.
 #[tactic(auto, using(crate::proofs::Ends::ends))]
 pub fn boot_ends()
     ensures stage { (p : Platform) (vs : List Voice) → IsFit p → (booted p vs).scene.state.stage ≡ end_of p }

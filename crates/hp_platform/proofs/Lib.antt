@@ -7,3 +7,4 @@ pub mod Stepping
 pub mod Turning
 pub mod Living
 pub mod Telling
+pub mod Carrying

@@ -29,22 +29,22 @@ use Rattle.hp_platform.proofs.Stepping.{asks_is, makes_is}
 use Rattle.hp_platform.proofs.Turning.{accepted, run_more}
 
 -- told voices
-told-is : (vs : List Voice) (k : ℕ) → get_or (map (λ v. Some v) vs) k (Some silent) ≡ Some (slice_index_or vs k silent)
+pub told-is : (vs : List Voice) (k : ℕ) → get_or (map (λ v. Some v) vs) k (Some silent) ≡ Some (slice_index_or vs k silent)
 told-is [] k = refl
 told-is (v ∷ vs) zero = refl
 told-is (v ∷ vs) (suc k) = told-is vs k
 
-map-set : (vs : List Voice) (k : ℕ) (v : Voice) → slice_set (map (λ u. Some u) vs) k (Some v) ≡ map (λ u. Some u) (slice_set vs k v)
+pub map-set : (vs : List Voice) (k : ℕ) (v : Voice) → slice_set (map (λ u. Some u) vs) k (Some v) ≡ map (λ u. Some u) (slice_set vs k v)
 map-set [] k v = refl
 map-set (x ∷ vs) zero v = refl
 map-set (x ∷ vs) (suc k) v = ap (λ (us : List (Option Voice)). Some x ∷ us) (map-set vs k v)
 
-without-is : (o : Option ℕ) (vs : List Voice) → without_agent o (map (λ u. Some u) vs) ≡ map (λ u. Some u) (without_voice o vs)
+pub without-is : (o : Option ℕ) (vs : List Voice) → without_agent o (map (λ u. Some u) vs) ≡ map (λ u. Some u) (without_voice o vs)
 without-is None vs = refl
 without-is (Some k) vs = map-set vs k silent
 
 -- a step that was made is one
-step_is : (p : Platform) (s : State) (x : Event) (t : After) → step p s x ≡ Some t → is_step p s x ≡ true
+pub step_is : (p : Platform) (s : State) (x : Event) (t : After) → step p s x ≡ Some t → is_step p s x ≡ true
 unfolding step
 step_is p s x t e = by (is_step p s x) e
   where

@@ -1,4 +1,5 @@
 pub mod Agents
 pub mod Board
+pub mod Carrying
 pub mod Live
 pub mod World

@@ -2,13 +2,15 @@
 
 ghost use Rattle.std.specs.Prelude.{◌≡◌};
 ghost use Rattle.hp_model.specs.declared.entries.Actor.{Actor};
-ghost use Rattle.hp_model.specs.Schedule.{Scene, act};
+ghost use Rattle.hp_model.specs.Following.{Carried};
+ghost use Rattle.hp_model.specs.Schedule.{act};
 ghost use Rattle.hp_platform.specs.declared.worlds.Turn.{Turn};
-ghost use Rattle.hp_platform.specs.World.{Acts, IsTurned, StandsFor, World};
+ghost use Rattle.hp_platform.specs.Carrying.{ActsAs, Carries};
+ghost use Rattle.hp_platform.specs.World.{IsTurned, World};
 
-/// Where all agents tell their voices, a turn makes what the schedule makes of its actor, and what it leaves of voices and of
-/// answers is the schedule's.
+/// A turn makes what the schedule makes of its actor, and what it leaves of voices and of answers is the schedule's: where agents tell
+/// their voices, by these; where others tell none, by scripts in their places. A script can say whatever such an agent said.
 pub fn a_turn_is_the_schedules()
-    ensures { (old new : World) (a : Actor) (turn : Turn) (w : Scene) → StandsFor old w → new.platform ≡ old.platform
-        → IsTurned old new a turn → Acts new (act old.platform w a) turn }
+    ensures { (old new : World) (a : Actor) (turn : Turn) (c : Carried) → Carries old c → new.platform ≡ old.platform
+        → IsTurned old new a turn → ActsAs new c (λ w. act old.platform w a) turn }
 {}

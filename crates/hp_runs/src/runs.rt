@@ -26,7 +26,7 @@ fn words_of(alloc: Global, words: &str) -> Result<Vec<String>, AllocError> {
     Ok(all)
 }
 
-/// Runs the top call with these words over these bytes.
+/// Runs the top call with these words over these bytes. No agent is handed in.
 pub fn run(alloc: Global, words: &str, bytes: Vec<u8>, fails: Fails) -> Result<Ran, AllocError> {
     let words = words_of(alloc, words)?;
     let mut reads = Vec::new(alloc);
@@ -38,7 +38,7 @@ pub fn run(alloc: Global, words: &str, bytes: Vec<u8>, fails: Fails) -> Result<R
     }
     let mut src = MemSource::new(bytes, reads);
     let mut out = MemSink::new(Vec::new(alloc), writes);
-    let status = top(alloc, words.as_slice(), &mut src, &mut out);
+    let status = top(alloc, words.as_slice(), &mut src, &mut out, Vec::new(alloc));
     let text = String::from_utf8_lossy(alloc, out.held())?;
     Ok(Ran { status, text })
 }

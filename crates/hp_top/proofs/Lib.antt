@@ -1,3 +1,4 @@
+pub mod Booting
 pub mod Completing
 pub mod Rising
 pub mod Schedule

@@ -7,19 +7,18 @@ use Rattle.hp_model.specs.declared.entries.Entry.{Entry}
 use Rattle.hp_model.specs.declared.files.File.{File}
 use Rattle.hp_model.specs.declared.files.VoiceKind.{VoiceKind}
 use Rattle.hp_model.specs.declared.outcomes.BootFact.{BootFact}
-use Rattle.hp_model.specs.Schedule.{Scene, Made, both_make, act, act_all, hosts_of, cpus_of, actors_of, turns_from, scene_start, boot_turns, booted, boot_fact, scheduled}
-use Rattle.hp_model.specs.Boot.{fact_of}
-use Rattle.hp_model.specs.Runs.{run}
-use Rattle.hp_model.specs.State.{State}
-use Rattle.hp_model.specs.Text.{lines_text, end_text, head_text}
+use Rattle.hp_model.specs.Following.{Carried}
+use Rattle.hp_model.specs.Schedule.{Scene, Made, both_make, act, act_all, hosts_of, cpus_of, actors_of, turns_from, booted, boot_fact, scheduled}
+use Rattle.hp_model.specs.Voices.{Voice}
+use Rattle.hp_model.specs.Text.{lines_text, end_text, head_text, trace_text}
 use Rattle.hp_top.proofs.Sending.{sent_none, sent_more, sent_all, front_part}
-use Rattle.hp_top.proofs.Turning.{lines_text-append, both-assoc, act_all-append, act_all-one, sends_both, sends_empty, front_both, front_more}
+use Rattle.hp_top.proofs.Turning.{lines_text-append, both-assoc, act_all-append, act_all-one, then_make, sends_same, sends_both, sends_empty, cuts_same, cuts_both, cuts_more}
 use Rattle.hp_platform.specs.World.{World}
 use Rattle.hp_top.specs.Worlds.{StandsFor}
 use Rattle.hp_top.specs.Sent.{IsSent, HoldsFront}
-use Rattle.hp_top.specs.Turns.{Sends, run_text, boot_text, text_by, output, boot_left, turns_text, with_voices}
+use Rattle.hp_top.specs.Turns.{Sends, Cuts, lines_of, run_text, boot_text, text_by, output, turns_text, with_voices}
 
-module _ (f : File) (turn : ℕ) (w : Scene) (hosts : List Actor) (same : hosts ≡ hosts_of f turn) where
+module _ (f : File) (turn : ℕ) (c : Carried) (hosts : List Actor) (same : hosts ≡ hosts_of f turn) where
   stalled : cpus_of f turn ≡ [] → hosts ≡ actors_of f turn
   unfolding actors_of
   stalled e = sym (append-nil hosts) ∙ ap (λ (xs : List Actor). xs ++ []) same ∙ ap (λ (xs : List Actor). hosts_of f turn ++ xs) (sym e)
@@ -28,39 +27,38 @@ module _ (f : File) (turn : ℕ) (w : Scene) (hosts : List Actor) (same : hosts 
   unfolding actors_of
   free x e = ap (λ (xs : List Actor). xs ++ (x ∷ [])) same ∙ ap (λ (xs : List Actor). hosts_of f turn ++ xs) (sym e)
 
-  module _ (mid : World) (made : ℕ) (a b : Option (List ℕ)) (first : Sends f.platform mid (act_all f.platform w hosts) made a b) where
+  module _ (mid : World) (made : ℕ) (a b : Option (List ℕ)) (first : Sends f.platform mid c (λ w. act_all f.platform w hosts) made a b) where
     -- the host's events alone, where the processor is stalled
-    pub turn_stalled : cpus_of f turn ≡ [] → Sends f.platform mid (act_all f.platform w (actors_of f turn)) made a b
-    turn_stalled e = subst (λ (xs : List Actor). Sends f.platform mid (act_all f.platform w xs) made a b) (stalled e) first
+    pub turn_stalled : cpus_of f turn ≡ [] → Sends f.platform mid c (λ w. act_all f.platform w (actors_of f turn)) made a b
+    turn_stalled e = subst (λ (xs : List Actor). Sends f.platform mid c (λ w. act_all f.platform w xs) made a b) (stalled e) first
 
-    module _ (c : Option (List ℕ)) (x : Actor) (e : cpus_of f turn ≡ x ∷ []) where
-      both : both_make (act_all f.platform w hosts) (act f.platform (act_all f.platform w hosts).scene x) ≡ act_all f.platform w (actors_of f turn)
-      both = ap (both_make (act_all f.platform w hosts)) (sym (act_all-one f.platform (act_all f.platform w hosts).scene x))
+    module _ (d : Option (List ℕ)) (x : Actor) (e : cpus_of f turn ≡ x ∷ []) where
+      both : (w : Scene) → both_make (act_all f.platform w hosts) (act f.platform (act_all f.platform w hosts).scene x) ≡ act_all f.platform w (actors_of f turn)
+      both w =
+          ap (both_make (act_all f.platform w hosts)) (sym (act_all-one f.platform (act_all f.platform w hosts).scene x))
           ∙ sym (act_all-append f.platform hosts (x ∷ []) w) ∙ ap (act_all f.platform w) (free x e)
 
       -- and then the processor
-      pub turn_both : (new : World) (count : ℕ) → ((v : Scene) → StandsFor f.platform mid v → Sends f.platform new (act f.platform v x) count b c)
-          → Sends f.platform new (act_all f.platform w (actors_of f turn)) (made + count) a c
+      pub turn_both : (new : World) (count : ℕ) → ((v : Carried) → StandsFor f.platform mid v → Sends f.platform new v (λ w. act f.platform w x) count b d)
+          → Sends f.platform new c (λ w. act_all f.platform w (actors_of f turn)) (made + count) a d
       turn_both new count next =
-          subst (λ (m : Made). Sends f.platform new m (made + count) a c) both
-          (sends_both f.platform mid new (act_all f.platform w hosts) (act f.platform (act_all f.platform w hosts).scene x) made count a b c first
-          (next (act_all f.platform w hosts).scene first.scene))
+          sends_same f.platform new c (then_make (λ w. act_all f.platform w hosts) (λ w. act f.platform w x)) (λ w. act_all f.platform w (actors_of f turn)) (made + count) a d both
+          (sends_both f.platform mid c (λ w. act_all f.platform w hosts) (λ w. act f.platform w x) made a b d first new count next)
 
       -- or it stopped
-      pub turn_front : ((v : Scene) → StandsFor f.platform mid v → HoldsFront b c (lines_text (act f.platform v x).entries))
-          → HoldsFront a c (lines_text (act_all f.platform w (actors_of f turn)).entries)
-      turn_front next =
-          subst (λ (m : Made). HoldsFront a c (lines_text m.entries)) both
-          (front_both f.platform mid (act_all f.platform w hosts) (act f.platform (act_all f.platform w hosts).scene x) made a b c first
-          (next (act_all f.platform w hosts).scene first.scene))
+      pub turn_cuts : ((v : Carried) → StandsFor f.platform mid v → Cuts v (lines_of (λ w. act f.platform w x)) b d) → Cuts c (lines_of (λ w. act_all f.platform w (actors_of f turn))) a d
+      turn_cuts next =
+          cuts_same c (lines_of (then_make (λ w. act_all f.platform w hosts) (λ w. act f.platform w x))) (lines_of (λ w. act_all f.platform w (actors_of f turn))) a d
+          (λ w. ap (λ (m : Made). lines_text m.entries) (both w))
+          (cuts_both f.platform mid c (λ w. act_all f.platform w hosts) (λ w. act f.platform w x) made a b d first next)
 
   -- or one of the host's events did
-  pub turn_hosts_front : (a b : Option (List ℕ)) → HoldsFront a b (lines_text (act_all f.platform w hosts).entries) → HoldsFront a b (lines_text (act_all f.platform w (actors_of f turn)).entries)
+  pub turn_hosts_cuts : (a b : Option (List ℕ)) → Cuts c (lines_of (λ w. act_all f.platform w hosts)) a b → Cuts c (lines_of (λ w. act_all f.platform w (actors_of f turn))) a b
   unfolding actors_of
-  turn_hosts_front a b part =
-      subst (λ (m : Made). HoldsFront a b (lines_text m.entries))
-      (sym (act_all-append f.platform hosts (cpus_of f turn) w) ∙ ap (λ (xs : List Actor). act_all f.platform w (xs ++ cpus_of f turn)) same)
-      (front_more (act_all f.platform w hosts) (act_all f.platform (act_all f.platform w hosts).scene (cpus_of f turn)) a b part)
+  turn_hosts_cuts a b cut =
+      cuts_same c (lines_of (then_make (λ w. act_all f.platform w hosts) (λ w. act_all f.platform w (cpus_of f turn)))) (lines_of (λ w. act_all f.platform w (actors_of f turn))) a b
+      (λ w. ap (λ (m : Made). lines_text m.entries) (sym (act_all-append f.platform hosts (cpus_of f turn) w) ∙ ap (λ (xs : List Actor). act_all f.platform w (xs ++ cpus_of f turn)) same))
+      (cuts_more c (λ w. act_all f.platform w hosts) (λ w. act_all f.platform w (cpus_of f turn)) a b cut)
 
 -- some turns and then the others
 turns-split : (f : File) (n m t : ℕ) (w : Scene) → turns_from f (n + m) t w ≡ both_make (turns_from f n t w) (turns_from f m (t + n) (turns_from f n t w).scene)
@@ -88,51 +86,36 @@ turns-first : (f : File) (m t : ℕ) (w : Scene) → turns_from f (suc m) t w �
 unfolding turns_from
 turns-first f m t w = refl
 
-pub turns_start : (f : File) (w : Scene) (seen : World) (a : Option (List ℕ)) → StandsFor f.platform seen w → Sends f.platform seen (turns_from f 0 0 w) 0 a a
+pub turns_start : (f : File) (c : Carried) (seen : World) (a : Option (List ℕ)) → StandsFor f.platform seen c → Sends f.platform seen c (λ w. turns_from f 0 0 w) 0 a a
 unfolding turns_from act_all
-turns_start f w seen a shows = sends_empty f.platform w seen a shows
+turns_start f c seen a shows = sends_empty f.platform c seen a shows
 
-module _ (f : File) (turn : ℕ) (w : Scene) (mid : World) (made : ℕ) (a b c : Option (List ℕ)) (first : Sends f.platform mid (turns_from f turn 0 w) made a b) where
+module _ (f : File) (turn : ℕ) (c : Carried) (mid : World) (made : ℕ) (a b d : Option (List ℕ)) (first : Sends f.platform mid c (λ w. turns_from f turn 0 w) made a b) where
   -- a turn more
-  pub turns_more : (new : World) (count : ℕ) → ((v : Scene) → StandsFor f.platform mid v → Sends f.platform new (act_all f.platform v (actors_of f turn)) count b c)
-      → Sends f.platform new (turns_from f (turn + 1) 0 w) (made + count) a c
+  pub turns_more : (new : World) (count : ℕ) → ((v : Carried) → StandsFor f.platform mid v → Sends f.platform new v (λ w. act_all f.platform w (actors_of f turn)) count b d)
+      → Sends f.platform new c (λ w. turns_from f (turn + 1) 0 w) (made + count) a d
   turns_more new count next =
       let here : 0 + turn ≡ turn = omega arith in
-      subst (λ (m : Made). Sends f.platform new m (made + count) a c)
-      (ap (both_make (turns_from f turn 0 w)) (sym (turns-one f turn (turns_from f turn 0 w).scene) ∙ ap (λ (u : ℕ). turns_from f 1 u (turns_from f turn 0 w).scene) (sym here)) ∙ sym (turns-split f turn 1 0 w))
-      (sends_both f.platform mid new (turns_from f turn 0 w) (act_all f.platform (turns_from f turn 0 w).scene (actors_of f turn)) made count a b c first
-      (next (turns_from f turn 0 w).scene first.scene))
+      sends_same f.platform new c (then_make (λ w. turns_from f turn 0 w) (λ w. act_all f.platform w (actors_of f turn))) (λ w. turns_from f (turn + 1) 0 w) (made + count) a d
+      (λ w. ap (both_make (turns_from f turn 0 w)) (sym (turns-one f turn (turns_from f turn 0 w).scene) ∙ ap (λ (u : ℕ). turns_from f 1 u (turns_from f turn 0 w).scene) (sym here)) ∙ sym (turns-split f turn 1 0 w))
+      (sends_both f.platform mid c (λ w. turns_from f turn 0 w) (λ w. act_all f.platform w (actors_of f turn)) made a b d first new count next)
 
   -- or it stopped
-  pub turns_front : (all : ℕ) → turn < all → ((v : Scene) → StandsFor f.platform mid v → HoldsFront b c (lines_text (act_all f.platform v (actors_of f turn)).entries))
-      → HoldsFront a c (lines_text (turns_from f all 0 w).entries)
-  turns_front all within next =
+  pub turns_cuts : (all : ℕ) → turn < all → ((v : Carried) → StandsFor f.platform mid v → Cuts v (lines_of (λ w. act_all f.platform w (actors_of f turn))) b d)
+      → Cuts c (lines_of (λ w. turns_from f all 0 w)) a d
+  turns_cuts all within next =
       let here : 0 + turn ≡ turn = omega arith in
       let left : turn + suc (all - (turn + 1)) ≡ all = omega (arith, within) in
-      subst (λ (m : Made). HoldsFront a c (lines_text m.entries))
+      cuts_same c (lines_of (then_make (λ w. turns_from f turn 0 w) (λ w. turns_from f (suc (all - (turn + 1))) turn w))) (lines_of (λ w. turns_from f all 0 w)) a d
+      (λ w. ap (λ (m : Made). lines_text m.entries)
       (ap (λ (u : ℕ). both_make (turns_from f turn 0 w) (turns_from f (suc (all - (turn + 1))) u (turns_from f turn 0 w).scene)) (sym here)
-      ∙ sym (turns-split f turn (suc (all - (turn + 1))) 0 w) ∙ ap (λ (k : ℕ). turns_from f k 0 w) left)
-      (front_both f.platform mid (turns_from f turn 0 w) (turns_from f (suc (all - (turn + 1))) turn (turns_from f turn 0 w).scene) made a b c first
-      (subst (λ (m : Made). HoldsFront b c (lines_text m.entries)) (sym (turns-first f (all - (turn + 1)) turn (turns_from f turn 0 w).scene))
-      (front_more (act_all f.platform (turns_from f turn 0 w).scene (actors_of f turn))
-      (turns_from f (all - (turn + 1)) (turn + 1) (act_all f.platform (turns_from f turn 0 w).scene (actors_of f turn)).scene) b c (next (turns_from f turn 0 w).scene first.scene))))
+      ∙ sym (turns-split f turn (suc (all - (turn + 1))) 0 w) ∙ ap (λ (k : ℕ). turns_from f k 0 w) left))
+      (cuts_both f.platform mid c (λ w. turns_from f turn 0 w) (λ w. turns_from f (suc (all - (turn + 1))) turn w) made a b d first
+      (λ v shows. cuts_same v (lines_of (then_make (λ w. act_all f.platform w (actors_of f turn)) (λ w. turns_from f (all - (turn + 1)) (turn + 1) w)))
+      (lines_of (λ w. turns_from f (suc (all - (turn + 1))) turn w)) b d (λ w. ap (λ (m : Made). lines_text m.entries) (sym (turns-first f (all - (turn + 1)) turn w)))
+      (cuts_more v (λ w. act_all f.platform w (actors_of f turn)) (λ w. turns_from f (all - (turn + 1)) (turn + 1) w) b d (next v shows))))
 
--- the boot is its turns
-pub booted-is : (f : File) (n : ℕ) → n ≡ boot_turns f.platform → booted f ≡ act_all f.platform (scene_start f) (boot_left n)
-unfolding booted boot_left
-booted-is f n is = ap (λ (m : ℕ). act_all f.platform (scene_start f) (boot_left m)) (sym is)
-
-pub sends_boot : (f : File) (n : ℕ) → n ≡ boot_turns f.platform → (seen : World) (made : ℕ) (a b : Option (List ℕ)) →
-    Sends f.platform seen (act_all f.platform (scene_start f) (boot_left n)) made a b → Sends f.platform seen (booted f) made a b
-sends_boot f n is seen made a b sends = subst (λ (m : Made). Sends f.platform seen m made a b) (sym (booted-is f n is)) sends
-
--- the scene after it shows what refused it
-pub boot_fact-is : (f : File) (world : World) (o : Option BootFact) → StandsFor f.platform world (booted f).scene →
-    ((s : State) → run world.platform world.entries ≡ Some s → o ≡ fact_of s.stage) → o ≡ boot_fact f
-unfolding boot_fact
-boot_fact-is f world o shows is = is (booted f).scene.state shows.tells.is
-
--- no turn asks for the file's voices
+-- no turn asks for the file's own voices
 turns_rest : (kinds : List VoiceKind) (f : File) (n t : ℕ) (w : Scene) → turns_from (with_voices kinds f) n t w ≡ turns_from f n t w
 unfolding turns_from actors_of
 turns_rest kinds f zero t w = refl
@@ -140,79 +123,88 @@ turns_rest kinds f (suc n) t w =
     let made = act_all f.platform w (actors_of f t) in ap (both_make made) (turns_rest kinds f n (t + 1) made.scene)
 
 -- what is written: the header, the lines of the boot, and what follows them
-abbrev pub after_boot : Option BootFact → File → List ℕ
-after_boot None f = turns_text (length (booted f).entries) (turns_from f f.platform.turns 0 (booted f).scene)
-after_boot (Some fact) f = []
+abbrev pub after_boot : Option BootFact → File → List Voice → List ℕ
+after_boot None f vs = turns_text (length (booted f.platform vs).entries) (turns_from f f.platform.turns 0 (booted f.platform vs).scene)
+after_boot (Some fact) f vs = []
 
-pub turns-after : (kinds : List VoiceKind) (f : File) (made : ℕ) → length (booted (with_voices kinds f)).entries ≡ made →
-    turns_text made (turns_from f f.platform.turns 0 (booted (with_voices kinds f)).scene) ≡ after_boot None (with_voices kinds f)
-turns-after kinds f made count =
-    ap (turns_text made) (sym (turns_rest kinds f f.platform.turns 0 (booted (with_voices kinds f)).scene))
-    ∙ ap (λ (n : ℕ). turns_text n (turns_from (with_voices kinds f) f.platform.turns 0 (booted (with_voices kinds f)).scene)) (sym count)
-
-run_parts : (f : File) → run_text f ≡ head_text f.platform ++ (lines_text (booted f).entries ++ after_boot None f)
+run_parts : (f : File) (vs : List Voice) → run_text f vs ≡ head_text f.platform ++ (lines_text (booted f.platform vs).entries ++ after_boot None f vs)
 unfolding run_text scheduled
-run_parts f =
+run_parts f vs =
     ap (λ (t : List ℕ). head_text f.platform ++ t)
     (ap (λ (t : List ℕ). t ++ end_text (length (es ++ gs))) (lines_text-append es gs)
     ∙ append_assoc (lines_text es) (lines_text gs) (end_text (length (es ++ gs)))
     ∙ ap (λ (n : ℕ). lines_text es ++ (lines_text gs ++ end_text n)) (length-append es gs))
   where
     es : List Entry
-    es = (booted f).entries
+    es = (booted f.platform vs).entries
 
     gs : List Entry
-    gs = (turns_from f f.platform.turns 0 (booted f).scene).entries
+    gs = (turns_from f f.platform.turns 0 (booted f.platform vs).scene).entries
 
-boot_parts : (f : File) → boot_text f ≡ head_text f.platform ++ (lines_text (booted f).entries ++ [])
+boot_parts : (f : File) (vs : List Voice) → boot_text f vs ≡ head_text f.platform ++ (lines_text (booted f.platform vs).entries ++ [])
 unfolding boot_text
-boot_parts f = ap (λ (t : List ℕ). head_text f.platform ++ t) (sym (append-nil (lines_text (booted f).entries)))
+boot_parts f vs = ap (λ (t : List ℕ). head_text f.platform ++ t) (sym (append-nil (lines_text (booted f.platform vs).entries)))
 
-output_parts : (f : File) → output f ≡ head_text f.platform ++ (lines_text (booted f).entries ++ after_boot (boot_fact f) f)
+output_parts : (f : File) (vs : List Voice) → output f vs ≡ head_text f.platform ++ (lines_text (booted f.platform vs).entries ++ after_boot (boot_fact f.platform vs) f vs)
 unfolding output
-output_parts f = by (boot_fact f)
+output_parts f vs = by (boot_fact f.platform vs)
   where
-    by : (o : Option BootFact) → text_by o f ≡ head_text f.platform ++ (lines_text (booted f).entries ++ after_boot o f)
-    by None = run_parts f
-    by (Some fact) = boot_parts f
+    by : (o : Option BootFact) → text_by o f vs ≡ head_text f.platform ++ (lines_text (booted f.platform vs).entries ++ after_boot o f vs)
+    by None = run_parts f vs
+    by (Some fact) = boot_parts f vs
 
-module _ (f : File) (a b : Option (List ℕ)) where
+-- the text of a file is that of the rest of it, by these voices
+run_rest : (kinds : List VoiceKind) (f : File) (vs : List Voice) → run_text f vs ≡ run_text (with_voices kinds f) vs
+unfolding run_text scheduled
+run_rest kinds f vs =
+    ap (λ (m : Made). trace_text f.platform ((booted f.platform vs).entries ++ m.entries)) (sym (turns_rest kinds f f.platform.turns 0 (booted f.platform vs).scene))
+
+pub text_rest : (kinds : List VoiceKind) (f : File) (vs : List Voice) (o : Option BootFact) → text_by o f vs ≡ text_by o (with_voices kinds f) vs
+unfolding boot_text
+text_rest kinds f vs None = run_rest kinds f vs
+text_rest kinds f vs (Some fact) = refl
+
+pub output_rest : (kinds : List VoiceKind) (f : File) (vs : List Voice) → output f vs ≡ output (with_voices kinds f) vs
+unfolding output
+output_rest kinds f vs = text_rest kinds f vs (boot_fact f.platform vs)
+
+module _ (f : File) (vs : List Voice) (a b : Option (List ℕ)) where
   -- the header was sent
-  head_sent : Appends a b (head_text f.platform) → IsSent a b (lines_text (booted f).entries ++ after_boot (boot_fact f) f) (output f)
+  head_sent : Appends a b (head_text f.platform) → IsSent a b (lines_text (booted f.platform vs).entries ++ after_boot (boot_fact f.platform vs) f vs) (output f vs)
   head_sent head =
-      sent_more a a b (head_text f.platform) (lines_text (booted f).entries ++ after_boot (boot_fact f) f) (output f)
-      (subst (λ (t : List ℕ). IsSent a a t (output f)) (output_parts f) (sent_none a (output f))) head
+      sent_more a a b (head_text f.platform) (lines_text (booted f.platform vs).entries ++ after_boot (boot_fact f.platform vs) f vs) (output f vs)
+      (subst (λ (t : List ℕ). IsSent a a t (output f vs)) (output_parts f vs) (sent_none a (output f vs))) head
 
-  pub head_front : HoldsFront a b (head_text f.platform) → HoldsFront a b (output f)
+  pub head_front : HoldsFront a b (head_text f.platform) → HoldsFront a b (output f vs)
   head_front part =
-      front_part a a b (head_text f.platform) (lines_text (booted f).entries ++ after_boot (boot_fact f) f) (output f)
-      (subst (λ (t : List ℕ). IsSent a a t (output f)) (output_parts f) (sent_none a (output f))) part
+      front_part a a b (head_text f.platform) (lines_text (booted f.platform vs).entries ++ after_boot (boot_fact f.platform vs) f vs) (output f vs)
+      (subst (λ (t : List ℕ). IsSent a a t (output f vs)) (output_parts f vs) (sent_none a (output f vs))) part
 
   module _ (c : Option (List ℕ)) (head : Appends a b (head_text f.platform)) where
-    pub boot_front : HoldsFront b c (lines_text (booted f).entries) → HoldsFront a c (output f)
-    boot_front part = front_part a b c (lines_text (booted f).entries) (after_boot (boot_fact f) f) (output f) (head_sent head) part
+    pub boot_front : HoldsFront b c (lines_text (booted f.platform vs).entries) → HoldsFront a c (output f vs)
+    boot_front part = front_part a b c (lines_text (booted f.platform vs).entries) (after_boot (boot_fact f.platform vs) f vs) (output f vs) (head_sent head) part
 
-    module _ (lines : Appends b c (lines_text (booted f).entries)) where
+    module _ (lines : Appends b c (lines_text (booted f.platform vs).entries)) where
       -- the boot's lines were sent too
-      boot_sent : IsSent a c (after_boot (boot_fact f) f) (output f)
-      boot_sent = sent_more a b c (lines_text (booted f).entries) (after_boot (boot_fact f) f) (output f) (head_sent head) lines
+      boot_sent : IsSent a c (after_boot (boot_fact f.platform vs) f vs) (output f vs)
+      boot_sent = sent_more a b c (lines_text (booted f.platform vs).entries) (after_boot (boot_fact f.platform vs) f vs) (output f vs) (head_sent head) lines
 
       -- that is all where the boot was refused
-      pub refused_sent : (fact : BootFact) → Some fact ≡ boot_fact f → Appends a c (output f)
-      refused_sent fact is = sent_all a c (after_boot (boot_fact f) f) (output f) boot_sent (ap (λ (o : Option BootFact). after_boot o f) (sym is))
+      pub refused_sent : (fact : BootFact) → Some fact ≡ boot_fact f.platform vs → Appends a c (output f vs)
+      refused_sent fact is = sent_all a c (after_boot (boot_fact f.platform vs) f vs) (output f vs) boot_sent (ap (λ (o : Option BootFact). after_boot o f vs) (sym is))
 
-      module _ (d : Option (List ℕ)) (rest : List ℕ) (handed : None ≡ boot_fact f) (is : rest ≡ after_boot None f) where
-        rest-is : rest ≡ after_boot (boot_fact f) f
-        rest-is = is ∙ ap (λ (o : Option BootFact). after_boot o f) handed
+      module _ (d : Option (List ℕ)) (rest : List ℕ) (handed : None ≡ boot_fact f.platform vs) (is : rest ≡ after_boot None f vs) where
+        rest-is : rest ≡ after_boot (boot_fact f.platform vs) f vs
+        rest-is = is ∙ ap (λ (o : Option BootFact). after_boot o f vs) handed
 
-        rest_sent : IsSent a c (rest ++ []) (output f)
-        rest_sent = subst (λ (t : List ℕ). IsSent a c t (output f)) (sym rest-is ∙ sym (append-nil rest)) boot_sent
+        rest_sent : IsSent a c (rest ++ []) (output f vs)
+        rest_sent = subst (λ (t : List ℕ). IsSent a c t (output f vs)) (sym rest-is ∙ sym (append-nil rest)) boot_sent
 
-        pub turns_front_sent : HoldsFront c d rest → HoldsFront a d (output f)
-        turns_front_sent part = front_part a c d rest [] (output f) rest_sent part
+        pub turns_front_sent : HoldsFront c d rest → HoldsFront a d (output f vs)
+        turns_front_sent part = front_part a c d rest [] (output f vs) rest_sent part
 
-        pub turns_sent : Appends c d rest → Appends a d (output f)
-        turns_sent all = sent_all a d [] (output f) (sent_more a c d rest [] (output f) rest_sent all) refl
+        pub turns_sent : Appends c d rest → Appends a d (output f vs)
+        turns_sent all = sent_all a d [] (output f vs) (sent_more a c d rest [] (output f vs) rest_sent all) refl
 
 -- the lines of the turns, and then the end line
 module _ (m : Made) (booted : ℕ) (a b : Option (List ℕ)) where

@@ -1,5 +1,5 @@
 -- The parts of a scheduled run, one after another.
-use Rattle.std.proofs.Common.{◌≡◌, ℕ, suc, ◌+◌, ◌-◌, ◌<◌, ◌≤◌, List, [], ◌∷◌, ◌++◌, length, Option, refl, sym, ◌∙◌, ap, subst, append_assoc, length-append, eq-eqb, ◌≢◌, arith}
+use Rattle.std.proofs.Common.{◌≡◌, ℕ, suc, ◌+◌, ◌-◌, ◌<◌, ◌≤◌, List, [], ◌∷◌, ◌++◌, Option, refl, sym, ◌∙◌, ap, subst, append_assoc, length-append, eq-eqb, ◌≢◌, arith}
 use Rattle.std.proofs.lemmas.Bool.{ne_eqb}
 use Rattle.std.proofs.lemmas.List.{append-nil}
 use Rattle.std.specs.Io.KnownBytes.{Appends}
@@ -9,14 +9,17 @@ use Rattle.hp_model.specs.declared.entries.Actor.{Actor}
 use Rattle.hp_model.specs.declared.entries.Actor.TheVariants.{Cpu}
 use Rattle.hp_model.specs.declared.files.HostEvent.{HostEvent}
 use Rattle.hp_model.specs.declared.entries.Entry.{Entry}
+use Rattle.hp_model.specs.Following.{Carried}
 use Rattle.hp_model.specs.Schedule.{Scene, Made, both_make, act, act_all}
 use Rattle.hp_model.specs.Text.{line_text, lines_text}
-use Rattle.hp_top.proofs.Sending.{sent_none, sent_more, sent_all, front_part, front_none}
+use Rattle.hp_model.proofs.Agreeing.{some_voices, some_agree}
 use Rattle.hp_platform.specs.declared.worlds.Turn.TheVariants as turn
+use Rattle.hp_platform.specs.Carrying.{AgreesWith, Leads}
 use Rattle.hp_platform.specs.World.{World}
 use Rattle.hp_top.specs.Worlds.{StandsFor, Takes}
 use Rattle.hp_top.specs.Sent.{HoldsFront}
-use Rattle.hp_top.specs.Turns.{Sends, due, past, boot_left, DoneActors}
+use Rattle.hp_top.specs.Turns.{Sends, Cuts, lines_of, due, past, boot_left, DoneActors}
+use Rattle.hp_top.proofs.Sending.{front_part, front_none}
 
 pub lines_text-append : (es fs : List Entry) → lines_text (es ++ fs) ≡ lines_text es ++ lines_text fs
 lines_text-append [] fs = refl
@@ -25,61 +28,142 @@ lines_text-append (e ∷ es) fs = ap (λ t. line_text e ++ t) (lines_text-append
 lines_text-one : (e : Entry) → lines_text (e ∷ []) ≡ line_text e
 lines_text-one e = append-nil (line_text e)
 
-module _ (p : Platform) (world : World) (m : Made) (a b : Option (List ℕ)) where
+abbrev made_of : List Entry → Scene → Made
+made_of es w = record { entries = es; scene = w }
+
+-- a scene that agrees with what is carried
+abbrev pub some_scene : Carried → Scene
+some_scene c = record { state = c.state; voices = some_voices c.voices; last = c.last }
+
+pub scene_agrees : (c : Carried) → AgreesWith c (some_scene c)
+scene_agrees c = record { state = refl; voices = some_agree c.voices; last = refl }
+
+-- one part and then another
+abbrev pub then_make : (Scene → Made) → (Scene → Made) → Scene → Made
+then_make part more w = both_make (part w) (more (part w).scene)
+
+leads_same : (c left : Carried) (part other : Scene → Made) (es : List Entry) → ((w : Scene) → part w ≡ other w) → Leads c part es left → Leads c other es left
+leads_same c left part other es same leads = record {
+  made = λ scene agrees. let m = leads.made scene agrees in record {
+    scene = m.scene;
+    agrees = m.agrees;
+    entries = ap (λ (x : Made). x.entries) (sym (same m.scene)) ∙ m.entries;
+    leaves = ap (λ (x : Made). x.scene) (sym (same m.scene)) ∙ m.leaves;
+  };
+}
+
+leads_then : (c mid left : Carried) (part more : Scene → Made) (es fs : List Entry) → Leads c part es mid → Leads mid more fs left → Leads c (then_make part more) (es ++ fs) left
+leads_then c mid left part more es fs first second = record {
+  made = λ scene agrees. let n = second.made scene agrees in let m = first.made n.scene n.agrees in record {
+    scene = m.scene;
+    agrees = m.agrees;
+    entries =
+        ap (λ (w : Scene). (part m.scene).entries ++ (more w).entries) m.leaves ∙ ap (λ (gs : List Entry). (part m.scene).entries ++ gs) n.entries
+        ∙ ap (λ (gs : List Entry). gs ++ fs) m.entries;
+    leaves = ap (λ (w : Scene). (more w).scene) m.leaves ∙ n.leaves;
+  };
+}
+
+-- nothing was sent of a text, whichever it is
+pub cuts_none : (c : Carried) (text : Scene → List ℕ) (a : Option (List ℕ)) → Cuts c text a a
+cuts_none c text a = record { scene = some_scene c; agrees = scene_agrees c; front = front_none a (text (some_scene c)) }
+
+pub cuts_same : (c : Carried) (text other : Scene → List ℕ) (a b : Option (List ℕ)) → ((w : Scene) → text w ≡ other w) → Cuts c text a b → Cuts c other a b
+cuts_same c text other a b same cut = record { scene = cut.scene; agrees = cut.agrees; front = subst (HoldsFront a b) (same cut.scene) cut.front }
+
+module _ (p : Platform) (world : World) (c : Carried) (part : Scene → Made) (a b : Option (List ℕ)) where
   -- an actor made no entry
-  pub sends_none : Takes p world m turn.Idle → Sends p world m 0 a a
+  pub sends_none : Takes p world c part turn.Idle → Sends p world c part 0 a a
   sends_none took = record {
-    scene = record { platform = took.platform; tells = took.acts.scene };
-    count = ap length took.acts.entries;
-    lines = subst (λ (es : List Entry). Appends a a (lines_text es)) (sym took.acts.entries) (Appends-nil a);
+    entries = [];
+    left = took.acts.left;
+    leads = took.acts.leads;
+    shows = record { platform = took.platform; carries = took.acts.carries };
+    count = refl;
+    lines = Appends-nil a;
   }
 
   -- or one, whose line was sent
-  pub sends_one : (e : Entry) → Takes p world m (turn.Made e) → Appends a b (line_text e) → Sends p world m 1 a b
+  pub sends_one : (e : Entry) → Takes p world c part (turn.Made e) → Appends a b (line_text e) → Sends p world c part 1 a b
   sends_one e took grown = record {
-    scene = record { platform = took.platform; tells = took.acts.scene };
-    count = ap length took.acts.entries;
-    lines = subst (λ (es : List Entry). Appends a b (lines_text es)) (sym took.acts.entries) (subst (Appends a b) (sym (lines_text-one e)) grown);
+    entries = e ∷ [];
+    left = took.acts.left;
+    leads = took.acts.leads;
+    shows = record { platform = took.platform; carries = took.acts.carries };
+    count = refl;
+    lines = subst (Appends a b) (sym (lines_text-one e)) grown;
   }
 
   -- or sent in part
-  pub front_one : (e : Entry) → Takes p world m (turn.Made e) → HoldsFront a b (line_text e) → HoldsFront a b (lines_text m.entries)
-  front_one e took part = subst (λ (es : List Entry). HoldsFront a b (lines_text es)) (sym took.acts.entries) (subst (HoldsFront a b) (sym (lines_text-one e)) part)
+  pub cuts_one : (e : Entry) → Takes p world c part (turn.Made e) → HoldsFront a b (line_text e) → Cuts c (lines_of part) a b
+  cuts_one e took cut =
+      let m = took.acts.leads.made (some_scene took.acts.left) (scene_agrees took.acts.left) in
+      record { scene = m.scene; agrees = m.agrees; front = subst (λ (es : List Entry). HoldsFront a b (lines_text es)) (sym m.entries) (subst (HoldsFront a b) (sym (lines_text-one e)) cut) }
 
-pub ruleset one_actor = (sends_none, sends_one, front_one, front_none)
-
--- one part and then another
-pub sends_both : (p : Platform) (mid new : World) (m n : Made) (j k : ℕ) (a b c : Option (List ℕ)) → Sends p mid m j a b → Sends p new n k b c → Sends p new (both_make m n) (j + k) a c
-sends_both p mid new m n j k a b c first second = record {
-  scene = second.scene;
-  count = length-append m.entries n.entries ∙ omega (arith, first.count, second.count);
-  lines = subst (Appends a c) (sym (lines_text-append m.entries n.entries)) (Appends-trans a b c (lines_text m.entries) (lines_text n.entries) first.lines second.lines);
+pub sends_same : (p : Platform) (world : World) (c : Carried) (part other : Scene → Made) (made : ℕ) (a b : Option (List ℕ)) → ((w : Scene) → part w ≡ other w) →
+    Sends p world c part made a b → Sends p world c other made a b
+sends_same p world c part other made a b same sends = record {
+  entries = sends.entries;
+  left = sends.left;
+  leads = leads_same c sends.left part other sends.entries same sends.leads;
+  shows = sends.shows;
+  count = sends.count;
+  lines = sends.lines;
 }
 
 -- a part, and then another that stopped
-pub front_both : (p : Platform) (mid : World) (m n : Made) (j : ℕ) (a b c : Option (List ℕ)) → Sends p mid m j a b → HoldsFront b c (lines_text n.entries) → HoldsFront a c (lines_text (both_make m n).entries)
-front_both p mid m n j a b c first part =
-    subst (HoldsFront a c) (sym (lines_text-append m.entries n.entries))
-    (front_part a b c (lines_text n.entries) [] (lines_text m.entries ++ lines_text n.entries)
-    (record { front = lines_text m.entries; text = ap (λ (t : List ℕ). lines_text m.entries ++ t) (append-nil (lines_text n.entries)); grown = first.lines }) part)
+front_both : (es fs : List Entry) (a b d : Option (List ℕ)) → Appends a b (lines_text es) → HoldsFront b d (lines_text fs) → HoldsFront a d (lines_text (es ++ fs))
+front_both es fs a b d first part =
+    subst (HoldsFront a d) (sym (lines_text-append es fs))
+    (front_part a b d (lines_text fs) [] (lines_text es ++ lines_text fs)
+    (record { front = lines_text es; text = ap (λ (t : List ℕ). lines_text es ++ t) (append-nil (lines_text fs)); grown = first }) part)
 
 -- more follows what stopped
-pub front_more : (m n : Made) (a b : Option (List ℕ)) → HoldsFront a b (lines_text m.entries) → HoldsFront a b (lines_text (both_make m n).entries)
-front_more m n a b part =
-    subst (HoldsFront a b) (sym (lines_text-append m.entries n.entries)) (record {
-      rest = part.rest ++ lines_text n.entries;
+front_more : (es fs : List Entry) (a b : Option (List ℕ)) → HoldsFront a b (lines_text es) → HoldsFront a b (lines_text (es ++ fs))
+front_more es fs a b part =
+    subst (HoldsFront a b) (sym (lines_text-append es fs)) (record {
+      rest = part.rest ++ lines_text fs;
       sent = record {
         front = part.sent.front;
-        text = sym (append_assoc part.sent.front part.rest (lines_text n.entries)) ∙ ap (λ (t : List ℕ). t ++ lines_text n.entries) part.sent.text;
+        text = sym (append_assoc part.sent.front part.rest (lines_text fs)) ∙ ap (λ (t : List ℕ). t ++ lines_text fs) part.sent.text;
         grown = part.sent.grown;
       };
     })
 
+module _ (p : Platform) (mid : World) (c : Carried) (part more : Scene → Made) (j : ℕ) (a b d : Option (List ℕ)) (first : Sends p mid c part j a b) where
+  -- one part and then another
+  pub sends_both : (new : World) (k : ℕ) → ((v : Carried) → StandsFor p mid v → Sends p new v more k b d) → Sends p new c (then_make part more) (j + k) a d
+  sends_both new k next =
+      let second = next first.left first.shows in
+      record {
+        entries = first.entries ++ second.entries;
+        left = second.left;
+        leads = leads_then c first.left second.left part more first.entries second.entries first.leads second.leads;
+        shows = second.shows;
+        count = length-append first.entries second.entries ∙ omega (arith, first.count, second.count);
+        lines = subst (Appends a d) (sym (lines_text-append first.entries second.entries))
+            (Appends-trans a b d (lines_text first.entries) (lines_text second.entries) first.lines second.lines);
+      }
+
+  pub cuts_both : ((v : Carried) → StandsFor p mid v → Cuts v (lines_of more) b d) → Cuts c (lines_of (then_make part more)) a d
+  cuts_both next =
+      let cut = next first.left first.shows in
+      let m = first.leads.made cut.scene cut.agrees in
+      record {
+        scene = m.scene;
+        agrees = m.agrees;
+        front = front_both (part m.scene).entries (more (part m.scene).scene).entries a b d
+            (subst (λ (es : List Entry). Appends a b (lines_text es)) (sym m.entries) first.lines)
+            (subst (λ (w : Scene). HoldsFront b d (lines_text (more w).entries)) (sym m.leaves) cut.front);
+      }
+
+pub cuts_more : (c : Carried) (part more : Scene → Made) (a b : Option (List ℕ)) → Cuts c (lines_of part) a b → Cuts c (lines_of (then_make part more)) a b
+cuts_more c part more a b cut = record { scene = cut.scene; agrees = cut.agrees; front = front_more (part cut.scene).entries (more (part cut.scene).scene).entries a b cut.front }
+
+pub ruleset one_actor = (sends_none, sends_one, cuts_one, cuts_none)
+
 pub both-assoc : (l m n : Made) → both_make (both_make l m) n ≡ both_make l (both_make m n)
 both-assoc l m n = ap (λ (es : List Entry). made_of es n.scene) (append_assoc l.entries m.entries n.entries)
-  where
-    made_of : List Entry → Scene → Made
-    made_of es w = record { entries = es; scene = w }
 
 pub act_all-append : (p : Platform) (as' bs : List Actor) (w : Scene) → act_all p w (as' ++ bs) ≡ both_make (act_all p w as') (act_all p (act_all p w as').scene bs)
 unfolding act_all
@@ -91,62 +175,61 @@ act_all-append p (x ∷ as') bs w =
 pub act_all-one : (p : Platform) (w : Scene) (x : Actor) → act_all p w (x ∷ []) ≡ act p w x
 unfolding act_all
 act_all-one p w x = ap (λ (es : List Entry). made_of es (act p w x).scene) (append-nil (act p w x).entries)
-  where
-    made_of : List Entry → Scene → Made
-    made_of es v = record { entries = es; scene = v }
 
 act_all-cons : (p : Platform) (w : Scene) (x : Actor) (xs : List Actor) → act_all p w (x ∷ xs) ≡ both_make (act p w x) (act_all p (act p w x).scene xs)
 unfolding act_all
 act_all-cons p w x xs = refl
 
-pub sends_empty : (p : Platform) (w : Scene) (seen : World) (a : Option (List ℕ)) → StandsFor p seen w → Sends p seen (act_all p w []) 0 a a
+pub sends_empty : (p : Platform) (c : Carried) (seen : World) (a : Option (List ℕ)) → StandsFor p seen c → Sends p seen c (λ w. act_all p w []) 0 a a
 unfolding act_all
-sends_empty p w seen a shows = record { scene = shows; count = refl; lines = Appends-nil a }
+sends_empty p c seen a shows = record {
+  entries = [];
+  left = c;
+  leads = record { made = λ scene agrees. record { scene = scene; agrees = agrees; entries = refl; leaves = refl } };
+  shows = shows;
+  count = refl;
+  lines = Appends-nil a;
+}
 
 pub due-first : (turn : ℕ) (h : HostEvent) (hs : List HostEvent) → h.turn ≡ turn → due turn (h ∷ hs) ≡ h.actor ∷ due turn hs
 due-first turn h hs is = rw (eq-eqb h.turn turn is) refl
 
-module _ (p : Platform) (w : Scene) (all rest more : List Actor) (x : Actor) (seen : World) (made : ℕ) (a b c : Option (List ℕ))
-    (is : rest ≡ x ∷ more) (done : DoneActors p w all rest seen made a b) where
+module _ (p : Platform) (c : Carried) (all rest more : List Actor) (x : Actor) (seen : World) (made : ℕ) (a b d : Option (List ℕ))
+    (is : rest ≡ x ∷ more) (done : DoneActors p c all rest seen made a b) where
   -- the next of them acted
-  pub done_more : (new : World) (count : ℕ) → ((v : Scene) → StandsFor p seen v → Sends p new (act p v x) count b c) → DoneActors p w all more new (made + count) a c
+  pub done_more : (new : World) (count : ℕ) → ((v : Carried) → StandsFor p seen v → Sends p new v (λ w. act p w x) count b d) → DoneActors p c all more new (made + count) a d
   done_more new count next = record {
     front = done.front ++ x ∷ [];
     actors = append_assoc done.front (x ∷ []) more ∙ ap (λ (xs : List Actor). done.front ++ xs) (sym is) ∙ done.actors;
-    sends = subst (λ (m : Made). Sends p new m (made + count) a c)
-        (ap (both_make (act_all p w done.front)) (sym (act_all-one p (act_all p w done.front).scene x)) ∙ sym (act_all-append p done.front (x ∷ []) w))
-        (sends_both p seen new (act_all p w done.front) (act p (act_all p w done.front).scene x) made count a b c done.sends (next (act_all p w done.front).scene done.sends.scene));
+    sends = sends_same p new c (then_make (λ w. act_all p w done.front) (λ w. act p w x)) (λ w. act_all p w (done.front ++ x ∷ [])) (made + count) a d
+        (λ w. ap (both_make (act_all p w done.front)) (sym (act_all-one p (act_all p w done.front).scene x)) ∙ sym (act_all-append p done.front (x ∷ []) w))
+        (sends_both p seen c (λ w. act_all p w done.front) (λ w. act p w x) made a b d done.sends new count next);
   }
 
   -- or it stopped
-  pub done_front : ((v : Scene) → StandsFor p seen v → HoldsFront b c (lines_text (act p v x).entries)) → HoldsFront a c (lines_text (act_all p w all).entries)
-  done_front next =
-      subst (λ (m : Made). HoldsFront a c (lines_text m.entries)) whole
-      (front_both p seen (act_all p w done.front) (act_all p v (x ∷ more)) made a b c done.sends
-      (subst (λ (m : Made). HoldsFront b c (lines_text m.entries)) (sym (act_all-cons p v x more))
-      (front_more (act p v x) (act_all p (act p v x).scene more) b c (next v done.sends.scene))))
-    where
-      v : Scene
-      v = (act_all p w done.front).scene
-
-      whole : both_make (act_all p w done.front) (act_all p v (x ∷ more)) ≡ act_all p w all
-      whole = sym (act_all-append p done.front (x ∷ more) w) ∙ ap (act_all p w) (ap (λ (xs : List Actor). done.front ++ xs) (sym is) ∙ done.actors)
+  pub done_cuts : ((v : Carried) → StandsFor p seen v → Cuts v (lines_of (λ w. act p w x)) b d) → Cuts c (lines_of (λ w. act_all p w all)) a d
+  done_cuts next =
+      cuts_same c (lines_of (then_make (λ w. act_all p w done.front) (λ w. act_all p w (x ∷ more)))) (lines_of (λ w. act_all p w all)) a d
+      (λ w. ap (λ (m : Made). lines_text m.entries) (sym (act_all-append p done.front (x ∷ more) w) ∙ ap (act_all p w) (ap (λ (xs : List Actor). done.front ++ xs) (sym is) ∙ done.actors)))
+      (cuts_both p seen c (λ w. act_all p w done.front) (λ w. act_all p w (x ∷ more)) made a b d done.sends
+      (λ v shows. cuts_same v (lines_of (then_make (λ w. act p w x) (λ w. act_all p w more))) (lines_of (λ w. act_all p w (x ∷ more))) b d
+      (λ w. ap (λ (m : Made). lines_text m.entries) (sym (act_all-cons p w x more))) (cuts_more v (λ w. act p w x) (λ w. act_all p w more) b d (next v shows))))
 
 -- none of them is left
-pub done_all : (p : Platform) (w : Scene) (all rest : List Actor) (seen : World) (made : ℕ) (a b : Option (List ℕ)) →
-    DoneActors p w all rest seen made a b → rest ≡ [] → Sends p seen (act_all p w all) made a b
-done_all p w all rest seen made a b done none =
-    subst (λ (xs : List Actor). Sends p seen (act_all p w xs) made a b) (sym (append-nil done.front) ∙ ap (λ (xs : List Actor). done.front ++ xs) (sym none) ∙ done.actors) done.sends
+pub done_all : (p : Platform) (c : Carried) (all rest : List Actor) (seen : World) (made : ℕ) (a b : Option (List ℕ)) →
+    DoneActors p c all rest seen made a b → rest ≡ [] → Sends p seen c (λ w. act_all p w all) made a b
+done_all p c all rest seen made a b done none =
+    subst (λ (xs : List Actor). Sends p seen c (λ w. act_all p w xs) made a b) (sym (append-nil done.front) ∙ ap (λ (xs : List Actor). done.front ++ xs) (sym none) ∙ done.actors) done.sends
 
 -- none of them acted yet
-pub done_start : (p : Platform) (w : Scene) (all : List Actor) (seen : World) (a : Option (List ℕ)) → StandsFor p seen w → DoneActors p w all all seen 0 a a
-done_start p w all seen a shows = record { front = []; actors = refl; sends = sends_empty p w seen a shows }
+pub done_start : (p : Platform) (c : Carried) (all : List Actor) (seen : World) (a : Option (List ℕ)) → StandsFor p seen c → DoneActors p c all all seen 0 a a
+done_start p c all seen a shows = record { front = []; actors = refl; sends = sends_empty p c seen a shows }
 
 -- the boot's turns: one is next while some are left
-pub boot_start : (p : Platform) (w : Scene) (all : ℕ) (seen : World) (a : Option (List ℕ)) → StandsFor p seen w → DoneActors p w (boot_left all) (boot_left (all - 0)) seen 0 a a
-boot_start p w all seen a shows =
+pub boot_start : (p : Platform) (c : Carried) (all : ℕ) (seen : World) (a : Option (List ℕ)) → StandsFor p seen c → DoneActors p c (boot_left all) (boot_left (all - 0)) seen 0 a a
+boot_start p c all seen a shows =
     let none : all ≡ all - 0 = omega arith in
-    subst (λ (n : ℕ). DoneActors p w (boot_left all) (boot_left n) seen 0 a a) none (done_start p w (boot_left all) seen a shows)
+    subst (λ (n : ℕ). DoneActors p c (boot_left all) (boot_left n) seen 0 a a) none (done_start p c (boot_left all) seen a shows)
 
 pub boot_next : (all n : ℕ) → n < all → boot_left (all - n) ≡ Cpu 0 ∷ boot_left (all - (n + 1))
 unfolding boot_left

@@ -1,6 +1,7 @@
 pub mod Answers
 pub mod Codes
 pub mod Faults
+pub mod Handing
 pub mod Input
 pub mod Scripted
 pub mod Sent

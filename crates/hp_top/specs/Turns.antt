@@ -10,16 +10,45 @@ use Rattle.hp_model.specs.declared.files.Stall.{Stall}
 use Rattle.hp_model.specs.declared.files.File.{File}
 use Rattle.hp_model.specs.declared.files.VoiceKind.{VoiceKind}
 use Rattle.hp_model.specs.declared.outcomes.BootFact.{BootFact}
+use Rattle.hp_model.specs.declared.accesses.Answer.TheVariants.{Quiet}
+use Rattle.hp_model.specs.Following.{Carried}
 use Rattle.hp_model.specs.Schedule.{Scene, Made, act_all, booted, boot_fact, scheduled}
+use Rattle.hp_model.specs.State.{start}
+use Rattle.hp_model.specs.Voices.{Voice}
 use Rattle.hp_model.specs.Text.{head_text, lines_text, end_text, trace_text}
+use Rattle.hp_platform.specs.Carrying.{AgreesWith, Leads}
 use Rattle.hp_platform.specs.World.{World}
+use Rattle.hp_top.specs.Sent.{HoldsFront}
 use Rattle.hp_top.specs.Worlds.{StandsFor}
 
--- a part of the schedule was made: the scene that the world then stands for, how many entries it has, and their lines in the sink
-pub record Sends (p : Platform) (world : World) (m : Made) (made : ℕ) (old new : Option (List ℕ)) : Type 0 where
-  pub scene : StandsFor p world m.scene
-  pub count : length m.entries ≡ made
-  pub lines : Appends old new (lines_text m.entries)
+-- entries were made as a part of the schedule does: what the world then stands for, how many there are, and their lines in the sink
+pub record Sends (p : Platform) (world : World) (c : Carried) (part : Scene → Made) (made : ℕ) (old new : Option (List ℕ)) : Type 0 where
+  pub entries : List Entry
+  pub left : Carried
+  pub leads : Leads c part entries left
+  pub shows : StandsFor p world left
+  pub count : length entries ≡ made
+  pub lines : Appends old new (lines_text entries)
+
+-- by voices that agree with what is carried: their text was appended
+pub record Writes (c : Carried) (text : Scene → List ℕ) (old new : Option (List ℕ)) : Type 0 where
+  pub scene : Scene
+  pub agrees : AgreesWith c scene
+  pub appended : Appends old new (text scene)
+
+-- or a front of it
+pub record Cuts (c : Carried) (text : Scene → List ℕ) (old new : Option (List ℕ)) : Type 0 where
+  pub scene : Scene
+  pub agrees : AgreesWith c scene
+  pub front : HoldsFront old new (text scene)
+
+-- the lines of a part of the schedule
+abbrev pub lines_of : (Scene → Made) → Scene → List ℕ
+lines_of part scene = lines_text (part scene).entries
+
+-- what is carried before the first step, by what the processors' agents tell
+abbrev pub carried_start : Platform → List (Option Voice) → Carried
+carried_start p told = record { state = start p; voices = told; last = map (λ o. Quiet) told }
 
 -- the actors of the host events of a turn, in their order
 abbrev pub at_turn : ℕ → List HostEvent → List Actor
@@ -50,29 +79,29 @@ Rises key n (x ∷ xs) = (n ≤ key x) × Rises key (key x) xs
 abbrev pub with_voices : List VoiceKind → File → File
 with_voices kinds f = record f { voices = kinds }
 
--- the whole trace of the run that a file's schedule makes
-unfoldable pub run_text : File → List ℕ
-run_text f = trace_text f.platform (scheduled f)
+-- the whole trace of the run that a file's schedule makes of these voices
+unfoldable pub run_text : File → List Voice → List ℕ
+run_text f voices = trace_text f.platform (scheduled f voices)
 
 -- the trace of a boot that was refused: the header, and the lines up to the access that read the value
-unfoldable pub boot_text : File → List ℕ
-boot_text f = head_text f.platform ++ lines_text (booted f).entries
+unfoldable pub boot_text : File → List Voice → List ℕ
+boot_text f voices = head_text f.platform ++ lines_text (booted f.platform voices).entries
 
 -- what is written for a file, by the value that refused its boot, if one did
-abbrev pub text_by : Option BootFact → File → List ℕ
-text_by None f = run_text f
-text_by (Some fact) f = boot_text f
+abbrev pub text_by : Option BootFact → File → List Voice → List ℕ
+text_by None f voices = run_text f voices
+text_by (Some fact) f voices = boot_text f voices
 
-unfoldable pub output : File → List ℕ
-output f = text_by (boot_fact f) f
+unfoldable pub output : File → List Voice → List ℕ
+output f voices = text_by (boot_fact f.platform voices) f voices
 
 -- the entries that it spells
-abbrev pub entries_by : Option BootFact → File → List Entry
-entries_by None f = scheduled f
-entries_by (Some fact) f = (booted f).entries
+abbrev pub entries_by : Option BootFact → File → List Voice → List Entry
+entries_by None f voices = scheduled f voices
+entries_by (Some fact) f voices = (booted f.platform voices).entries
 
-unfoldable pub spelled : File → List Entry
-spelled f = entries_by (boot_fact f) f
+unfoldable pub spelled : File → List Voice → List Entry
+spelled f voices = entries_by (boot_fact f.platform voices) f voices
 
 -- what follows the boot's lines: the lines of the turns, and the end line that counts all entries
 abbrev pub turns_text : ℕ → Made → List ℕ
@@ -83,7 +112,7 @@ unfoldable pub boot_left : ℕ → List Actor
 boot_left n = replicate n (Cpu 0)
 
 -- these actors acted, as far as they did
-pub record DoneActors (p : Platform) (w : Scene) (all rest : List Actor) (world : World) (made : ℕ) (old new : Option (List ℕ)) : Type 0 where
+pub record DoneActors (p : Platform) (c : Carried) (all rest : List Actor) (world : World) (made : ℕ) (old new : Option (List ℕ)) : Type 0 where
   pub front : List Actor
   pub actors : front ++ rest ≡ all
-  pub sends : Sends p world (act_all p w front) made old new
+  pub sends : Sends p world c (λ w. act_all p w front) made old new

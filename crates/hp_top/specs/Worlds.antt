@@ -1,16 +1,18 @@
--- Which scene of the schedule a world stands for, and what a turn of it makes.
+-- What a world stands for, and what a turn of it makes.
 use Rattle.std.specs.Prelude.{◌≡◌}
 use Rattle.hp_model.specs.declared.platforms.Platform.{Platform}
+use Rattle.hp_model.specs.Following.{Carried}
 use Rattle.hp_model.specs.Schedule.{Scene, Made}
 use Rattle.hp_platform.specs.declared.worlds.Turn.{Turn}
-use Rattle.hp_platform.specs.World.{World, Acts, StandsFor as WorldStandsFor}
+use Rattle.hp_platform.specs.Carrying.{ActsAs, Carries}
+use Rattle.hp_platform.specs.World.{World}
 
--- the world is of this platform, and stands for this scene
-pub record StandsFor (p : Platform) (world : World) (w : Scene) : Type 0 where
+-- the world is of this platform, and stands for what is carried
+pub record StandsFor (p : Platform) (world : World) (c : Carried) : Type 0 where
   pub platform : world.platform ≡ p
-  pub tells : WorldStandsFor world w
+  pub carries : Carries world c
 
--- a turn made these entries; after it the world is of this platform, and stands for the scene that they lead to
-pub record Takes (p : Platform) (world : World) (m : Made) (turn : Turn) : Type 0 where
+-- a turn made entries as this part of the schedule does; after it the world is of this platform
+pub record Takes (p : Platform) (world : World) (c : Carried) (part : Scene → Made) (turn : Turn) : Type 0 where
   pub platform : world.platform ≡ p
-  pub acts : Acts world m turn
+  pub acts : ActsAs world c part turn

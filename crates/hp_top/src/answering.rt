@@ -3,6 +3,7 @@
 ghost use Rattle.std.specs.Prelude.{◌≡◌, ◌≢◌, ◌≤◌, ◌↔◌, codes, map, string_bytes, true, false, Ok};
 ghost use Rattle.std.specs.Str.{bytes_eq};
 ghost use Rattle.hp_model.specs.declared.files.File.{File as AFile};
+ghost use Rattle.hp_model.specs.Voices.{told_of};
 ghost use Rattle.hp_boot.specs.Ending.{hands_over};
 ghost use Rattle.hp_config.specs.Reading.{IsReadAs};
 ghost use Rattle.hp_config.specs.Sound.{IsSound};
@@ -13,11 +14,11 @@ use crate::outside::{Sink, Source, WriteStop};
 use crate::reading::{ReadStop, read_all};
 use crate::running::run_file;
 use crate::statuses::Status;
-use hp_agent::Script;
+use hp_agent::Agent;
 use hp_boot::{boot_ends, boot_stops_at_its_fact};
 use hp_config::{ConfigFault, read, read_files_are_sound};
 use hp_exact::runs_are_safe;
-use hp_model::{File, schedule_is_a_run};
+use hp_model::{File, schedule_is_a_run, told_voices_alone_agree};
 use std::alloc::Global;
 
 fn is_run(word: &str) -> bool
@@ -37,14 +38,14 @@ fn are_run(words: &[String]) -> bool
 }
 
 /// Runs the file that was read.
-fn run_read<K: Sink>(alloc: Global, file: File, out: &mut K) -> Status
+fn run_read<A: Agent, K: Sink>(alloc: Global, file: File, agents: Vec<A>, out: &mut K) -> Status
     requires { IsSound file }
-    ensures ends { EndsFile file (K.held out.old) (K.held out.new) result }
+    ensures ends { EndsFile file (told_of file (map A.voice agents.items)) (K.held out.old) (K.held out.new) result }
     ensures fault { result ≡ Status.WriteFault → Rose (K.faults out.old) (K.faults out.new) }
     ensures later { K.faults out.old ≤ K.faults out.new }
     ensures calm { result ≢ Status.WriteFault → K.faults out.new ≡ K.faults out.old }
 {
-    match run_file::<Script, K>(alloc, file, out) {
+    match run_file(alloc, file, agents, out) {
         Ok(None) => Status::Done,
         Ok(Some(fact)) => Status::BootRefused(fact),
         Err(WriteStop::Failed) => Status::WriteFault,
@@ -53,8 +54,8 @@ fn run_read<K: Sink>(alloc: Global, file: File, out: &mut K) -> Status
 }
 
 /// Runs the file that the bytes are.
-fn run_bytes<K: Sink>(alloc: Global, bytes: &[u8], out: &mut K) -> Status
-    ensures ends { EndsRun bytes.now (K.held out.old) (K.held out.new) result }
+fn run_bytes<A: Agent, K: Sink>(alloc: Global, bytes: &[u8], agents: Vec<A>, out: &mut K) -> Status
+    ensures ends { EndsRun bytes.now (map A.voice agents.items) (K.held out.old) (K.held out.new) result }
     ensures fault { result ≡ Status.WriteFault → Rose (K.faults out.old) (K.faults out.new) }
     ensures later { K.faults out.old ≤ K.faults out.new }
     ensures calm { result ≢ Status.WriteFault → K.faults out.new ≡ K.faults out.old }
@@ -63,8 +64,9 @@ fn run_bytes<K: Sink>(alloc: Global, bytes: &[u8], out: &mut K) -> Status
     runs_are_safe();
     read_files_are_sound();
     boot_stops_at_its_fact();
+    told_voices_alone_agree();
     match read(alloc, bytes) {
-        Ok(file) => run_read(alloc, file, out),
+        Ok(file) => run_read(alloc, file, agents, out),
         Err(ConfigFault::NotToml) => Status::NotToml,
         Err(ConfigFault::Rule(rule)) => Status::Rule(rule),
         Err(ConfigFault::NoMemory) => Status::NoMemory,
@@ -72,8 +74,8 @@ fn run_bytes<K: Sink>(alloc: Global, bytes: &[u8], out: &mut K) -> Status
 }
 
 /// The same, and what a file whose machine is handed over ends with.
-fn complete<K: Sink>(alloc: Global, bytes: &[u8], out: &mut K) -> Status
-    ensures ends { EndsRun bytes.now (K.held out.old) (K.held out.new) result }
+fn complete<A: Agent, K: Sink>(alloc: Global, bytes: &[u8], agents: Vec<A>, out: &mut K) -> Status
+    ensures ends { EndsRun bytes.now (map A.voice agents.items) (K.held out.old) (K.held out.new) result }
     ensures fault { result ≡ Status.WriteFault → Rose (K.faults out.old) (K.faults out.new) }
     ensures later { K.faults out.old ≤ K.faults out.new }
     ensures calm { result ≢ Status.WriteFault → K.faults out.new ≡ K.faults out.old }
@@ -82,23 +84,19 @@ fn complete<K: Sink>(alloc: Global, bytes: &[u8], out: &mut K) -> Status
 {
     read_files_are_sound();
     boot_ends();
-    run_bytes(alloc, bytes, out)
+    run_bytes(alloc, bytes, agents, out)
 }
 
-/// Serves the command `run`: reads a platform file to its end, and writes the trace of its run, line by line.
-///
-/// For every platform, agents and interleaving, the trace written is a run of the written machine; every instruction executed
-/// in SMM lies in SMRAM locked before it, no two processors hold one relocated SMBASE, a processor's SMBASE changes only after
-/// passing the gate while the monarch had named its APIC ID, and in each undisturbed session completed adds and ejects change
-/// exactly the processors reported, each refusal naming its fact.
-///
-/// Clause `ends` carries it: `IsSafe` of what was written, whole, cut or of a refused boot. Agents are those of the file, and the
-/// interleaving is its schedule's.
-///
-/// That each line goes to the sink when its step is made is no clause. docs/PROOFS.md says in words what the clauses do.
-pub fn top<S: Source, K: Sink>(alloc: Global, words: &[String], src: &mut S, out: &mut K) -> Status
+/// Serves the command `run`, with agents of any type that are handed in.
+fn serve<A: Agent, S: Source, K: Sink>(
+    alloc: Global,
+    words: &[String],
+    src: &mut S,
+    out: &mut K,
+    agents: Vec<A>,
+) -> Status
     ensures bad_words { (result ≡ Status.BadWords) ↔ (are_the_run (map string_bytes words.now) ≡ false) }
-    ensures ends { Ends (S.left src.old) (S.left src.new) (K.held out.old) (K.held out.new) result }
+    ensures ends { Ends (map A.voice agents.items) (S.left src.old) (S.left src.new) (K.held out.old) (K.held out.new) result }
     ensures read_fault { result ≡ Status.ReadFault → Rose (S.faults src.old) (S.faults src.new) }
     ensures read_calm { result ≢ Status.ReadFault → S.faults src.new ≡ S.faults src.old }
     ensures write_fault { result ≡ Status.WriteFault → Rose (K.faults out.old) (K.faults out.new) }
@@ -113,9 +111,45 @@ pub fn top<S: Source, K: Sink>(alloc: Global, words: &[String], src: &mut S, out
         return Status::BadWords;
     }
     match read_all(alloc, src) {
-        Ok(bytes) => complete(alloc, bytes.as_slice(), out),
+        Ok(bytes) => complete(alloc, bytes.as_slice(), agents, out),
         Err(ReadStop::ReadFault) => Status::ReadFault,
         Err(ReadStop::TooLong) => Status::TooLong,
         Err(ReadStop::NoMemory) => Status::NoMemory,
     }
+}
+
+/// Serves the command `run`: reads a platform file to its end, and writes the trace of its run, line by line.
+///
+/// For every platform, agents and interleaving, the trace written is a run of the written machine; every instruction executed
+/// in SMM lies in SMRAM locked before it, no two processors hold one relocated SMBASE, a processor's SMBASE changes only after
+/// passing the gate while the monarch had named its APIC ID, and in each undisturbed session completed adds and ejects change
+/// exactly the processors reported, each refusal naming its fact.
+///
+/// Clause `ends` carries it: `IsSafe` of what was written, whole, cut or of a refused boot. The interleaving is the file's schedule.
+/// Agents are those of the file's kinds and those that are handed in: the first for the first processor of kind handed, by their
+/// numbers, the next for the next, and so on. Such a processor for which none is left halts, and agents that are left over are dropped.
+/// Where all of them tell their voices the text is that of the schedule's run by these. Of an agent that tells none nothing is
+/// presumed: the text is that of the schedule's run in which some script says what that agent said, and each other its voice.
+///
+/// That each line goes to the sink when its step is made is no clause. docs/PROOFS.md says in words what the clauses do.
+pub fn top<S: Source, K: Sink>(
+    alloc: Global,
+    words: &[String],
+    src: &mut S,
+    out: &mut K,
+    agents: Vec<Box<dyn Agent + Send>>,
+) -> Status
+    ensures bad_words { (result ≡ Status.BadWords) ↔ (are_the_run (map string_bytes words.now) ≡ false) }
+    ensures ends { Ends (map (λ b. voice b) agents.items) (S.left src.old) (S.left src.new) (K.held out.old) (K.held out.new) result }
+    ensures read_fault { result ≡ Status.ReadFault → Rose (S.faults src.old) (S.faults src.new) }
+    ensures read_calm { result ≢ Status.ReadFault → S.faults src.new ≡ S.faults src.old }
+    ensures write_fault { result ≡ Status.WriteFault → Rose (K.faults out.old) (K.faults out.new) }
+    ensures write_calm { result ≢ Status.WriteFault → K.faults out.new ≡ K.faults out.old }
+    ensures completes { HoldsFile (S.left src.old) → are_the_run (map string_bytes words.now) ≡ true
+        → ¬ Rose (S.faults src.old) (S.faults src.new) → ¬ Rose (K.faults out.old) (K.faults out.new)
+        → IsDoneOrNoMemory result }
+    ensures read_count { S.faults src.old ≤ S.faults src.new }
+    ensures write_count { K.faults out.old ≤ K.faults out.new }
+{
+    serve(alloc, words, src, out, agents)
 }

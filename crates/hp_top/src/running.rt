@@ -1,31 +1,36 @@
 //! The boot and the run of a file: each line is handed to the sink when its entry is made.
 
-ghost use Rattle.std.specs.Prelude.{ℕ, ◌≡◌, ◌≤◌, ◌+◌, ◌^◌, List, ◌∷◌, [], map, IfOk, IfSome, OnOk, OnErr, None, Some, length};
+ghost use Rattle.std.specs.Prelude.{ℕ, ◌≡◌, ◌≤◌, ◌+◌, ◌^◌, List, ◌∷◌, [], map, IfOk, IfSome, OnOk, OnErr, Option, None, length};
+ghost use Rattle.std.specs.Vec.Iter.{into_iter_items};
 ghost use Rattle.std.specs.Io.KnownBytes.{Appends};
 ghost use Rattle.hp_model.specs.declared.platforms.Platform.{Platform};
-ghost use Rattle.hp_model.specs.declared.files.File.{File as Whole};
-ghost use Rattle.hp_model.specs.declared.files.VoiceKind.{VoiceKind};
+ghost use Rattle.hp_model.specs.declared.files.VoiceKind.{VoiceKind as AKind};
+ghost use Rattle.hp_model.specs.Following.{Carried};
 ghost use Rattle.hp_model.specs.Platform.{IsFit, count_of};
-ghost use Rattle.hp_model.specs.Voices.{voice_of};
-ghost use Rattle.hp_model.specs.Schedule.{Scene as Shown, act, act_all, actors_of, boot_fact as fact_of_boot, boot_turns as turns_of_boot, cpus_of, hosts_of as of_turn, is_stalled, scene_start, turn_actor as actor_in, turns_from};
+ghost use Rattle.hp_model.specs.Schedule.{act, act_all, actors_of, boot_turns as turns_of_boot, cpus_of, hosts_of as of_turn, is_stalled, turn_actor as actor_in, turns_from};
+ghost use Rattle.hp_model.specs.Voices.{Voice as Told, told_by, told_of};
+ghost use Rattle.hp_agent.specs.Kinds.{own_voice};
 ghost use Rattle.hp_config.specs.Sound.{IsSound};
-ghost use Rattle.hp_model.specs.Text.{head_text, line_text, lines_text, end_text};
+ghost use Rattle.hp_model.specs.Text.{head_text, line_text, end_text};
 ghost use Rattle.hp_top.specs.Faults.{StopsFor};
 ghost use Rattle.hp_top.specs.Worlds.{StandsFor, Takes};
 ghost use Rattle.hp_top.specs.Sent.{HoldsFront};
 ghost use Rattle.hp_top.specs.Stalls.{IsTracking};
-ghost use Rattle.hp_top.specs.Turns.{Sends, Rises, at_turn, boot_left, due, output, past, start_of, turn_of, turns_text, with_voices};
+ghost use Rattle.hp_top.specs.Turns.{Cuts, Rises, Sends, Writes, at_turn, boot_left, carried_start, due, lines_of, past, start_of, turn_of, turns_text, with_voices};
+ghost use Rattle.hp_top.specs.Answers.{IsCut, IsWritten};
+ghost use Rattle.hp_top.specs.Handing.{first_for, rest_for};
 
 use crate::outside::{Sink, WriteStop};
 use crate::sorting::by_turn;
 use crate::stalling::{Stalled, by_start};
 use crate::writing::write_all;
-use hp_agent::{Agent, Agents, voice_for};
+use hp_agent::{Agent, Agents, Voice, voice_for};
 use hp_model::{
     Actor, BootFact, Delivery, Entry, File, HostEvent, NoMemory, Platform, Stall, VoiceKind, Voices,
 };
 use hp_platform::{Turn, World, a_turn_is_the_schedules};
 use std::alloc::Global;
+use std::vec::IntoIter;
 
 /// How many turns of processor 0 the boot sequence takes, one an access: two more where it asks for a TSEG of 48 MiB.
 fn boot_turns(p: &Platform) -> u32
@@ -76,7 +81,7 @@ fn send_end<K: Sink>(entries: u64, text: &mut Vec<u8>, out: &mut K) -> Result<()
 
 /// An actor's turn, which makes what the schedule makes of that actor.
 fn take_turn<A: Agent>(world: &mut World<A>, actor: Actor) -> Result<Turn, NoMemory>
-    ensures { (p : Platform) (w : Shown) → StandsFor p world.old w → IfOk result (Takes p world.new (act p w actor)) }
+    ensures { (p : Platform) (c : Carried) → StandsFor p world.old c → IfOk result (Takes p world.new c (λ w. act p w actor)) }
 {
     a_turn_is_the_schedules();
     world.turn(actor)
@@ -91,8 +96,10 @@ fn make_step<A: Agent, K: Sink>(
     out: &mut K,
 ) -> Result<u64, WriteStop>
     ensures bound { IfOk result (λ made. made ≤ 1) }
-    ensures made { (p : Platform) (w : Shown) → StandsFor p world.old w → IfOk result (λ made. Sends p world.new (act p w actor) made (K.held out.old) (K.held out.new)) }
-    ensures part { (p : Platform) (w : Shown) → StandsFor p world.old w → OnErr result (HoldsFront (K.held out.old) (K.held out.new) (lines_text (act p w actor).entries)) }
+    ensures made { (p : Platform) (c : Carried) → StandsFor p world.old c
+        → IfOk result (λ made. Sends p world.new c (λ w. act p w actor) made (K.held out.old) (K.held out.new)) }
+    ensures part { (p : Platform) (c : Carried) → StandsFor p world.old c
+        → OnErr result (Cuts c (lines_of (λ w. act p w actor)) (K.held out.old) (K.held out.new)) }
     ensures cause { StopsFor (K.faults out.old) (K.faults out.new) result }
 {
     let entry = match take_turn(world, actor) {
@@ -138,10 +145,10 @@ fn make_hosts<'h, A: Agent, K: Sink>(
 ) -> Result<(u64, &'h [HostEvent]), WriteStop>
     ensures bound { IfOk result (λ done. done.0 + length done.1.now ≤ length hosts.now) }
     ensures rest { IfOk result (λ done. done.1.now ≡ past turn hosts.now) }
-    ensures made { (p : Platform) (w : Shown) → StandsFor p world.old w
-        → IfOk result (λ done. Sends p world.new (act_all p w (due turn hosts.now)) done.0 (K.held out.old) (K.held out.new)) }
-    ensures part { (p : Platform) (w : Shown) → StandsFor p world.old w
-        → OnErr result (HoldsFront (K.held out.old) (K.held out.new) (lines_text (act_all p w (due turn hosts.now)).entries)) }
+    ensures made { (p : Platform) (c : Carried) → StandsFor p world.old c
+        → IfOk result (λ done. Sends p world.new c (λ w. act_all p w (due turn hosts.now)) done.0 (K.held out.old) (K.held out.new)) }
+    ensures part { (p : Platform) (c : Carried) → StandsFor p world.old c
+        → OnErr result (Cuts c (lines_of (λ w. act_all p w (due turn hosts.now))) (K.held out.old) (K.held out.new)) }
     ensures cause { StopsFor (K.faults out.old) (K.faults out.new) result }
 {
     let mut made = 0u64;
@@ -202,10 +209,10 @@ fn make_turn<'h, A: Agent, K: Sink>(
     ensures bound { IfOk result (λ done. done.0 + length done.1.now ≤ length hosts.now + 1) }
     ensures rest { IfOk result (λ done. done.1.now ≡ past turn hosts.now) }
     ensures tracking { IfOk result (λ done. IsTracking file.now (turn + 1) stalled.new) }
-    ensures made { (w : Shown) → StandsFor file.now.platform world.old w
-        → IfOk result (λ done. Sends file.now.platform world.new (act_all file.now.platform w (actors_of file.now turn)) done.0 (K.held out.old) (K.held out.new)) }
-    ensures part { (w : Shown) → StandsFor file.now.platform world.old w
-        → OnErr result (HoldsFront (K.held out.old) (K.held out.new) (lines_text (act_all file.now.platform w (actors_of file.now turn)).entries)) }
+    ensures made { (c : Carried) → StandsFor file.now.platform world.old c
+        → IfOk result (λ done. Sends file.now.platform world.new c (λ w. act_all file.now.platform w (actors_of file.now turn)) done.0 (K.held out.old) (K.held out.new)) }
+    ensures part { (c : Carried) → StandsFor file.now.platform world.old c
+        → OnErr result (Cuts c (lines_of (λ w. act_all file.now.platform w (actors_of file.now turn))) (K.held out.old) (K.held out.new)) }
     ensures cause { StopsFor (K.faults out.old) (K.faults out.new) result }
 {
     let (made, rest) = match make_hosts(world, hosts, turn, text, out) {
@@ -235,10 +242,10 @@ fn make_turns<A: Agent, K: Sink>(
     requires rises { Rises turn_of 0 hosts.now }
     requires same { (turn : ℕ) → at_turn turn hosts.now ≡ of_turn file.now turn }
     ensures bound { IfOk result (λ made. made ≤ 2 ^ 63 + 2 ^ 32) }
-    ensures made { (w : Shown) → StandsFor file.now.platform world.old w
-        → IfOk result (λ made. Sends file.now.platform world.new (turns_from file.now file.now.platform.turns 0 w) made (K.held out.old) (K.held out.new)) }
-    ensures part { (w : Shown) → StandsFor file.now.platform world.old w
-        → OnErr result (HoldsFront (K.held out.old) (K.held out.new) (lines_text (turns_from file.now file.now.platform.turns 0 w).entries)) }
+    ensures made { (c : Carried) → StandsFor file.now.platform world.old c
+        → IfOk result (λ made. Sends file.now.platform world.new c (λ w. turns_from file.now file.now.platform.turns 0 w) made (K.held out.old) (K.held out.new)) }
+    ensures part { (c : Carried) → StandsFor file.now.platform world.old c
+        → OnErr result (Cuts c (lines_of (λ w. turns_from file.now file.now.platform.turns 0 w)) (K.held out.old) (K.held out.new)) }
     ensures cause { StopsFor (K.faults out.old) (K.faults out.new) result }
 {
     let mut made = 0u64;
@@ -280,34 +287,66 @@ fn take_voices(alloc: Global, file: File) -> (File, Vec<VoiceKind>)
     (rest, voices.0)
 }
 
-/// An agent of each of these kinds, for processors of this platform.
+/// The next of the agents that are handed in, for a processor of this kind.
+fn next_handed<A: Agent>(kind: &VoiceKind, handed: &mut IntoIter<A>) -> Option<A>
+    ensures next { result ≡ first_for kind.now (into_iter_items handed.old) }
+    ensures rest { into_iter_items handed.new ≡ rest_for kind.now (into_iter_items handed.old) }
+{
+    match kind {
+        VoiceKind::Handed => handed.next(),
+        VoiceKind::Script(_) | VoiceKind::Os | VoiceKind::Pen | VoiceKind::Seeded(_) => None,
+    }
+}
+
+/// An agent for a processor of this kind: the next of those that are handed in, if it gets one of them, or one that is made.
+fn agent_for<A: Agent>(
+    alloc: Global,
+    p: &Platform,
+    kind: VoiceKind,
+    handed: &mut IntoIter<A>,
+) -> Result<Voice<A>, NoMemory>
+    requires { IsFit p.now }
+    ensures { IfOk result (λ v. (kinds : List AKind) → told_by p.now (kind ∷ kinds) (map A.voice (into_iter_items handed.old))
+        ≡ own_voice A.voice v ∷ told_by p.now kinds (map A.voice (into_iter_items handed.new))) }
+{
+    match next_handed(&kind, handed) {
+        Some(agent) => Ok(Voice::Handed(agent)),
+        None => voice_for(alloc, p, kind),
+    }
+}
+
+/// An agent of each of these kinds, for processors of this platform: those of kind handed get these, in their order, as long as there
+/// are some. Those that are left over are dropped.
 fn agents_of<A: Agent>(
     alloc: Global,
     p: &Platform,
     kinds: Vec<VoiceKind>,
+    handed: Vec<A>,
 ) -> Result<Agents<A>, NoMemory>
     requires { IsFit p.now }
-    ensures { IfOk result (λ agents. agents.voices ≡ map (λ v. Some v) (map (voice_of p.now) kinds.items)) }
+    ensures { IfOk result (λ agents. agents.voices ≡ told_by p.now kinds.items (map A.voice handed.items)) }
 {
     let mut places = Vec::new(alloc);
+    let mut left = handed.into_iter();
     for kind in kinds {
-        let agent = voice_for(alloc, p, kind)?;
+        let agent = agent_for(alloc, p, kind, &mut left)?;
         places.push(Some(agent))?;
     }
     Ok(Agents::new(places))
 }
 
-/// The world before its first step, where each processor's voice is of the kind in its place.
+/// The world before its first step, where each processor's agent is of the kind in its place, or one that is handed in.
 fn world_of<A: Agent>(
     alloc: Global,
     p: &Platform,
     kinds: Vec<VoiceKind>,
+    handed: Vec<A>,
 ) -> Result<World<A>, NoMemory>
     requires fit { IsFit p.now }
     requires voices { length kinds.items ≡ count_of p.now }
-    ensures { (f : Whole) → f.platform ≡ p.now → f.voices ≡ kinds.items → IfOk result (λ world. StandsFor p.now world (scene_start f)) }
+    ensures { IfOk result (λ world. StandsFor p.now world (carried_start p.now (told_by p.now kinds.items (map A.voice handed.items)))) }
 {
-    let agents = agents_of(alloc, p, kinds)?;
+    let agents = agents_of(alloc, p, kinds, handed)?;
     let world = World::new(alloc, p, agents)?;
     Ok(world)
 }
@@ -351,10 +390,10 @@ fn make_boot<A: Agent, K: Sink>(
     out: &mut K,
 ) -> Result<u64, WriteStop>
     ensures bound { IfOk result (λ made. made ≤ turns) }
-    ensures made { (p : Platform) (w : Shown) → StandsFor p world.old w
-        → IfOk result (λ made. Sends p world.new (act_all p w (boot_left turns)) made (K.held out.old) (K.held out.new)) }
-    ensures part { (p : Platform) (w : Shown) → StandsFor p world.old w
-        → OnErr result (HoldsFront (K.held out.old) (K.held out.new) (lines_text (act_all p w (boot_left turns)).entries)) }
+    ensures made { (p : Platform) (c : Carried) → StandsFor p world.old c
+        → IfOk result (λ made. Sends p world.new c (λ w. act_all p w (boot_left turns)) made (K.held out.old) (K.held out.new)) }
+    ensures part { (p : Platform) (c : Carried) → StandsFor p world.old c
+        → OnErr result (Cuts c (lines_of (λ w. act_all p w (boot_left turns))) (K.held out.old) (K.held out.new)) }
     ensures cause { StopsFor (K.faults out.old) (K.faults out.new) result }
 {
     let mut made = 0u64;
@@ -382,10 +421,10 @@ fn run_turns<A: Agent, K: Sink>(
     requires rises { Rises turn_of 0 hosts.now }
     requires same { (turn : ℕ) → at_turn turn hosts.now ≡ of_turn file.now turn }
     requires booted { booted ≤ 29 }
-    ensures all { (w : Shown) → StandsFor file.now.platform world.old w
-        → OnOk result (Appends (K.held out.old) (K.held out.new) (turns_text booted (turns_from file.now file.now.platform.turns 0 w))) }
-    ensures part { (w : Shown) → StandsFor file.now.platform world.old w
-        → OnErr result (HoldsFront (K.held out.old) (K.held out.new) (turns_text booted (turns_from file.now file.now.platform.turns 0 w))) }
+    ensures all { (c : Carried) → StandsFor file.now.platform world.old c
+        → OnOk result (Writes c (λ w. turns_text booted (turns_from file.now file.now.platform.turns 0 w)) (K.held out.old) (K.held out.new)) }
+    ensures part { (c : Carried) → StandsFor file.now.platform world.old c
+        → OnErr result (Cuts c (λ w. turns_text booted (turns_from file.now file.now.platform.turns 0 w)) (K.held out.old) (K.held out.new)) }
     ensures cause { StopsFor (K.faults out.old) (K.faults out.new) result }
 {
     let made = match make_turns(world, file, hosts, stalled, text, out) {
@@ -396,7 +435,7 @@ fn run_turns<A: Agent, K: Sink>(
 }
 
 /// Boots the machine and runs the file's turns: header, one line an entry, end line. Where the boot is refused, the lines
-/// end with the access that read the value in the fact, which is answered. The world has the voices, and the file the rest.
+/// end with the access that read the value in the fact, which is answered. The world has the agents, and the file the rest.
 fn run_world<A: Agent, K: Sink>(
     world: &mut World<A>,
     file: &File,
@@ -409,12 +448,10 @@ fn run_world<A: Agent, K: Sink>(
     requires tracking { IsTracking file.now 0 stalled.old }
     requires rises { Rises turn_of 0 hosts.now }
     requires same { (turn : ℕ) → at_turn turn hosts.now ≡ of_turn file.now turn }
-    ensures fact { (kinds : List VoiceKind) → StandsFor file.now.platform world.old (scene_start (with_voices kinds file.now))
-        → IfOk result (λ fact. fact ≡ fact_of_boot (with_voices kinds file.now)) }
-    ensures all { (kinds : List VoiceKind) → StandsFor file.now.platform world.old (scene_start (with_voices kinds file.now))
-        → OnOk result (Appends (K.held out.old) (K.held out.new) (output (with_voices kinds file.now))) }
-    ensures part { (kinds : List VoiceKind) → StandsFor file.now.platform world.old (scene_start (with_voices kinds file.now))
-        → OnErr result (HoldsFront (K.held out.old) (K.held out.new) (output (with_voices kinds file.now))) }
+    ensures all { (told : List (Option Told)) → StandsFor file.now.platform world.old (carried_start file.now.platform told)
+        → IfOk result (λ fact. IsWritten file.now told fact (K.held out.old) (K.held out.new)) }
+    ensures part { (told : List (Option Told)) → StandsFor file.now.platform world.old (carried_start file.now.platform told)
+        → OnErr result (IsCut file.now told (K.held out.old) (K.held out.new)) }
     ensures cause { StopsFor (K.faults out.old) (K.faults out.new) result }
 {
     if let Err(stop) = send_head(&file.platform, text, out) {
@@ -434,23 +471,23 @@ fn run_world<A: Agent, K: Sink>(
     }
 }
 
-/// Runs the file of these voices and of the rest of this file: what is written for it, and the value that refused its boot,
-/// if one did.
-#[tactic(auto, using(crate::proofs::Sending::sending))]
+/// Runs the file of these voices and of the rest of this file, with agents for its processors of kind handed: what is written for
+/// it, and the value that refused its boot, if one did.
+#[tactic(auto, using(crate::proofs::Booting::none_written))]
 fn run_voices<A: Agent, K: Sink>(
     alloc: Global,
     file: &File,
     kinds: Vec<VoiceKind>,
+    handed: Vec<A>,
     out: &mut K,
 ) -> Result<Option<BootFact>, WriteStop>
     requires { IsSound (with_voices kinds.items file.now) }
-    ensures fact { IfOk result (λ fact. fact ≡ fact_of_boot (with_voices kinds.items file.now)) }
-    ensures all { OnOk result (Appends (K.held out.old) (K.held out.new) (output (with_voices kinds.items file.now))) }
-    ensures part { OnErr result (HoldsFront (K.held out.old) (K.held out.new) (output (with_voices kinds.items file.now))) }
+    ensures all { IfOk result (λ fact. IsWritten file.now (told_by file.now.platform kinds.items (map A.voice handed.items)) fact (K.held out.old) (K.held out.new)) }
+    ensures part { OnErr result (IsCut file.now (told_by file.now.platform kinds.items (map A.voice handed.items)) (K.held out.old) (K.held out.new)) }
     ensures cause { StopsFor (K.faults out.old) (K.faults out.new) result }
 {
     let mut text = Vec::new(alloc);
-    let mut world: World<A> = match world_of(alloc, &file.platform, kinds) {
+    let mut world: World<A> = match world_of(alloc, &file.platform, kinds, handed) {
         Ok(world) => world,
         Err(NoMemory) => return Err(WriteStop::NoMemory),
     };
@@ -476,18 +513,19 @@ fn run_voices<A: Agent, K: Sink>(
     )
 }
 
-/// Runs the file: what is written for it, and the value that refused its boot, if one did.
+/// Runs the file, with agents for its processors of kind handed: what is written for it, and the value that refused its boot, if
+/// one did.
 pub(crate) fn run_file<A: Agent, K: Sink>(
     alloc: Global,
     file: File,
+    handed: Vec<A>,
     out: &mut K,
 ) -> Result<Option<BootFact>, WriteStop>
     requires { IsSound file }
-    ensures fact { IfOk result (λ fact. fact ≡ fact_of_boot file) }
-    ensures all { OnOk result (Appends (K.held out.old) (K.held out.new) (output file)) }
-    ensures part { OnErr result (HoldsFront (K.held out.old) (K.held out.new) (output file)) }
+    ensures all { IfOk result (λ fact. IsWritten file (told_of file (map A.voice handed.items)) fact (K.held out.old) (K.held out.new)) }
+    ensures part { OnErr result (IsCut file (told_of file (map A.voice handed.items)) (K.held out.old) (K.held out.new)) }
     ensures cause { StopsFor (K.faults out.old) (K.faults out.new) result }
 {
     let (rest, kinds) = take_voices(alloc, file);
-    run_voices::<A, K>(alloc, &rest, kinds, out)
+    run_voices(alloc, &rest, kinds, handed, out)
 }

@@ -29,7 +29,7 @@ p0 in 4 0cd8 = 00000001
 fn run<S: Source, K: Sink>(alloc: Global, src: &mut S, out: &mut K) -> Result<Status, Fail> {
     let mut words = Vec::new(alloc);
     words.push("run".to_string(alloc)?)?;
-    Ok(top(alloc, words.as_slice(), src, out))
+    Ok(top(alloc, words.as_slice(), src, out, Vec::new(alloc)))
 }
 
 #[test]

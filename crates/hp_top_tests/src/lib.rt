@@ -3,3 +3,5 @@
 
 #[cfg(test)]
 mod edge;
+#[cfg(test)]
+mod handed;
