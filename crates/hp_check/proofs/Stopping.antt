@@ -41,6 +41,21 @@ pub all_run : (p : Platform) (es : List Entry) → stop_of p es ≡ None → IsS
 unfolding run
 all_run p es all = runs_on p (start p) 1 es all
 
+runs_off : (p : Platform) (s : State) (number stop : ℕ) (es : List Entry) → stop_from p s number es ≡ Some stop → run_from p s es ≡ None
+unfolding stop_from run_from
+runs_off p s number stop [] found = absurd cc
+runs_off p s number stop (e ∷ es) found = by_step (run_on p s e) (λ t. runs_off p t (number + 1) stop es) found
+  where
+    by_step : (o : Option State) → ((t : State) → stop_from p t (number + 1) es ≡ Some stop → run_from p t es ≡ None) →
+        stops number o (λ t. stop_from p t (number + 1) es) ≡ Some stop → option_and_then (λ t. run_from p t es) o ≡ None
+    by_step None later found = refl
+    by_step (Some t) later found = later t found
+
+-- where one is none they are no run
+no_run : (p : Platform) (es : List Entry) (number : ℕ) → stop_of p es ≡ Some number → run p es ≡ None
+unfolding run
+no_run p es number found = runs_off p (start p) 1 number es found
+
 checked_from : (p : Platform) (es : List Entry) → stop_of p es ≡ None → ((qs : List Entry) (s : State) → run p qs ≡ Some s → IsSafe p qs) → IsChecked p es
 checked_from p es all safe = by_run (run p es) refl (all_run p es all)
   where
@@ -56,7 +71,7 @@ checked w p es (Ok done) fit safe platform state walks = checked_from p es (same
   where
     same : stop_of p es ≡ stop_from w.platform w.state 1 es
     same = ap (λ (q : Platform). stop_from q (start p) 1 es) (sym platform) ∙ ap (λ (s : State). stop_from w.platform s 1 es) (sym state)
-checked w p es (Err (NotAStep number)) fit safe platform state walks = same ∙ walks
+checked w p es (Err (NotAStep number)) fit safe platform state walks = record { first = same ∙ walks; no_run = no_run p es number (same ∙ walks) }
   where
     same : stop_of p es ≡ stop_from w.platform w.state 1 es
     same = ap (λ (q : Platform). stop_from q (start p) 1 es) (sym platform) ∙ ap (λ (s : State). stop_from w.platform s 1 es) (sym state)

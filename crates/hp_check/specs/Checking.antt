@@ -29,9 +29,14 @@ pub record IsChecked (p : Platform) (es : List Entry) : Type 0 where
   pub run : IsSome (run p es)
   pub safe : IsSafe p es
 
+-- an entry is no step after those before it, so they are no run; this is the number of the first
+pub record IsStopped (p : Platform) (es : List Entry) (number : ℕ) : Type 0 where
+  pub first : stop_of p es ≡ Some number
+  pub no_run : run p es ≡ None
+
 abbrev pub Checks : Platform → List Entry → Result (Unit {0}) Fault → Type 0
 Checks p es (Ok done) = IsChecked p es
-Checks p es (Err (NotAStep number)) = stop_of p es ≡ Some number
+Checks p es (Err (NotAStep number)) = IsStopped p es number
 Checks p es (Err NoMemory) = Unit {0}
 
 -- the same of entries numbered from this one on, by a walk in front of them

@@ -4,7 +4,9 @@ use Rattle.hp_model.specs.declared.platforms.Platform.{Platform}
 use Rattle.hp_model.specs.declared.accesses.Answer.{Answer}
 use Rattle.hp_model.specs.declared.entries.Entry.{Entry}
 use Rattle.hp_model.specs.Runs.{run_on, same_address, same_answer}
+use Rattle.hp_model.specs.Platform.{IsFit}
 use Rattle.hp_model.specs.State.{State}
+use Rattle.hp_platform.specs.Live.{IsReached}
 
 pub record Walk : Type 0 where
   pub platform : Platform
@@ -28,3 +30,8 @@ pub record HasStopped (old new : Walk) (e : Entry) : Type 0 where
 abbrev pub Steps : Walk → Walk → Entry → Bool → Type 0
 Steps old new e true = HasStepped old new e
 Steps old new e false = HasStopped old new e
+
+-- what callers see of what is kept
+pub record IsSound (w : Walk) : Type 0 where
+  pub fit : IsFit w.platform
+  pub reached : IsReached w.platform w.state

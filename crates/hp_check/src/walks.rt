@@ -4,7 +4,7 @@ ghost use Rattle.std.specs.Prelude.{◌≡◌, false, length, IfOk, OnErr};
 ghost use Rattle.hp_model.specs.Platform.{IsFit};
 ghost use Rattle.hp_model.specs.Runs.{address_of as address_in};
 ghost use Rattle.hp_model.specs.State.{start};
-ghost use Rattle.hp_check.specs.Walk.{Steps, is_told};
+ghost use Rattle.hp_check.specs.Walk.{IsSound, Steps, is_told};
 
 use hp_agent::{Agents, PenAgent, Voice};
 use hp_model::{Answer, Entry, Event, NoMemory, Platform};
@@ -14,7 +14,7 @@ use std::marker::Model;
 
 /// A machine with its firmware that is led by entries, one after the other, and asks nobody. It keeps no list of them.
 ///
-/// Its state is one that a run of the machine leads to, so what is said of every run holds of the entries that led there.
+/// Its state is one that a run of the machine leads to (`Walk::sound`), so what is said of every run holds of it.
 #[derive(Drop)]
 pub struct Walk {
     live: Live<PenAgent>,
@@ -93,6 +93,13 @@ impl Walk {
         let same = is_entry(e, answer, at);
         self.stopped = !same;
         Ok(same)
+    }
+
+    /// What each walk keeps, as callers see it: its platform fits, and a run of that platform leads to its state.
+    pub fn sound(&self)
+        ensures { IsSound self.now }
+    {
+        self.live.sound();
     }
 
     /// The platform that it started with.
