@@ -237,7 +237,7 @@ fn agents_that_are_handed_in_run(rt: HostRuntime) -> Result<(), Fail> {
         for one in run.given {
             match one {
                 Given::Always(access) => {
-                    counting += 1;
+                    counting = counting.saturating_add(1);
                     let agent = Always::new(*access, Arc::try_clone(&drops)?);
                     agents.push(Box::new(alloc, agent)?)?;
                 }
@@ -316,10 +316,10 @@ fn try_counts(rt: &impl Abort, text: &str) -> Result<(), Fail> {
         ejected = ejected || line.ends_with(" out 1 0cdc 08");
         assert_eq!(rt; line.starts_with('1'), ejected, "{line}");
         if line.contains(" tell added 1 1 1") {
-            told.0 += 1;
+            told.0 = told.0.saturating_add(1);
         }
         if line.contains(" tell ejected 1 1 1") {
-            told.1 += 1;
+            told.1 = told.1.saturating_add(1);
         }
     }
     assert!(rt; ejected && told == (2, 1));
