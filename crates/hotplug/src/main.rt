@@ -5,7 +5,7 @@ ghost use Rattle.std.specs.Prelude.{◌≡◌, drop};
 
 use hp_agent::{Agent, Seeded, Storm};
 use hp_top::{Status, StdSink, StdSource, top};
-use std::alloc::{AllocError, Global};
+use std::alloc::AllocError;
 use std::process::ExitCode;
 use std::{env, io};
 
@@ -29,29 +29,26 @@ fn after_name(words: &[String]) -> &[String]
     }
 }
 
-/// The agents for processors of kind handed: accesses that are drawn, and a storm over 64 processors.
-fn agents_of(alloc: Global) -> Result<Vec<Box<dyn Agent + Send>>, AllocError> {
+/// The call for these words. Processors of kind handed get accesses that are drawn, and a storm over 64 processors.
+fn call(rt: &HostRuntime, words: &[String]) -> Result<Status, AllocError> {
+    let alloc = rt.alloc();
     let mut agents: Vec<Box<dyn Agent + Send>> = Vec::new(alloc);
     agents.push(Box::new(alloc, Seeded::new(1))?)?;
     agents.push(Box::new(alloc, Storm::new(64))?)?;
-    Ok(agents)
-}
-
-fn serve(rt: &HostRuntime) -> Status {
-    let words = match words_of(rt) {
-        Ok(words) => words,
-        Err(status) => return status,
-    };
-    let Ok(agents) = agents_of(rt.alloc()) else {
-        return Status::NoMemory;
-    };
-    top(
-        rt.alloc(),
-        after_name(words.as_slice()),
+    Ok(top(
+        alloc,
+        words,
         &mut StdSource::new(rt.stdin()),
         &mut StdSink::new(rt.stdout()),
         agents,
-    )
+    ))
+}
+
+fn serve(rt: &HostRuntime) -> Status {
+    match words_of(rt) {
+        Ok(words) => call(rt, after_name(words.as_slice())).unwrap_or(Status::NoMemory),
+        Err(status) => status,
+    }
 }
 
 fn main(rt: HostRuntime) -> ExitCode {
