@@ -151,7 +151,7 @@ facts_of apics r t =
       look = slice_index_or r.last (slot_among r.slots.bound t.apic) 2;
     }
 
--- an outcome is told
+-- an outcome is to be told
 abbrev pub at_tell : Outcome → Monarch → Monarch
 at_tell o r = record r { label = T; outcome = o }
 
@@ -192,17 +192,17 @@ taken_up apics (t ∷ ts) r = answered (decision (facts_of apics r t) t) t (took
 abbrev pub next_report : List ℕ → Monarch → Monarch
 next_report apics r = taken_up apics (drop r.taken r.collection.reports) r
 
--- where the collection is led; its end leads to the first report
+-- where the collection goes on; its end leads to the first report
 abbrev pub after_collection : List ℕ → CollectNext → Monarch → Monarch
 after_collection apics (CollectsAt l c) r = record r { label = l; collection = c }
 after_collection apics (CollectEnds c) r = next_report apics (record r { collection = c })
 
--- where the add is led
+-- where the add goes on; its end leads to T, and so does that of an eject
 abbrev pub after_add : AddNext → Monarch → Monarch
 after_add (AddsAt l a) r = record r { label = l; add = a }
 after_add (Ends o) r = at_tell o r
 
--- where the eject is led
+-- where the eject goes on
 abbrev pub after_eject : EjectNext → Monarch → Monarch
 after_eject (EjectsAt l j) r = record r { label = l; eject = j }
 after_eject (EjectEnds o) r = at_tell o r

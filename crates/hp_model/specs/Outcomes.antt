@@ -137,7 +137,7 @@ was_let_in p apic own =
     is_last_look p (newest (λ e. is_access_of 0 e.event) own)
     && list_any (opens p apic) (older_than (is_at p N9) (older_than (is_at p N10) own))
 
--- the slot is the APIC ID's place, and the next one where it had none before
+-- the slot is the APIC ID's, and the next one where it had none before
 abbrev pub has_slot : List ℕ → List ℕ → ℕ → ℕ → Bool
 has_slot before now apic slot = is_in apic now && ((slot_among now apic == slot) && (is_in apic before || (slot == length before)))
 

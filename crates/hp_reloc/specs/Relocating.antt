@@ -24,7 +24,7 @@ pub record Relocating : Type 0 where
   pub add : Add
   pub next : AddNext
 
--- the add's record after it was led
+-- the add's record after an answer
 abbrev pub add_in : AddNext → Add → Add
 add_in (AddsAt l b) a = b
 add_in (Ends o) a = a
@@ -51,7 +51,7 @@ abbrev pub outcome_of : AddNext → Option Outcome
 outcome_of (AddsAt l a) = None
 outcome_of (Ends o) = Some o
 
--- it is led on
+-- it goes on
 abbrev pub at_next : AddNext → Relocating → Relocating
 at_next d r = record r { add = add_in d r.add; next = d }
 
