@@ -15,8 +15,10 @@ use Rattle.hp_model.specs.Platform.{tile}
 use Rattle.hp_model.specs.Block.{is_in}
 use Rattle.hp_model.specs.Boot.{value_in}
 use Rattle.hp_model.specs.Slots.{slot_among}
-use Rattle.hp_model.specs.Collection.{Report}
-use Rattle.hp_model.specs.Monarch.{Decision, ToTell, ToAdd, ToEject, is_that}
+use Rattle.hp_model.specs.declared.reports.Report.{Report}
+use Rattle.hp_model.specs.declared.reports.Decision.{Decision}
+use Rattle.hp_model.specs.declared.reports.Decision.TheVariants.{Tell as ToTell, Add as ToAdd, Eject as ToEject}
+use Rattle.hp_model.specs.Monarch.{is_that}
 use Rattle.hp_model.specs.State.{State, at}
 use Rattle.hp_model.specs.Access.{stands_in_smm}
 use Rattle.hp_model.specs.Firmware.{same_outcome}

@@ -10,7 +10,7 @@ use Rattle.hp_model.specs.Memory.{touched}
 use Rattle.hp_model.specs.Block.{is_in}
 use Rattle.hp_model.specs.SharedBytes.{gate}
 use Rattle.hp_model.specs.Slots.{slot_among}
-use Rattle.hp_model.specs.Collection.{Report}
+use Rattle.hp_model.specs.declared.reports.Report.{Report}
 use Rattle.hp_model.specs.Monarch.{is_that}
 use Rattle.hp_model.specs.State.{State, at}
 use Rattle.hp_model.specs.Boot.{value_in}

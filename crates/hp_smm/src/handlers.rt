@@ -3,18 +3,16 @@
 ghost use Rattle.std.specs.Prelude.{◌≡◌, ◌≤◌, ◌==◌, Some, option_map, IfOk, IfSome, IsTrue, if◌then◌else◌};
 ghost use Rattle.hp_model.specs.Boot.{value_in};
 ghost use Rattle.hp_model.specs.Handlers.{address_of_label, is_current as is_current_at, is_tile as is_tile_at, next_at, runs_at, slot_at as slot_of, want_at};
-ghost use Rattle.hp_model.specs.Labels.{part_of};
+ghost use Rattle.hp_model.specs.Labels.{handler_of};
 ghost use Rattle.hp_model.specs.Monarch.{monarch_start, restarted, with_features};
-ghost use Rattle.hp_model.specs.Platform.{IsFit};
+ghost use Rattle.hp_model.specs.Platform.{IsFit, greatest_id};
 ghost use Rattle.hp_model.specs.SharedBytes.{layout_of, tile_in};
-ghost use Rattle.hp_image.specs.Handlers.{part_named};
 ghost use Rattle.hp_model.specs.Fitting.{FitsWant};
-ghost use Rattle.hp_reloc.specs.Relocating.{greatest};
 ghost use Rattle.hp_smm.specs.Rows.{next_for, row_for, seat_for};
 
 use crate::relocated::{relocated_next, relocated_want};
-use hp_image::{Handler, label_of, mark, position_of};
-use hp_model::{Answer, Label, NoMemory, Platform, Want};
+use hp_image::{label_of, mark, position_of};
+use hp_model::{Answer, Handler, Label, NoMemory, Platform, Want};
 use hp_monarch::Monarch;
 use hp_reloc::{first_next, first_want_by};
 use std::alloc::Global;
@@ -111,7 +109,7 @@ impl Handlers {
 
     /// Whether this handler runs where the processor stands: processor 0 runs the monarch alone.
     fn runs(&self, handler: Handler, me: &SmmCpu) -> bool
-        ensures value { result ≡ runs_at self.now.layout (part_named handler) me.now.cpu me.now.smbase }
+        ensures value { result ≡ runs_at self.now.layout handler me.now.cpu me.now.smbase }
         ensures below { IsTrue result → me.now.smbase ≤ 0x90000000 }
     {
         match handler {
@@ -125,7 +123,7 @@ impl Handlers {
 
     /// Whether it is this label's turn: the monarch's is the one where its record stands.
     fn is_current(&self, label: Label) -> bool
-        ensures { result ≡ is_current_at self.now.monarch (part_of label) label }
+        ensures { result ≡ is_current_at self.now.monarch (handler_of label) label }
     {
         match position_of(label).handler {
             Handler::Monarch => mark(label) == mark(self.monarch.label()),
@@ -149,7 +147,7 @@ impl Handlers {
 
     /// What is wanted at a label whose row is due.
     fn want_at(&self, me: &SmmCpu, label: Label) -> Want
-        requires apic { me.now.apic ≤ greatest self.now.layout.x2apic }
+        requires apic { me.now.apic ≤ greatest_id self.now.layout.x2apic }
         requires row { row_for self.now me.now ≡ Some label }
         ensures { want_at self.now.layout (seat_for self.now me.now) self.now.monarch label ≡ Some result }
     {
@@ -164,7 +162,7 @@ impl Handlers {
 
     /// The row that is due where the processor stands: its label, and what it wants. `None` where no handler's row is due.
     pub fn row(&self, me: &SmmCpu) -> Option<(Label, Want)>
-        requires { me.now.apic ≤ greatest self.now.layout.x2apic }
+        requires { me.now.apic ≤ greatest_id self.now.layout.x2apic }
         ensures label { row_for self.now me.now ≡ option_map (λ row. row.0) result }
         ensures want { IfSome result (λ row. want_at self.now.layout (seat_for self.now me.now) self.now.monarch row.0 ≡ Some row.1) }
         ensures smbase { IfSome result (λ row. me.now.smbase ≤ 0x90000000) }
