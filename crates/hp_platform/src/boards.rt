@@ -151,7 +151,6 @@ impl Board {
         ensures stands { (s : State) → StandsFor self.now s → IfSome result (λ row. IsSmmCpu self.now.platform s cpu row.0) }
         ensures cpu { IfSome result (λ row. row.0.cpu ≡ cpu) }
         ensures label { IfSome result (λ row. row_for self.now.handlers row.0 ≡ Some row.1) }
-        ensures smbase { IfSome result (λ row. row.0.smbase ≤ 0x90000000) }
     {
         let Some(smm_cpu) = self.smm_cpu(cpu) else {
             return None;
