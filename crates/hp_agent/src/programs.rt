@@ -85,16 +85,6 @@ pub struct Program {
     pub removals: Vec<u32>,
 }
 
-/// The value of an answer, 0 where it has none.
-fn value_of(answer: Answer) -> u64
-    ensures { result ≡ value_in answer }
-{
-    match answer {
-        Answer::Quiet => 0,
-        Answer::Value(value) => value,
-    }
-}
-
 fn read(port: u16, width: u8) -> Access
     ensures { result ≡ in_of port width }
 {
@@ -408,7 +398,7 @@ impl Program {
         ensures says { said_by result self.new ≡ os_says self.old.halves.items (point_in self.old) (value_in last) }
         ensures sound { IsSound self.new }
     {
-        let value = value_of(last);
+        let value = last.value();
         match self.point {
             Point::Polls => self.look(),
             Point::Polled => self.hear((value & 0xff) as u8),

@@ -10,8 +10,7 @@ use hp_model::{Access, Answer};
 use http_server::Log;
 use std::marker::Model;
 
-/// Ejects of one processor after another are handed to the firmware, all others get INIT and an SMI, 0 is stored in the gate, and
-/// the firmware is called.
+/// Ejects are handed to the firmware, all others get INIT and an SMI, 0 is stored in the gate, and the firmware is called.
 #[derive(Drop)]
 pub struct Storm {
     count: u32,
@@ -69,7 +68,8 @@ fn access_of(count: u32, asked: u32) -> Access
 }
 
 impl Storm {
-    /// For so many processors: it selects 0 to `count + 1`, so also two that there aren't.
+    /// For so many processors. Where the number of times that it was asked is a multiple of 6, it selects that number modulo
+    /// `count + 2`, so always below `count + 2`; such a selector may name no processor.
     pub fn new(count: u32) -> Storm
         requires { count ≤ 4294967293 }
         ensures { result ≡ fresh (storm count 0) }

@@ -7,7 +7,7 @@ ghost use Rattle.hp_model.specs.Boot.{tseg_enabled, block_accesses, area_accesse
 ghost use Rattle.hp_boot.specs.Booting.{tail_accesses};
 
 use hp_image::mark;
-use hp_model::{Access, Label};
+use hp_model::{Access, CLOSED, GATE, Label};
 
 fn load(addr: u32, width: u8) -> Access
     ensures { result ≡ access.Load addr width }
@@ -88,7 +88,7 @@ fn gate_access(index: u8) -> Access
     ensures { result ≡ slice_index_or gate_accesses index access.Nop }
 {
     match index {
-        0 => store(0x30000, 8, 0xffffffffffffffff),
+        0 => store(GATE, 8, CLOSED),
         1 => cfg_write(0x9c, 0x02),
         _ => Access::Nop,
     }

@@ -2,12 +2,11 @@
 
 ghost use Rattle.std.specs.Prelude.{◌≡◌, false, length, IfOk, OnErr};
 ghost use Rattle.hp_model.specs.Platform.{IsFit};
-ghost use Rattle.hp_model.specs.Runs.{address_of as address_in};
 ghost use Rattle.hp_model.specs.State.{start};
 ghost use Rattle.hp_check.specs.Walk.{IsSound, Steps, is_told};
 
 use hp_agent::{Agents, PenAgent, Voice};
-use hp_model::{Answer, Entry, Event, NoMemory, Platform};
+use hp_model::{Answer, Entry, NoMemory, Platform};
 use hp_platform::Live;
 use std::alloc::Global;
 use std::marker::Model;
@@ -38,19 +37,6 @@ fn nobody(alloc: Global, count: usize) -> Result<Agents<PenAgent>, NoMemory>
         places.push(None)?;
     }
     Ok(Agents::new(places))
-}
-
-/// The instruction address that an entry of this event has now.
-fn address_of(live: &Live<PenAgent>, event: &Event) -> Option<u32>
-    ensures { result ≡ address_in live.now.state event.now }
-{
-    match *event {
-        Event::Insert(_) | Event::Remove(_) => None,
-        Event::Do(cpu, _) | Event::TakeSmi(cpu) | Event::TakeInit(cpu) | Event::Resume(cpu) => {
-            live.address(cpu)
-        }
-        Event::Tell(_) => live.address(0),
-    }
 }
 
 /// Whether this is the answer of an entry, and this its address. Where there was no answer it was no step.
@@ -88,7 +74,7 @@ impl Walk {
         ensures stepped { IfOk result (Steps self.old self.new e.now) }
         ensures no_memory { OnErr result (self.new ≡ self.old) }
     {
-        let at = address_of(&self.live, &e.event);
+        let at = self.live.address_of(&e.event);
         let answer = self.live.apply(&e.event)?;
         let same = is_entry(e, answer, at);
         self.stopped = !same;

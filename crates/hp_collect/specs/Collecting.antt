@@ -1,15 +1,14 @@
 -- What contracts see of a collection: how many processors are possible, and where the last answer led.
-use Rattle.std.specs.Prelude.{◌≡◌, ℕ, List, map}
+use Rattle.std.specs.Prelude.{◌≡◌, ℕ}
 use Rattle.hp_model.specs.declared.accesses.Answer.{Answer}
 use Rattle.hp_model.specs.declared.labels.Label.{Label}
-use Rattle.hp_model.specs.Collection.{Collection, CollectNext, CollectsAt, CollectEnds, Report}
+use Rattle.hp_model.specs.Collection.{Collection, CollectNext, CollectsAt, CollectEnds}
 use Rattle.hp_model.specs.Fitting.{FitsWant}
 use Rattle.hp_model.specs.Handlers.{Seat, want_at}
 use Rattle.hp_model.specs.Monarch.{Monarch}
 use Rattle.hp_model.specs.SharedBytes.{Layout}
 use Rattle.hp_collect.specs.Standing.{label_of}
 use Rattle.hp_collect.specs.declared.rows.Row.{Row}
-use Rattle.hp_collect.specs.declared.collects.Reported.{Reported}
 use Rattle.hp_collect.specs.declared.collects.Stage.{Stage}
 use Rattle.hp_collect.specs.declared.collects.Stage.TheVariants.{More, Ended}
 
@@ -40,10 +39,3 @@ pub record IsOfCollection (l : Label) : Type 0 where
 abbrev pub Fits : CollectNext → Answer → Type 0
 Fits (CollectsAt l c) answer = (y : Layout) (x : Seat) (r : Monarch) → r.collection ≡ c → FitsWant (want_at y x r l) answer
 Fits (CollectEnds c) answer = ⊥
-
--- what the rules see of a report, and of several in their order
-abbrev pub report_of : Reported → Report
-report_of t = record { cpu = t.cpu; status = t.status; apic = t.apic }
-
-abbrev pub reports_of : List Reported → List Report
-reports_of ts = map report_of ts

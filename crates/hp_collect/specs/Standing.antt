@@ -4,7 +4,7 @@ use Rattle.std.specs.List.{list_all}
 use Rattle.hp_model.specs.declared.labels.Label.{Label}
 use Rattle.hp_model.specs.declared.labels.Label.TheVariants as label
 use Rattle.hp_model.specs.Collection.{Collection, CollectNext, CollectsAt, CollectEnds}
-use Rattle.hp_collect.specs.declared.collects.Reported.{Reported}
+use Rattle.hp_model.specs.declared.reports.Report.{Report}
 use Rattle.hp_collect.specs.declared.rows.Row.{Row}
 use Rattle.hp_collect.specs.declared.rows.Row.TheVariants as row
 
@@ -26,10 +26,10 @@ IsPlace None cpu count = cpu ≤ count
 IsPlace (Some row) cpu count = cpu < count
 
 -- each report is of a possible processor, there are no more of them than processors that were passed, and there is room for all
-pub record IsSound (count cpu room : ℕ) (at : Option Row) (reports : List Reported) : Type 0 where
+pub record IsSound (count cpu room : ℕ) (at : Option Row) (reports : List Report) : Type 0 where
   pub some : 1 ≤ count
   pub few : count ≤ 512
   pub place : IsPlace at cpu count
   pub made : length reports ≤ cpu
-  pub possible : list_all (λ (t : Reported). nat_lt t.cpu count) reports ≡ true
+  pub possible : list_all (λ (t : Report). nat_lt t.cpu count) reports ≡ true
   pub fits : count ≤ room

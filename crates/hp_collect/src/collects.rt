@@ -13,10 +13,10 @@ ghost use Rattle.hp_model.specs.Handlers.{Seat, by_record, next_at, want_at};
 ghost use Rattle.hp_model.specs.Monarch.{Monarch, after_collection};
 ghost use Rattle.hp_model.specs.SharedBytes.{Layout};
 ghost use Rattle.hp_collect.specs.declared.rows.Row.TheVariants as rows;
-ghost use Rattle.hp_collect.specs.Collecting.{Fits, IsGoing, IsOfCollection, collection_in, reports_of, stage_of};
+ghost use Rattle.hp_collect.specs.Collecting.{Fits, IsGoing, IsOfCollection, collection_in, stage_of};
 
 use crate::rows::Row;
-use hp_model::{Access, Answer, Label, NoMemory};
+use hp_model::{Access, Answer, Label, NoMemory, Report};
 use std::alloc::Global;
 use std::marker::Model;
 
@@ -34,17 +34,6 @@ const NEXT_WITH_EVENT: u32 = 0;
 const GET_APIC_ID: u32 = 3;
 /// Status bit 1, an insert event, and bit 4, a firmware eject.
 const EVENTS: u8 = 0x12;
-
-/// What the register block said of a processor with an event.
-#[derive(Clone, Copy)]
-pub struct Reported {
-    /// Its place, which is its selector.
-    pub cpu: u32,
-    /// Its status byte: bit 0 enabled, bit 1 insert event, bit 2 remove event, bit 4 firmware eject.
-    pub status: u8,
-    /// Its APIC ID.
-    pub apic: u32,
-}
 
 /// Whether a collection goes on.
 #[derive(Clone, Copy)]
@@ -65,7 +54,7 @@ pub struct Collect {
     /// Its status byte, once it has an event.
     status: u8,
     /// There is room for one of each possible processor.
-    reports: Vec<Reported>,
+    reports: Vec<Report>,
 }
 
 impl Model for Collect {
@@ -74,12 +63,11 @@ impl Model for Collect {
 
     ghost Value = { Collecting };
 
-    ghost use Rattle.hp_collect.specs.Collecting.{reports_of};
     ghost use Rattle.hp_collect.specs.Standing.{IsSound, next_of};
 
     ghost view = { λ c. record {
       count = c.count;
-      next = next_of c.row (record { cpu = c.cpu; status = c.status; reports = reports_of c.reports.items });
+      next = next_of c.row (record { cpu = c.cpu; status = c.status; reports = c.reports.items });
     } };
 
     ghost invariant = { λ c. IsSound c.count c.cpu (vec_capacity c.reports) c.row c.reports.items };
@@ -209,7 +197,7 @@ impl Collect {
         requires { IsGoing self.old.next }
         ensures { self.new ≡ record self.old { next = reported self.old.count apic (collection_in self.old.next) } }
     {
-        let report = Reported {
+        let report = Report {
             cpu: self.cpu,
             status: self.status,
             apic,
@@ -252,8 +240,8 @@ impl Collect {
     }
 
     /// The reports so far, in the order in which they were made.
-    pub fn report(&self) -> &[Reported]
-        ensures value { reports_of result.now ≡ (collection_in self.now.next).reports }
+    pub fn report(&self) -> &[Report]
+        ensures value { result.now ≡ (collection_in self.now.next).reports }
         ensures possible { list_all (λ t. nat_lt t.cpu self.now.count) result.now ≡ true }
         ensures few { length result.now ≤ self.now.count }
     {

@@ -4,4 +4,4 @@
 mod collects;
 mod rows;
 
-pub use collects::{Collect, Reported, Stage};
+pub use collects::{Collect, Stage};

@@ -83,24 +83,6 @@ impl Cpus {
         processor.hit(kind);
     }
 
-    /// Whether the processor's next step is SMI entry.
-    pub fn can_take_smi(&self, cpu: u32) -> bool
-        requires { cpu < length self.now }
-        ensures value { result ≡ may_take_smi (cpu_at self.now cpu) }
-    {
-        let processor = &self.cpus[cpu as usize];
-        processor.can_take_smi()
-    }
-
-    /// Whether the processor's next step is to take INIT.
-    pub fn can_take_init(&self, cpu: u32) -> bool
-        requires { cpu < length self.now }
-        ensures value { result ≡ may_take_init (cpu_at self.now cpu) }
-    {
-        let processor = &self.cpus[cpu as usize];
-        processor.can_take_init()
-    }
-
     /// SMI entry. Answers what is to be stored in the state save area, at the SMBASE that it names.
     pub fn enter(&mut self, cpu: u32) -> SavePlan
         requires place { cpu < length self.old }

@@ -1,7 +1,7 @@
 //! One processor, and what happens to it.
 
 ghost use Rattle.std.specs.Prelude.{◌≡◌, true, not, IsTrue, IsFalse};
-ghost use Rattle.hp_model.specs.Cpu.{absent as absent_cpu, booted as booted_cpu, inserted, is_outside, page_of, hit as hit_cpu, may_take_smi, take_smi, may_take_init, take_init as take_init_cpu, resumed, moved, halt as halt_cpu};
+ghost use Rattle.hp_model.specs.Cpu.{absent as absent_cpu, booted as booted_cpu, inserted, page_of, hit as hit_cpu, may_take_smi, take_smi, may_take_init, take_init as take_init_cpu, resumed, moved, halt as halt_cpu};
 ghost use Rattle.hp_cpu.specs.Saving.{plan_of};
 ghost use Rattle.hp_cpu.specs.Smbase.{IsSmbase};
 
@@ -33,12 +33,6 @@ impl Model for Processor {
     ghost inverse = { λ c. record { cpu = c } };
 
     ghost invariant = { λ p. IsSmbase p.cpu.smbase };
-}
-
-fn is_outside_smm(mode: Mode) -> bool
-    ensures { result ≡ is_outside mode }
-{
-    matches!(mode, Mode::Running(_) | Mode::Halted(_))
 }
 
 /// The page outside SMM, 0 elsewhere.
@@ -125,18 +119,6 @@ impl Processor {
             (Kind::Start(vector), Mode::Wait) => self.cpu.mode = Mode::Running(u32::from(vector)),
             (Kind::Start(_), _) => {}
         }
-    }
-
-    pub fn can_take_smi(&self) -> bool
-        ensures { result ≡ may_take_smi self.now }
-    {
-        self.cpu.present && self.cpu.smi && is_outside_smm(self.cpu.mode)
-    }
-
-    pub fn can_take_init(&self) -> bool
-        ensures { result ≡ may_take_init self.now }
-    {
-        self.cpu.present && !self.cpu.smi && self.cpu.init && is_outside_smm(self.cpu.mode)
     }
 
     /// SMI entry, outside SMM. Answers what is to be saved.

@@ -24,7 +24,7 @@ pub record Ejecting : Type 0 where
   pub eject : Eject
   pub next : EjectNext
 
--- the eject's record after it was led
+-- the eject's record after an answer
 abbrev pub eject_in : EjectNext → Eject → Eject
 eject_in (EjectsAt l k) j = k
 eject_in (EjectEnds o) j = j
@@ -51,7 +51,7 @@ abbrev pub outcome_of : EjectNext → Option Outcome
 outcome_of (EjectsAt l j) = None
 outcome_of (EjectEnds o) = Some o
 
--- it is led on
+-- it goes on
 abbrev pub at_next : EjectNext → Ejecting → Ejecting
 at_next d r = record r { eject = eject_in d r.eject; next = d }
 

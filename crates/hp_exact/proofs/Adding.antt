@@ -15,7 +15,8 @@ use Rattle.hp_model.specs.Platform.{count_of, tile, apic_of, is_late}
 use Rattle.hp_model.specs.Memory.{Write, byte_at}
 use Rattle.hp_model.specs.Cpu.{is_in_smm, is_outside, is_free, smm_address, may_take_smi, take_init}
 use Rattle.hp_model.specs.Boot.{Stage, value_in}
-use Rattle.hp_model.specs.Labels.{Monarch as Monarchs, part_of, index_of, same_label}
+use Rattle.hp_model.specs.declared.labels.Handler.TheVariants.{Monarch as Monarchs}
+use Rattle.hp_model.specs.Labels.{handler_of, index_of, same_label}
 use Rattle.hp_model.specs.View.{is_hole}
 use Rattle.hp_model.specs.Events.{is_access_of}
 use Rattle.hp_model.specs.SharedBytes.{layout_of, flag, arrived_byte, gate}
@@ -112,7 +113,7 @@ module _ (p : Platform) (sound : Sound p) (polled : 1 ≤ p.polls) (past : List 
       plain false false e = absurd cc
 
   -- an entry that shows nothing of it
-  unseen : (e : Entry) (vs : List Write) (home2 : ℕ → ℕ → Type 0) → ((m : Label) → part_of m ≡ Monarchs → is_at p m e ≡ false) → is_tell e ≡ false → bounds_session e ≡ false → is_access_of 0 e.event ≡ false → ((x : ℕ) → IsShared p x → Keeps x s.writes vs)
+  unseen : (e : Entry) (vs : List Write) (home2 : ℕ → ℕ → Type 0) → ((m : Label) → handler_of m ≡ Monarchs → is_at p m e ≡ false) → is_tell e ≡ false → bounds_session e ≡ false → is_access_of 0 e.event ≡ false → ((x : ℕ) → IsShared p x → Keeps x s.writes vs)
       → (is_among r.label (N11 ∷ []) ≡ true → byte_at vs y_add ≡ 1 → (byte_at s.writes y_add ≡ 1) ⊎ IsHome p s r.add.cpu r.add.slot) → Carries home2 → Shown p (e ∷ es) vs home2 r
   unseen e vs home2 away told within made kept lands carries =
       let on : ends_outcome p e ≡ false = rw (told, within, away C1 refl, away C2 refl, away C3 refl, away C4 refl, away C5 refl, away C6 refl) refl in
@@ -133,7 +134,7 @@ module _ (p : Platform) (sound : Sound p) (polled : 1 ≤ p.polls) (past : List 
 
   -- a row of the monarch's, with what it does to memory, and where it leads
   row_on : (l : Label) (e : Entry) (vs : List Write) (home2 : ℕ → ℕ → Type 0) (u : Monarch) → AtMonarch p s l → ends_outcome p e ≡ is_ending l → (is_ending l ≡ false → is_access_of 0 e.event ≡ true)
-      → ((m : Label) → part_of m ≡ Monarchs → is_at p m e ≡ (index_of l == index_of m)) → opens p r.add.apic e ≡ (index_of l == 19)
+      → ((m : Label) → handler_of m ≡ Monarchs → is_at p m e ≡ (index_of l == index_of m)) → opens p r.add.apic e ≡ (index_of l == 19)
       → Deeds (layout_of p) s.writes vs (IsHome p s) home2 (bound p (e ∷ es)) r l (value_in e.answer) → u ≡ (next_at (layout_of p) (seat p s 0) r l (value_in e.answer)).monarch → Shown p (e ∷ es) vs home2 u
   row_on l e vs home2 u here on made seen opened deeds is = by_end (is_ending l) refl
       (row_add (layout_of p) (trail_of p r.add.apic (own p es)) (bound p (before p es)) (bound p (e ∷ es)) s.writes vs (IsHome p s) home2 (seat p s 0) r (value_in e.answer) polled l here.part here.label deeds (subst (AddAt (layout_of p) (trail_of p r.add.apic (own p es)) (bound p (before p es)) s.writes (IsHome p s) r) here.label h))
@@ -176,7 +177,7 @@ module _ (p : Platform) (sound : Sound p) (polled : 1 ≤ p.polls) (past : List 
       t : State
       t = ends (led_on p s 0 l (value_in (answer_to true a s)) (access_effect p 0 true a s)) g (not (same_label l S2) && s.disturbed)
 
-      seen : (m : Label) → part_of m ≡ Monarchs → is_at p m e ≡ (index_of l == index_of m)
+      seen : (m : Label) → handler_of m ≡ Monarchs → is_at p m e ≡ (index_of l == index_of m)
       seen m part = at_monarch p l m e (tile p 0) refl here.place part
 
       untold : (b : Bool) → (index_of l == 34) ≡ b → b ≡ false
@@ -230,7 +231,7 @@ module _ (p : Platform) (sound : Sound p) (polled : 1 ≤ p.polls) (past : List 
       t : State
       t = ends (led_on p s 0 T 0 s) g s.disturbed
 
-      seen : (m : Label) → part_of m ≡ Monarchs → is_at p m e ≡ (index_of T == index_of m)
+      seen : (m : Label) → handler_of m ≡ Monarchs → is_at p m e ≡ (index_of T == index_of m)
       seen m part = at_monarch p T m e (tile p 0) refl here.place part
 
       opened : opens p r.add.apic e ≡ false
@@ -327,7 +328,7 @@ module _ (p : Platform) (sound : Sound p) (polled : 1 ≤ p.polls) (past : List 
     enters = shows_enters;
     inits = λ k g may. unseen (entry_by s (TakeInit k)) s.writes (IsHome p (ends (set_cpu k (take_init (at s k)) s) g s.disturbed)) (λ m part. at_none p m (entry_by s (TakeInit k)) (init_outside (at s k) may)) refl refl refl still same_lands;
     rests = λ g here carries. ended (entry_by s (Resume 0)) s.writes (IsHome p (ends (leave_smm 0 s) g s.disturbed)) r
-        (let none : (m : Label) → part_of m ≡ Monarchs → is_at p m (entry_by s (Resume 0)) ≡ (37 == index_of m) = λ m part. at_monarch p E7 m (entry_by s (Resume 0)) (tile p 0) refl here.place part in rw (none C1 refl, none C2 refl, none C3 refl, none C4 refl, none C5 refl, none C6 refl) refl)
+        (let none : (m : Label) → handler_of m ≡ Monarchs → is_at p m (entry_by s (Resume 0)) ≡ (37 == index_of m) = λ m part. at_monarch p E7 m (entry_by s (Resume 0)) (tile p 0) refl here.place part in rw (none C1 refl, none C2 refl, none C3 refl, none C4 refl, none C5 refl, none C6 refl) refl)
         (subst (AddAt (layout_of p) no_trail (bound p (entry_by s (Resume 0) ∷ es)) s.writes (IsHome p (ends (leave_smm 0 s) g s.disturbed)) r) (sym here.label) tt);
     returns = λ k l g here where_is. unseen (entry_by s (Resume k)) s.writes (IsHome p (ends (leave_smm k s) g s.disturbed)) (λ m part. at_other p l m (entry_by s (Resume k)) k (at s k).smbase sound here.runs here.part here.place part) refl (let z = is_first k here.other in rw z refl) refl still same_lands;
     tells = shows_told;

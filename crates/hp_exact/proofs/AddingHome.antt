@@ -15,7 +15,8 @@ use Rattle.hp_model.specs.View.{loaded}
 use Rattle.hp_model.specs.Cpu.{inserted, cpu_at, take_smi, take_init, resumed}
 use Rattle.hp_model.specs.Block.{is_in}
 use Rattle.hp_model.specs.Boot.{value_in}
-use Rattle.hp_model.specs.Labels.{Relocated, Monarch as Monarchs, part_of}
+use Rattle.hp_model.specs.declared.labels.Handler.TheVariants.{Relocated, Monarch as Monarchs}
+use Rattle.hp_model.specs.Labels.{handler_of}
 use Rattle.hp_model.specs.SharedBytes.{layout_of, arrived_byte, parked_byte, gate, closed, flag, default_smbase_field}
 use Rattle.hp_model.specs.SaveArea.{saved_smbase, saved_rip}
 use Rattle.hp_model.specs.Slots.{slot_among}
@@ -133,7 +134,7 @@ low_misses base a n x above low from = grind (arith, nat_tests)
 later_misses : (base a x : ℕ) → base + 0x1000 ≤ a → x < base + 0x1000 → (nat_le a x && nat_lt x (a + 1)) ≡ false
 later_misses base a x from to = grind (arith, nat_tests)
 
-row_arrived : (p : Platform) (k : ℕ) (s : State) (q : Seat) (r : Monarch) (x : ℕ) (l : Label) → Sound p → tseg p ≤ x → x < tseg p + 0x1000 → part_of l ≢ Monarchs → (l ≡ R1 → x ≢ arrived_byte (layout_of p) q.slot) → Bytes p k s x (want_at (layout_of p) q r l)
+row_arrived : (p : Platform) (k : ℕ) (s : State) (q : Seat) (r : Monarch) (x : ℕ) (l : Label) → Sound p → tseg p ≤ x → x < tseg p + 0x1000 → handler_of l ≢ Monarchs → (l ≡ R1 → x ≢ arrived_byte (layout_of p) q.slot) → Bytes p k s x (want_at (layout_of p) q r l)
 row_arrived p k s q r x F1 sound from to other own = pick (Leaves x s.writes) (loaded s.locks true (byte_at s.writes) gate 8 == q.apic) _ _ (elsewhere s.locks gate 8 closed x s.writes (low_misses (tseg p) gate 8 x sound.above (omega arith) from)) (inl refl)
 row_arrived p k s q r x F2 sound from to other own = inl refl
 row_arrived p k s q r x F3 sound from to other own = elsewhere s.locks default_smbase_field 4 q.base x s.writes (low_misses (tseg p) default_smbase_field 4 x sound.above (omega arith) from)
@@ -207,7 +208,7 @@ module _ (p : Platform) (sound : Sound p) (past : List Transition) (s : State) (
       same_place base i j e = grind (arith, nat_tests)
 
       by_slot : (c : Bool) → ((seat p s k).slot == r.add.slot) ≡ c → l ≡ R1 → (byte_at s.writes x ≡ 1) ⊎ IsHome p s r.add.cpu r.add.slot
-      by_slot true is first = inr (arriving k (at s k).smbase (smm_present (at s k) _ here.place) refl (subst (λ m. runs_at (layout_of p) (part_of m) k (at s k).smbase ≡ true) first here.runs) (eqb-true (seat p s k).slot r.add.slot is))
+      by_slot true is first = inr (arriving k (at s k).smbase (smm_present (at s k) _ here.place) refl (subst (λ m. runs_at (layout_of p) (handler_of m) k (at s k).smbase ≡ true) first here.runs) (eqb-true (seat p s k).slot r.add.slot is))
       by_slot false is first = misses (λ _ e. let both = sym (same_place (tseg p) (seat p s k).slot r.add.slot (sym e)) ∙ is in cc)
 
       by_label : (c : Bool) → is_among l (R1 ∷ []) ≡ c → (byte_at s.writes x ≡ 1) ⊎ IsHome p s r.add.cpu r.add.slot

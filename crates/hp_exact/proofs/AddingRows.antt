@@ -9,13 +9,18 @@ use Rattle.hp_model.specs.declared.labels.Label.{Label}
 use Rattle.hp_model.specs.declared.labels.Label.TheVariants.{F1, R1, R2, R3, R4, R5, R6, S0, S1, S2, S3, S4, C1, C2, C3, C4, C5, C6, NB, N0, N1, N2, N3, N4, N5, N6, N7, N8a, N8b, N9, N10, N11, E0, E1, E2, E3, E4a, E4b, E4c, E4d, E4e, E4f, E4g, E4h, T, E5, E6, E7}
 use Rattle.hp_model.specs.Memory.{Write, byte_at}
 use Rattle.hp_model.specs.Block.{is_in}
-use Rattle.hp_model.specs.Labels.{Monarch as Monarchs, part_of, index_of}
+use Rattle.hp_model.specs.declared.labels.Handler.TheVariants.{Monarch as Monarchs}
+use Rattle.hp_model.specs.Labels.{handler_of, index_of}
 use Rattle.hp_model.specs.SharedBytes.{Layout, flag, arrived_byte}
 use Rattle.hp_model.specs.Slots.{known_from, bind}
-use Rattle.hp_model.specs.Collection.{Report, Collection, CollectsAt, CollectEnds, next_processor, found, judged, collection_start}
+use Rattle.hp_model.specs.declared.reports.Report.{Report}
+use Rattle.hp_model.specs.Collection.{Collection, CollectsAt, CollectEnds, next_processor, found, judged, collection_start}
 use Rattle.hp_model.specs.Add.{Add, AddsAt, Ends, looks, is_last_look, saw_flag, saw_pair, shut, saw_arrival}
 use Rattle.hp_model.specs.Eject.{EjectsAt, awaits}
-use Rattle.hp_model.specs.Monarch.{Monarch, at_label, look_at, noted, Decision, ToTell, ToAdd, ToEject, refuses, Facts as Tests, held_decision, insert_decision, eject_decision, decision, facts_of as facts_by, took, answered, taken_up, next_report, after_collection, after_add, after_eject, after_tell}
+use Rattle.hp_model.specs.declared.reports.Facts.{Facts as Tests}
+use Rattle.hp_model.specs.declared.reports.Decision.{Decision}
+use Rattle.hp_model.specs.declared.reports.Decision.TheVariants.{Tell as ToTell, Add as ToAdd, Eject as ToEject}
+use Rattle.hp_model.specs.Monarch.{Monarch, at_label, look_at, noted, refuses, held_decision, insert_decision, eject_decision, decision, facts_of as facts_by, took, answered, taken_up, next_report, after_collection, after_add, after_eject, after_tell}
 use Rattle.hp_model.specs.Account.{with_bound}
 use Rattle.hp_model.specs.Handlers.{Seat, next_at}
 use Rattle.hp_sealed.proofs.Left.{pick, pick_by}
@@ -189,7 +194,7 @@ module _ (y : Layout) (t : Trail) (old bound : List ℕ) (ws vs : List Write) (h
   add_look l polls (Some slot) u = tt
 
   -- each row
-  pub row_add : (l : Label) → part_of l ≡ Monarchs → r.label ≡ l → Deeds y ws vs home home2 bound r l v → AddAt y t old ws home r l → Then l (next_at y q r l v).monarch
+  pub row_add : (l : Label) → handler_of l ≡ Monarchs → r.label ≡ l → Deeds y ws vs home home2 bound r l v → AddAt y t old ws home r l → Then l (next_at y q r l v).monarch
   row_add S0 mine is d h = pick (Then S0) (nat_lt 1 (length r.slots.bound)) (record r { label = S1; slot = 1 }) (at_label S2 r) tt tt
   row_add S1 mine is d h = pick (Then S1) (nat_lt (r.slot + 1) (length r.slots.bound)) (record r { label = S1; slot = r.slot + 1 }) (at_label S2 r) tt tt
   row_add S2 mine is d h = add_look S2 y.polls (known_from r.slots 1) r
@@ -288,7 +293,7 @@ look_apic polls None u = refl
 look_apic polls (Some slot) u = refl
 
 -- but where a row ends an outcome's entries, the add's APIC ID stays
-pub apic_stays : (y : Layout) (q : Seat) (r : Monarch) (l : Label) (v : ℕ) → part_of l ≡ Monarchs → is_ending l ≡ false → (next_at y q r l v).monarch.add.apic ≡ r.add.apic
+pub apic_stays : (y : Layout) (q : Seat) (r : Monarch) (l : Label) (v : ℕ) → handler_of l ≡ Monarchs → is_ending l ≡ false → (next_at y q r l v).monarch.add.apic ≡ r.add.apic
 apic_stays y q r S0 v mine e = pick (λ (u : Monarch). u.add.apic ≡ r.add.apic) (nat_lt 1 (length r.slots.bound)) (record r { label = S1; slot = 1 }) (at_label S2 r) refl refl
 apic_stays y q r S1 v mine e = pick (λ (u : Monarch). u.add.apic ≡ r.add.apic) (nat_lt (r.slot + 1) (length r.slots.bound)) (record r { label = S1; slot = r.slot + 1 }) (at_label S2 r) refl refl
 apic_stays y q r S2 v mine e = look_apic y.polls (known_from r.slots 1) r
@@ -326,7 +331,7 @@ apic_stays y q r E7 v mine e = refl
 apic_stays y q r _ v mine e = absurd cc
 
 -- and where it does, the bound APIC IDs are those of the entries
-pub ending_bound : (B : List ℕ) (S : Session) (r : Monarch) (l : Label) → part_of l ≡ Monarchs → is_ending l ≡ true → TiedAt B S r (tie_of l) → (r.slots.bound ≡ B) × ((index_of l == 19) ≡ false)
+pub ending_bound : (B : List ℕ) (S : Session) (r : Monarch) (l : Label) → handler_of l ≡ Monarchs → is_ending l ≡ true → TiedAt B S r (tie_of l) → (r.slots.bound ≡ B) × ((index_of l == 19) ≡ false)
 ending_bound B S r C1 mine e h = (h.0, refl)
 ending_bound B S r C2 mine e h = (h.0, refl)
 ending_bound B S r C3 mine e h = (h.0, refl)

@@ -7,7 +7,8 @@ use Rattle.hp_model.specs.declared.labels.Label.TheVariants.{N7, N8a, N8b, N9, N
 use Rattle.hp_model.specs.declared.entries.Entry.{Entry}
 use Rattle.hp_model.specs.Boot.{value_in}
 use Rattle.hp_model.specs.Block.{is_in}
-use Rattle.hp_model.specs.Labels.{Monarch as Monarchs, part_of, index_of}
+use Rattle.hp_model.specs.declared.labels.Handler.TheVariants.{Monarch as Monarchs}
+use Rattle.hp_model.specs.Labels.{handler_of, index_of}
 use Rattle.hp_model.specs.Events.{is_access_of}
 use Rattle.hp_model.specs.Transitions.{Transition, entries_of, since, older_than, newest}
 use Rattle.hp_model.specs.Account.{is_at}
@@ -142,7 +143,7 @@ module _ (p : Platform) (apic : ℕ) (e : Entry) (xs : List Entry) where
   entered_more false is = rw (older_more (is_at p N10) e xs, is) refl
 
   -- an access of the monarch
-  pub trail_made : (l : Label) → is_access_of 0 e.event ≡ true → ((m : Label) → part_of m ≡ Monarchs → is_at p m e ≡ (index_of l == index_of m)) → opens p apic e ≡ (index_of l == 19) → trail_of p apic (e ∷ xs) ≡ trail_after l (value_in e.answer) (trail_of p apic xs)
+  pub trail_made : (l : Label) → is_access_of 0 e.event ≡ true → ((m : Label) → handler_of m ≡ Monarchs → is_at p m e ≡ (index_of l == index_of m)) → opens p apic e ≡ (index_of l == 19) → trail_of p apic (e ∷ xs) ≡ trail_after l (value_in e.answer) (trail_of p apic xs)
   trail_made l made at opened =
       rw (
         opened_more (index_of l == 19) opened,
@@ -159,7 +160,7 @@ module _ (p : Platform) (apic : ℕ) (e : Entry) (xs : List Entry) where
       ) refl
 
   -- an entry at none of its labels, and no access of processor 0
-  pub trail_still : is_access_of 0 e.event ≡ false → ((m : Label) → part_of m ≡ Monarchs → is_at p m e ≡ false) → trail_of p apic (e ∷ xs) ≡ trail_of p apic xs
+  pub trail_still : is_access_of 0 e.event ≡ false → ((m : Label) → handler_of m ≡ Monarchs → is_at p m e ≡ false) → trail_of p apic (e ∷ xs) ≡ trail_of p apic xs
   trail_still made at =
       let seven = at N7 refl in
       let none : opens p apic e ≡ false = rw seven refl in

@@ -5,7 +5,9 @@ use Rattle.hp_model.specs.declared.platforms.Platform.{Platform}
 use Rattle.hp_model.specs.declared.labels.Label.{Label}
 use Rattle.hp_model.specs.Platform.{tseg, count_of}
 use Rattle.hp_model.specs.Memory.{Write, covers, byte_at, write_of}
-use Rattle.hp_model.specs.Labels.{First, Relocated, Monarch as Monarchs, Part, part_of, index_of, first_cell, cell_of, mark_of}
+use Rattle.hp_model.specs.declared.labels.Handler.{Handler}
+use Rattle.hp_model.specs.declared.labels.Handler.TheVariants.{First, Relocated, Monarch as Monarchs}
+use Rattle.hp_model.specs.Labels.{handler_of, index_of, first_cell, cell_of, mark_of}
 use Rattle.hp_model.specs.SharedBytes.{layout_of, release_byte}
 use Rattle.hp_model.specs.Image.{relocated_labels, monarch_labels, with_cells, with_tiles, with_releases, image}
 use Rattle.hp_model.proofs.Bytes.{length-bytes_of}
@@ -29,7 +31,7 @@ unfolding with_cells
 cells_leave p slot x [] ws sound from to = refl
 cells_leave p slot x (l ∷ ls) ws sound from to =
     cells_leave p slot x ls (write_of (cell_of p l slot) 4 (mark_of l) ∷ ws) sound from to
-    ∙ (left_more x (write_of (cell_of p l slot) 4 (mark_of l)) ws (misses (cell_of p l slot) 4 (mark_of l) x (by_part (part_of l)))).byte
+    ∙ (left_more x (write_of (cell_of p l slot) 4 (mark_of l)) ws (misses (cell_of p l slot) 4 (mark_of l) x (by_handler (handler_of l)))).byte
   where
     small : index_of l ≤ 40
     small = index_small l
@@ -37,10 +39,10 @@ cells_leave p slot x (l ∷ ls) ws sound from to =
     above : 0x800000 ≤ tseg p
     above = sound.above
 
-    by_part : (q : Part) → (first_cell p q slot + 4 * index_of l + 4 ≤ x) ⊎ (x < first_cell p q slot + 4 * index_of l)
-    by_part First = inl (omega (arith, small, above, from))
-    by_part Relocated = inr (omega (arith, to))
-    by_part Monarchs = inr (omega (arith, to))
+    by_handler : (q : Handler) → (first_cell p q slot + 4 * index_of l + 4 ≤ x) ⊎ (x < first_cell p q slot + 4 * index_of l)
+    by_handler First = inl (omega (arith, small, above, from))
+    by_handler Relocated = inr (omega (arith, to))
+    by_handler Monarchs = inr (omega (arith, to))
 
 tiles_leave : (p : Platform) (n x : ℕ) (ws : List Write) → Sound p → tseg p + 0x1000 ≤ x → x < tseg p + 0x2000 → byte_at (with_tiles p n ws) x ≡ byte_at ws x
 unfolding with_tiles

@@ -15,7 +15,8 @@ use Rattle.hp_model.specs.Platform.{tseg, tile, count_of, apic_of, is_late, high
 use Rattle.hp_model.specs.Cpu.{absent, cpu_at, is_waiting, moved}
 use Rattle.hp_model.specs.Block.{block_write, ejected_by}
 use Rattle.hp_model.specs.Interrupts.{destination, is_target, hit_each}
-use Rattle.hp_model.specs.Labels.{Monarch as Monarchs, part_of, index_of}
+use Rattle.hp_model.specs.declared.labels.Handler.TheVariants.{Monarch as Monarchs}
+use Rattle.hp_model.specs.Labels.{handler_of, index_of}
 use Rattle.hp_model.specs.SharedBytes.{Layout, layout_of}
 use Rattle.hp_model.specs.Monarch.{Monarch, at_label}
 use Rattle.hp_model.specs.Handlers.{Seat, Next, want_at, next_at, address_of_label}
@@ -38,7 +39,7 @@ use Rattle.hp_exact.proofs.Latching.{Latches, latches_alike, latches_absent, lat
 use Rattle.hp_exact.proofs.Invariant.{Latched, is_at_label, is_calling}
 
 -- others are called in from S2 on
-pub after_row : (y : Layout) (q : Seat) (r : Monarch) (l : Label) (v : ℕ) → part_of l ≡ Monarchs → r.label ≡ l → l ≢ S2 → is_after_broadcast (next_at y q r l v).monarch.label ≡ true → is_after_broadcast l ≡ true
+pub after_row : (y : Layout) (q : Seat) (r : Monarch) (l : Label) (v : ℕ) → handler_of l ≡ Monarchs → r.label ≡ l → l ≢ S2 → is_after_broadcast (next_at y q r l v).monarch.label ≡ true → is_after_broadcast l ≡ true
 after_row y q r F1 v mine is n = absurd cc
 after_row y q r F2 v mine is n = absurd cc
 after_row y q r F3 v mine is n = absurd cc

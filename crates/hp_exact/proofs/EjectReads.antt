@@ -17,7 +17,8 @@ use Rattle.hp_model.specs.Memory.{Write, byte_at}
 use Rattle.hp_model.specs.Cpu.{is_outside, is_in_smm, is_free, smm_address, may_take_smi, may_take_init, take_init}
 use Rattle.hp_model.specs.Block.{is_in}
 use Rattle.hp_model.specs.Boot.{Stage, value_in}
-use Rattle.hp_model.specs.Labels.{Monarch as Monarchs, part_of, index_of, same_label}
+use Rattle.hp_model.specs.declared.labels.Handler.TheVariants.{Monarch as Monarchs}
+use Rattle.hp_model.specs.Labels.{handler_of, index_of, same_label}
 use Rattle.hp_model.specs.SharedBytes.{layout_of, parked_byte}
 use Rattle.hp_model.specs.Monarch.{Monarch, restarted}
 use Rattle.hp_model.specs.Handlers.{want_at}
@@ -98,7 +99,7 @@ module _ (p : Platform) (fit : Sound p) (past : List Transition) (s : State) (st
   Follows e t = Owns p t.disturbed t.monarch → Now e t
 
   -- steps of others, and of the host
-  same_said : (e : Entry) (t : State) → ((m : Label) → part_of m ≡ Monarchs → is_at p m e ≡ false) → is_tell e ≡ false → bounds_session e ≡ false → t.monarch ≡ s.monarch → (t.disturbed ≡ false → s.disturbed ≡ false)
+  same_said : (e : Entry) (t : State) → ((m : Label) → handler_of m ≡ Monarchs → is_at p m e ≡ false) → is_tell e ≡ false → bounds_session e ≡ false → t.monarch ≡ s.monarch → (t.disturbed ≡ false → s.disturbed ≡ false)
       → (is_among s.monarch.label ejecting ≡ true → IsBit p s.writes s.monarch.eject.slot → IsBit p t.writes s.monarch.eject.slot) → Now e t
   same_said e t unseen silent within same quiet bit =
       let own = ap entries_of (own_more p (made s e t) past (elsewhere p e unseen silent within)) in
@@ -193,7 +194,7 @@ module _ (p : Platform) (fit : Sound p) (past : List Transition) (s : State) (st
       t : State
       t = ends (led_on p s 0 l v (access_effect p 0 true a s)) g (not (same_label l S2) && s.disturbed)
 
-      seen : (m : Label) → part_of m ≡ Monarchs → is_at p m e ≡ (index_of l == index_of m)
+      seen : (m : Label) → handler_of m ≡ Monarchs → is_at p m e ≡ (index_of l == index_of m)
       seen m part = at_monarch p l m e (tile p 0) refl here.place part
 
       goes : ends_outcome p e ≡ (is_collects l || false)

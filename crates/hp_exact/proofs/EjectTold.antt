@@ -12,7 +12,9 @@ use Rattle.hp_model.specs.declared.entries.Entry.{Entry}
 use Rattle.hp_model.specs.Platform.{IsFit, count_of, apic_of}
 use Rattle.hp_model.specs.Cpu.{smm_address}
 use Rattle.hp_model.specs.Boot.{is_handed}
-use Rattle.hp_model.specs.Labels.{Part, First, Relocated, Monarch as Monarchs, part_of, mark_of}
+use Rattle.hp_model.specs.declared.labels.Handler.{Handler}
+use Rattle.hp_model.specs.declared.labels.Handler.TheVariants.{First, Relocated, Monarch as Monarchs}
+use Rattle.hp_model.specs.Labels.{handler_of, mark_of}
 use Rattle.hp_model.specs.SharedBytes.{layout_of}
 use Rattle.hp_model.specs.Handlers.{runs_at, is_current}
 use Rattle.hp_model.specs.State.{State, at, start}
@@ -38,7 +40,7 @@ use Rattle.hp_exact.proofs.EjectReads.{said_fresh, said_goes}
 use Rattle.hp_exact.proofs.Showing.{refusal_shows}
 use Rattle.hp_exact.proofs.LostLaw.{Lossless, lossless_begins, lossless_goes}
 
-ejecting_needs : (l : Label) → is_among l ejecting ≡ true → (part_of l ≡ Monarchs) × (need_of l ≡ Ejecting)
+ejecting_needs : (l : Label) → is_among l ejecting ≡ true → (handler_of l ≡ Monarchs) × (need_of l ≡ Ejecting)
 ejecting_needs E0 e = (refl, refl)
 ejecting_needs E1 e = (refl, refl)
 ejecting_needs E2 e = (refl, refl)
@@ -61,16 +63,16 @@ telling_reports _ e = absurd cc
 pub eject_slot : (p : Platform) (s : State) → IsHanded p s → is_among s.monarch.label ejecting ≡ true → s.monarch.eject.slot < count_of p
 eject_slot p s h mine = by_address (smm_address (at s 0)) refl
   where
-    needs : (part_of s.monarch.label ≡ Monarchs) × (need_of s.monarch.label ≡ Ejecting)
+    needs : (handler_of s.monarch.label ≡ Monarchs) × (need_of s.monarch.label ≡ Ejecting)
     needs = ejecting_needs s.monarch.label mine
 
-    of_monarch : (l : Label) → part_of l ≡ Monarchs → MonarchNeeds (facts_of p s.monarch s.writes (apic_of p 0) (at s 0).base) (need_of l) → l ≡ s.monarch.label → s.monarch.eject.slot < count_of p
+    of_monarch : (l : Label) → handler_of l ≡ Monarchs → MonarchNeeds (facts_of p s.monarch s.writes (apic_of p 0) (at s 0).base) (need_of l) → l ≡ s.monarch.label → s.monarch.eject.slot < count_of p
     of_monarch l part met is = ltb-true s.monarch.eject.slot (count_of p) (subst (MonarchNeeds (facts_of p s.monarch s.writes (apic_of p 0) (at s 0).base)) (ap need_of is ∙ needs.1) met)
 
-    by_part : (l : Label) (q : Part) → part_of l ≡ q → runs_at (layout_of p) q 0 (at s 0).smbase ≡ true → (a : ℕ) → AtCell p s.monarch s.writes 0 (at s 0).smbase (at s 0).base a l → s.monarch.eject.slot < count_of p
-    by_part l First is runs a c = absurd cc
-    by_part l Relocated is runs a c = absurd cc
-    by_part l Monarchs is runs a c =
+    by_handler : (l : Label) (q : Handler) → handler_of l ≡ q → runs_at (layout_of p) q 0 (at s 0).smbase ≡ true → (a : ℕ) → AtCell p s.monarch s.writes 0 (at s 0).smbase (at s 0).base a l → s.monarch.eject.slot < count_of p
+    by_handler l First is runs a c = absurd cc
+    by_handler l Relocated is runs a c = absurd cc
+    by_handler l Monarchs is runs a c =
         let due = subst (λ q. is_current s.monarch q l ≡ true) is c.current in
         let met = c.met in
         of_monarch l is (subst (λ q. Needs (facts_of p s.monarch s.writes (apic_of p 0) (at s 0).base) q (need_of l)) is met) (one_label l s.monarch.label (eqb-true (mark_of l) (mark_of s.monarch.label) due))
@@ -79,7 +81,7 @@ eject_slot p s h mine = by_address (smm_address (at s 0)) refl
     by_address None is = absurd (let both : Nothing ≡ Ejecting = sym (h.rests is) ∙ needs.1 in cc)
     by_address (Some a) is =
         let c : IsAtCell p s.monarch s.writes 0 (at s 0).smbase (at s 0).base (Some a) = subst (IsAtCell p s.monarch s.writes 0 (at s 0).smbase (at s 0).base) is (h.stand.each 0) in
-        by_part c.0 (part_of c.0) refl c.1.runs a c.1
+        by_handler c.0 (handler_of c.0) refl c.1.runs a c.1
 
 -- every state of a run
 pub record Refusing (p : Platform) (past : List Transition) (s : State) : Type 0 where

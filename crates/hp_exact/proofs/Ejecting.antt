@@ -16,13 +16,18 @@ use Rattle.hp_model.specs.declared.entries.Entry.{Entry}
 use Rattle.hp_model.specs.Platform.{count_of, is_late}
 use Rattle.hp_model.specs.Memory.{Write, byte_at}
 use Rattle.hp_model.specs.Block.{is_in}
-use Rattle.hp_model.specs.Labels.{Monarch as Monarchs, part_of}
+use Rattle.hp_model.specs.declared.labels.Handler.TheVariants.{Monarch as Monarchs}
+use Rattle.hp_model.specs.Labels.{handler_of}
 use Rattle.hp_model.specs.SharedBytes.{layout_of, parked_byte}
 use Rattle.hp_model.specs.Slots.{known_from}
-use Rattle.hp_model.specs.Collection.{Report, Collection, CollectNext, CollectsAt, CollectEnds, collection_start, next_processor}
+use Rattle.hp_model.specs.declared.reports.Report.{Report}
+use Rattle.hp_model.specs.Collection.{Collection, CollectNext, CollectsAt, CollectEnds, collection_start, next_processor}
 use Rattle.hp_model.specs.Add.{AddNext, Ends, failed, is_last_look}
 use Rattle.hp_model.specs.Eject.{EjectsAt}
-use Rattle.hp_model.specs.Monarch.{Monarch, Facts, Decision, ToTell, ToAdd, ToEject, is_own, decision, held_decision, facts_of, at_label, look_at, noted, took, answered, taken_up, next_report, after_collection, after_tell, after_add, after_eject}
+use Rattle.hp_model.specs.declared.reports.Facts.{Facts}
+use Rattle.hp_model.specs.declared.reports.Decision.{Decision}
+use Rattle.hp_model.specs.declared.reports.Decision.TheVariants.{Tell as ToTell, Add as ToAdd, Eject as ToEject}
+use Rattle.hp_model.specs.Monarch.{Monarch, is_own, decision, held_decision, facts_of, at_label, look_at, noted, took, answered, taken_up, next_report, after_collection, after_tell, after_add, after_eject}
 use Rattle.hp_model.specs.Handlers.{Seat, next_at}
 use Rattle.hp_model.specs.Outcomes.{values_at, reads_zeros, is_still_pending}
 use Rattle.hp_sealed.proofs.Left.{pick, pick_by}
@@ -216,7 +221,7 @@ module _ (p : Platform) (own own2 : List Entry) (d d2 : Bool) (ws ws2 : List Wri
       same : (n : ℕ) → (n == n) ≡ true
       same n = grind (arith, nat_tests)
 
-  pub said_row : (l : Label) → part_of l ≡ Monarchs → r.label ≡ l → Says p own own2 d2 ws ws2 r l v → Now (next_at (layout_of p) q r l v).monarch
+  pub said_row : (l : Label) → handler_of l ≡ Monarchs → r.label ≡ l → Says p own own2 d2 ws ws2 r l v → Now (next_at (layout_of p) q r l v).monarch
   said_row F1 mine is says = absurd cc
   said_row F2 mine is says = absurd cc
   said_row F3 mine is says = absurd cc

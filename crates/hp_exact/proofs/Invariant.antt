@@ -10,7 +10,7 @@ use Rattle.hp_model.specs.Memory.{Write, byte_at}
 use Rattle.hp_model.specs.Cpu.{is_waiting, is_outside, smm_address, cpu_at}
 use Rattle.hp_model.specs.Block.{Block, slot_at}
 use Rattle.hp_model.specs.SharedBytes.{layout_of, release_byte}
-use Rattle.hp_model.specs.Collection.{Report}
+use Rattle.hp_model.specs.declared.reports.Report.{Report}
 use Rattle.hp_model.specs.Monarch.{Monarch, is_own}
 use Rattle.hp_model.specs.Handlers.{address_of_label}
 use Rattle.hp_model.specs.State.{State}

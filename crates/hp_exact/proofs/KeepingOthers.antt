@@ -14,7 +14,8 @@ use Rattle.hp_model.specs.Memory.{Write}
 use Rattle.hp_model.specs.Cpu.{absent, inserted, cpu_at, is_waiting, is_outside, is_in_smm, is_free, smm_address, may_take_smi, take_smi, may_take_init, take_init, resumed, moved}
 use Rattle.hp_model.specs.Block.{Block}
 use Rattle.hp_model.specs.Boot.{Stage, value_in}
-use Rattle.hp_model.specs.Labels.{Monarch as Monarchs, part_of}
+use Rattle.hp_model.specs.declared.labels.Handler.TheVariants.{Monarch as Monarchs}
+use Rattle.hp_model.specs.Labels.{handler_of}
 use Rattle.hp_model.specs.SharedBytes.{layout_of}
 use Rattle.hp_model.specs.SaveArea.{saved_smbase, saved_rip}
 use Rattle.hp_model.specs.Monarch.{restarted}
@@ -57,7 +58,7 @@ module _ (p : Platform) (sound : Sound p) (ids : Ids p) (past : List Transition)
   Follows e t = Invariant p (made s e t ∷ past) t
 
   -- entries that the session's account doesn't see
-  unseen_keeps : (e : Entry) (t : State) → ((m : Label) → part_of m ≡ Monarchs → is_at p m e ≡ false) → bounds_session e ≡ false → interferes e ≡ false
+  unseen_keeps : (e : Entry) (t : State) → ((m : Label) → handler_of m ≡ Monarchs → is_at p m e ≡ false) → bounds_session e ≡ false → interferes e ≡ false
       → Parts p (account p (entries_of past)) (last_read p past) t.block t.cpus t.writes t.monarch t.disturbed → Follows e t
   unseen_keeps e t unseen within calm parts =
       let told : account p (e ∷ entries_of past) ≡ account p (entries_of past) = account_more p e (entries_of past) within ∙ (account_other p e (account p (entries_of past)) unseen ∙ rw calm refl) in
@@ -154,7 +155,7 @@ module _ (p : Platform) (sound : Sound p) (ids : Ids p) (past : List Transition)
       out : smm_address (at s k) ≡ None
       out = none_outside (at s k) outside
 
-      unseen : (m : Label) → part_of m ≡ Monarchs → is_at p m e ≡ false
+      unseen : (m : Label) → handler_of m ≡ Monarchs → is_at p m e ≡ false
       unseen m part = at_none p m e out
 
       told : account p (e ∷ entries_of past) ≡ told_account

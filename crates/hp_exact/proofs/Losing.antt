@@ -9,10 +9,12 @@ use Rattle.hp_model.specs.declared.labels.Label.TheVariants.{S0, S1, S2, S3, S4,
 use Rattle.hp_model.specs.Platform.{count_of, is_late}
 use Rattle.hp_model.specs.Cpu.{cpu_at}
 use Rattle.hp_model.specs.Block.{Block, slot_at}
-use Rattle.hp_model.specs.Labels.{Monarch as Monarchs, part_of}
+use Rattle.hp_model.specs.declared.labels.Handler.TheVariants.{Monarch as Monarchs}
+use Rattle.hp_model.specs.Labels.{handler_of}
 use Rattle.hp_model.specs.SharedBytes.{layout_of}
 use Rattle.hp_model.specs.Slots.{known_from}
-use Rattle.hp_model.specs.Collection.{Report, Collection, CollectNext, CollectsAt, CollectEnds, collection_start, next_processor}
+use Rattle.hp_model.specs.declared.reports.Report.{Report}
+use Rattle.hp_model.specs.Collection.{Collection, CollectNext, CollectsAt, CollectEnds, collection_start, next_processor}
 use Rattle.hp_model.specs.Monarch.{Monarch, at_label, look_at, noted, at_tell, adds, ejects, took, next_report, after_collection, after_tell, after_eject, is_own, facts_of}
 use Rattle.hp_model.specs.Eject.{EjectsAt}
 use Rattle.hp_model.specs.Handlers.{Seat, next_at}
@@ -106,7 +108,7 @@ module _ (p : Platform) (own own2 : List Transition) (b b2 : Block) (cs cs2 : Li
   abbrev Then : Monarch → Type 0
   Then t = Losses p own2 b2 cs2 t
 
-  pub losses_row : (l : Label) → part_of l ≡ Monarchs → r.label ≡ l → Deeds p own own2 b2 cs2 r l v → is_after_broadcast (next_at (layout_of p) q r l v).monarch.label ≡ true → Then (next_at (layout_of p) q r l v).monarch
+  pub losses_row : (l : Label) → handler_of l ≡ Monarchs → r.label ≡ l → Deeds p own own2 b2 cs2 r l v → is_after_broadcast (next_at (layout_of p) q r l v).monarch.label ≡ true → Then (next_at (layout_of p) q r l v).monarch
   losses_row S0 mine is deeds after = pick (λ (t : Monarch). is_after_broadcast t.label ≡ true → Then t) (nat_lt 1 (length r.slots.bound)) (record r { label = S1; slot = 1 }) (at_label S2 r) (λ e. absurd cc) (λ e. absurd cc) after
   losses_row S1 mine is deeds after = pick (λ (t : Monarch). is_after_broadcast t.label ≡ true → Then t) (nat_lt (r.slot + 1) (length r.slots.bound)) (record r { label = S1; slot = r.slot + 1 }) (at_label S2 r) (λ e. absurd cc) (λ e. absurd cc) after
   losses_row S2 mine is deeds after = losses_look p own2 b2 cs2 p.polls (known_from r.slots 1) r

@@ -14,7 +14,8 @@ use Rattle.hp_model.specs.Platform.{count_of, tile, is_late, apic_of}
 use Rattle.hp_model.specs.Cpu.{inserted, cpu_at, is_in_smm, is_free, smm_address, may_take_smi, take_smi, may_take_init, take_init, resumed}
 use Rattle.hp_model.specs.Block.{Block, slot_at, Slot, block_write}
 use Rattle.hp_model.specs.Boot.{Stage, value_in}
-use Rattle.hp_model.specs.Labels.{Monarch as Monarchs, part_of, index_of, same_label}
+use Rattle.hp_model.specs.declared.labels.Handler.TheVariants.{Monarch as Monarchs}
+use Rattle.hp_model.specs.Labels.{handler_of, index_of, same_label}
 use Rattle.hp_model.specs.SharedBytes.{layout_of}
 use Rattle.hp_model.specs.SaveArea.{saved_smbase, saved_rip}
 use Rattle.hp_model.specs.Monarch.{Monarch, restarted, is_own}
@@ -36,7 +37,7 @@ use Rattle.hp_safety.proofs.Marked.{at_none, at_monarch, at_other}
 use Rattle.hp_exact.proofs.Reports.{all_drop, all_last}
 use Rattle.hp_exact.proofs.Naming.{is_own-is, Ids}
 use Rattle.hp_exact.proofs.Rows.{reads_row, stays_row, reported_still, access_of, at_want, Unwritten, other_unwritten}
-use Rattle.hp_model.specs.Collection.{Report}
+use Rattle.hp_model.specs.declared.reports.Report.{Report}
 use Rattle.hp_exact.proofs.Stood.{IsStood}
 use Rattle.hp_exact.proofs.Stepping.{AtMonarch, AtOther, Kinds, entry_by, ends, led_on, by_kind, is_other, still_clear, told_by}
 use Rattle.hp_exact.proofs.Monarchs.{is_among, adding, ejecting, next_other}
@@ -221,7 +222,7 @@ module _ (p : Platform) (fit : Sound p) (ids : Ids p) (past : List Transition) (
       t : State
       t = ends (led_on p s 0 l v u) g (not (same_label l S2) && s.disturbed)
 
-      seen : (m : Label) → part_of m ≡ Monarchs → is_at p m e ≡ (index_of l == index_of m)
+      seen : (m : Label) → handler_of m ≡ Monarchs → is_at p m e ≡ (index_of l == index_of m)
       seen m part = at_monarch p l m e (tile p 0) refl here.place part
 
       goes : ends_outcome p e ≡ (is_collects l || false)

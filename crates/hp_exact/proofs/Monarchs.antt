@@ -6,12 +6,16 @@ use Rattle.hp_model.specs.declared.labels.Label.TheVariants.{F1, F2, F3, F4, F5,
 use Rattle.hp_model.specs.declared.outcomes.Outcome.{Outcome}
 use Rattle.hp_model.specs.declared.outcomes.Outcome.TheVariants.{Added, Refused}
 use Rattle.hp_model.specs.declared.outcomes.Refusal.TheVariants.{Foreign, Disabled, Both, AlreadyKnown, GateHeld, NoUnplug, NotKnown, NotArrived}
-use Rattle.hp_model.specs.Labels.{Monarch as Monarchs, part_of, same_label}
+use Rattle.hp_model.specs.declared.labels.Handler.TheVariants.{Monarch as Monarchs}
+use Rattle.hp_model.specs.Labels.{handler_of, same_label}
 use Rattle.hp_model.specs.SharedBytes.{Layout}
-use Rattle.hp_model.specs.Collection.{Report}
+use Rattle.hp_model.specs.declared.reports.Report.{Report}
 use Rattle.hp_model.specs.Add.{AddNext, AddsAt, Ends, failed, is_last_look}
 use Rattle.hp_model.specs.Eject.{EjectNext, EjectsAt, EjectEnds}
-use Rattle.hp_model.specs.Monarch.{Monarch, Decision, ToTell, ToAdd, ToEject, refuses, decision, facts_of, at_label, at_tell, adds, ejects, took, answered, taken_up, next_report, after_add, after_eject, held_decision, insert_decision, eject_decision, Facts}
+use Rattle.hp_model.specs.declared.reports.Facts.{Facts}
+use Rattle.hp_model.specs.declared.reports.Decision.{Decision}
+use Rattle.hp_model.specs.declared.reports.Decision.TheVariants.{Tell as ToTell, Add as ToAdd, Eject as ToEject}
+use Rattle.hp_model.specs.Monarch.{Monarch, refuses, decision, facts_of, at_label, at_tell, adds, ejects, took, answered, taken_up, next_report, after_add, after_eject, held_decision, insert_decision, eject_decision}
 use Rattle.hp_model.specs.Handlers.{Seat, next_at}
 use Rattle.hp_exact.specs.Refusals.{is_blaming}
 use Rattle.hp_sealed.proofs.Left.{pick, pick_by}
@@ -27,7 +31,7 @@ abbrev pub ejecting : List Label
 ejecting = E0 ∷ E1 ∷ E2 ∷ E3 ∷ E4a ∷ E4b ∷ E4c ∷ E4d ∷ E4e ∷ E4f ∷ E4g ∷ E4h ∷ []
 
 -- the handlers of other processors leave the record
-pub next_other : (y : Layout) (x : Seat) (r : Monarch) (l : Label) (v : ℕ) → part_of l ≢ Monarchs → (next_at y x r l v).monarch ≡ r
+pub next_other : (y : Layout) (x : Seat) (r : Monarch) (l : Label) (v : ℕ) → handler_of l ≢ Monarchs → (next_at y x r l v).monarch ≡ r
 next_other y x r F1 v other = refl
 next_other y x r F2 v other = refl
 next_other y x r F3 v other = refl

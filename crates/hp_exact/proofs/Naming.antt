@@ -7,7 +7,7 @@ use Rattle.std.proofs.lemmas.Bool.Decides.{nat_tests}
 use Rattle.hp_model.specs.declared.platforms.Platform.{Platform}
 use Rattle.hp_model.specs.Platform.{IsFit, count_of, apic_of, greatest_id, high_half}
 use Rattle.hp_model.specs.Interrupts.{destination}
-use Rattle.hp_model.specs.Collection.{Report}
+use Rattle.hp_model.specs.declared.reports.Report.{Report}
 use Rattle.hp_model.specs.Monarch.{is_that, is_own}
 use Rattle.hp_sealed.specs.Left.{Sound}
 use Rattle.hp_sealed.proofs.BootSlots.{ids_differ}
@@ -15,11 +15,11 @@ use Rattle.hp_model.proofs.FitPlatforms.{ids_small, rules_of}
 
 -- each possible processor's APIC ID fits an interrupt command
 pub record Ids (p : Platform) : Type 0 where
-  pub small : (k : ℕ) → k < count_of p → apic_of p k ≤ greatest_id p
+  pub small : (k : ℕ) → k < count_of p → apic_of p k ≤ greatest_id p.x2apic
 
 pub ids_of : (p : Platform) → IsFit p → Ids p
 ids_of p e =
-    record { small = λ k less. each (greatest_id p) p.apic k less (ids_small p e) }
+    record { small = λ k less. each (greatest_id p.x2apic) p.apic k less (ids_small p e) }
   where
     one : (a most : ℕ) → nat_le a most ≡ true → a ≤ most
     one a most e = grind (arith, nat_tests)

@@ -7,10 +7,12 @@ use Rattle.hp_model.specs.declared.labels.Label.{Label}
 use Rattle.hp_model.specs.declared.labels.Label.TheVariants.{S0, S1, S2, S3, S4, C1, C2, C3, C4, C5, C6, NB, N0, N1, N2, N3, N4, N5, N6, N7, N8a, N8b, N9, N10, N11, E0, E1, E2, E3, E4a, E4b, E4c, E4d, E4e, E4f, E4g, E4h, T, E5, E6, E7}
 use Rattle.hp_model.specs.declared.outcomes.Outcome.{Outcome}
 use Rattle.hp_model.specs.declared.outcomes.Outcome.TheVariants.{Added, Ejected, Refused}
-use Rattle.hp_model.specs.Labels.{Monarch as Monarchs, part_of}
+use Rattle.hp_model.specs.declared.labels.Handler.TheVariants.{Monarch as Monarchs}
+use Rattle.hp_model.specs.Labels.{handler_of}
 use Rattle.hp_model.specs.SharedBytes.{Layout}
 use Rattle.hp_model.specs.Slots.{known_from}
-use Rattle.hp_model.specs.Collection.{Report, Collection, CollectNext, CollectsAt, CollectEnds, collection_start, next_processor, found, judged, reported}
+use Rattle.hp_model.specs.declared.reports.Report.{Report}
+use Rattle.hp_model.specs.Collection.{Collection, CollectNext, CollectsAt, CollectEnds, collection_start, next_processor, found, judged, reported}
 use Rattle.hp_model.specs.Monarch.{Monarch, at_label, first_slot, next_slot, look_at, noted, at_tell, adds, ejects, took, next_report, after_collection, after_tell, restarted}
 use Rattle.hp_model.specs.Handlers.{Seat, next_at}
 use Rattle.hp_model.specs.Exact.{rises}
@@ -139,7 +141,7 @@ ordered_ejects n r t h on =
     plain n t answers.looking answers.collects (record { rising = rw on.collection h.rising })
 
 -- at each label
-pub ordered_row : (y : Layout) (x : Seat) (r : Monarch) (l : Label) (v : ℕ) → 1 ≤ y.count → part_of l ≡ Monarchs → r.label ≡ l → Ordered y.count r → Ordered y.count (next_at y x r l v).monarch
+pub ordered_row : (y : Layout) (x : Seat) (r : Monarch) (l : Label) (v : ℕ) → 1 ≤ y.count → handler_of l ≡ Monarchs → r.label ≡ l → Ordered y.count r → Ordered y.count (next_at y x r l v).monarch
 ordered_row y x r S0 v some mine is h = ordered_first y.count r S1 S2 refl refl refl (core y.count r h)
 ordered_row y x r S1 v some mine is h = ordered_slot y.count r S1 S2 refl refl refl (core y.count r h)
 ordered_row y x r S2 v some mine is h = ordered_look y.count y.polls (known_from r.slots 1) r (core y.count r h)

@@ -18,7 +18,8 @@ use Rattle.hp_model.specs.View.{is_hole, ones}
 use Rattle.hp_model.specs.Cpu.{inserted, is_outside, is_in_smm, smm_address, take_smi, take_init, resumed, moved}
 use Rattle.hp_model.specs.Interrupts.{destination, is_target}
 use Rattle.hp_model.specs.Boot.{value_in}
-use Rattle.hp_model.specs.Labels.{First, Relocated, Monarch as Monarchs, part_of, index_of}
+use Rattle.hp_model.specs.declared.labels.Handler.TheVariants.{First, Relocated, Monarch as Monarchs}
+use Rattle.hp_model.specs.Labels.{handler_of, index_of}
 use Rattle.hp_model.specs.SharedBytes.{layout_of, arrived_byte, release_byte, map_byte, gate, closed}
 use Rattle.hp_model.specs.SaveArea.{saved_smbase, saved_rip}
 use Rattle.hp_model.specs.Monarch.{restarted}
@@ -67,8 +68,8 @@ other_needs called k b c n is h e = let both = plain (b == 0x30000) (index_of n 
 
 -- what these rows go by: at F5 its own SMI reaches it, at R3 no release byte is 1, and at R4 its SMI latch is set, while others are called in
 record Facts (p : Platform) (s : State) (called : Bool) (k : ℕ) (l : Label) : Type 0 where
-  first : part_of l ≡ First → ((at s k).smbase == 0x30000) ≡ true
-  other : part_of l ≡ Relocated → ((at s k).smbase == 0x30000) ≡ false
+  first : handler_of l ≡ First → ((at s k).smbase == 0x30000) ≡ true
+  other : handler_of l ≡ Relocated → ((at s k).smbase == 0x30000) ≡ false
   own : l ≡ F5 → (at (access_effect p k true (Icr (high_half p.x2apic (apic_of p k)) 0x200) s) k).smi ≡ true
   kept : l ≡ R3 → called ≡ true → (value_in (answer_to true (Load (release_byte (layout_of p) (seat p s k).slot) 1) s) == 1) ≡ false
   latched : l ≡ R4 → called ≡ true → (at (access_effect p k true (Store (arrived_byte (layout_of p) (seat p s k).slot) 1 0) s) k).smi ≡ true
@@ -79,7 +80,7 @@ Onward p s called k l (Some (want.Do a)) = Needs called k (at s k).smbase (at (a
 Onward p s called k l (Some (want.Tell o)) = Unit {0}
 Onward p s called k l (Some want.Resume) = Unit {0}
 
-onward : (p : Platform) (s : State) (called : Bool) (k : ℕ) (l : Label) → part_of l ≢ Monarchs → Facts p s called k l → Onward p s called k l (want_at (layout_of p) (seat p s k) s.monarch l)
+onward : (p : Platform) (s : State) (called : Bool) (k : ℕ) (l : Label) → handler_of l ≢ Monarchs → Facts p s called k l → Onward p s called k l (want_at (layout_of p) (seat p s k) s.monarch l)
 onward p s called k F1 mine h = pick (Needs called k (at s k).smbase (at s k)) (value_in (answer_to true (Swap gate (apic_of p k) closed) s) == apic_of p k) F2 F1 (first_needs called k (at s k).smbase (at s k) F2 (h.first refl) (λ e. absurd cc)) (first_needs called k (at s k).smbase (at s k) F1 (h.first refl) (λ e. absurd cc))
 onward p s called k F2 mine h = first_needs called k (at s k).smbase (at s k) F3 (h.first refl) (λ e. absurd cc)
 onward p s called k F3 mine h = first_needs called k (at s k).smbase (at s k) F4 (h.first refl) (λ e. absurd cc)
@@ -138,7 +139,7 @@ unfolding value_from
 reads_none p s slot is = pick (λ v. (v == 1) ≡ false) (is_hole s.locks true (release_byte (layout_of p) slot) 1) (ones 1) (value_from (byte_at s.writes) (release_byte (layout_of p) slot) 1) refl (rw is refl)
 
 -- other handlers neither start processors nor eject them
-pub aside : (l : Label) → part_of l ≢ Monarchs → is_among l (N5 ∷ N6 ∷ E4b ∷ []) ≡ false
+pub aside : (l : Label) → handler_of l ≢ Monarchs → is_among l (N5 ∷ N6 ∷ E4b ∷ []) ≡ false
 aside N5 other = absurd (other refl)
 aside N6 other = absurd (other refl)
 aside E4b other = absurd (other refl)
@@ -181,7 +182,7 @@ latched_other p s k l a sound ids stood here wants h released =
 
     tile_slot : l ≡ R3 → (1 ≤ (seat p s k).slot) × ((seat p s k).slot < 0x1000)
     tile_slot e =
-        let runs : runs_at (layout_of p) Relocated k (at s k).smbase ≡ true = subst (λ q. runs_at (layout_of p) q k (at s k).smbase ≡ true) (ap part_of e) here.runs in
+        let runs : runs_at (layout_of p) Relocated k (at s k).smbase ≡ true = subst (λ q. runs_at (layout_of p) q k (at s k).smbase ≡ true) (ap handler_of e) here.runs in
         let tile = (and_parts (not (k == 0)) (is_other_tile (layout_of p) (at s k).smbase) runs).1 in
         let some = (and_parts (not (slot_at (layout_of p) (at s k).smbase == 0)) (is_tile (layout_of p) (at s k).smbase) tile).0 in
         (positive (slot_at (layout_of p) (at s k).smbase) some, slot_small p k (at s k).smbase sound runs)
@@ -198,7 +199,7 @@ latched_other p s k l a sound ids stood here wants h released =
           let slot = tile_slot e in
           reads_none p s (seat p s k).slot
           (released (seat p s k).slot slot.0 slot.1 (kept_called s.monarch (seat p s k).slot (let after = (and_parts (not (is_late p.delivery)) (is_after_broadcast s.monarch.label) c).1 in rw after (any (is_among s.monarch.label (S2 ∷ []))))));
-      latched = λ e c. leaving_latched called k (at s k) l (inl e) here.other (at_tile p k (at s k).smbase sound (subst (λ q. runs_at (layout_of p) q k (at s k).smbase ≡ true) (ap part_of e) here.runs)) (stood_at (at s k) l here.place) c (h k);
+      latched = λ e c. leaving_latched called k (at s k) l (inl e) here.other (at_tile p k (at s k).smbase sound (subst (λ q. runs_at (layout_of p) q k (at s k).smbase ≡ true) (ap handler_of e) here.runs)) (stood_at (at s k) l here.place) c (h k);
     }
       where
         any : (x : Bool) → (x || true) ≡ true
@@ -263,9 +264,9 @@ latched_returns p s k l sound here where_is h =
   where
     latched : is_calling p s.monarch ≡ true → (l ≡ F6) ⊎ (l ≡ R5) → (at s k).smi ≡ true
     latched c (inl e) =
-        flying_latched (is_calling p s.monarch) k (at s k) (at_default p k (at s k).smbase (subst (λ q. runs_at (layout_of p) q k (at s k).smbase ≡ true) (ap part_of e) here.runs))
+        flying_latched (is_calling p s.monarch) k (at s k) (at_default p k (at s k).smbase (subst (λ q. runs_at (layout_of p) q k (at s k).smbase ≡ true) (ap handler_of e) here.runs))
         (subst (λ m. is_at_label m (at s k) ≡ true) e (stood_at (at s k) l here.place)) (h k)
-    latched c (inr e) = leaving_latched (is_calling p s.monarch) k (at s k) l (inr e) here.other (at_tile p k (at s k).smbase sound (subst (λ q. runs_at (layout_of p) q k (at s k).smbase ≡ true) (ap part_of e) here.runs)) (stood_at (at s k) l here.place) c (h k)
+    latched c (inr e) = leaving_latched (is_calling p s.monarch) k (at s k) l (inr e) here.other (at_tile p k (at s k).smbase sound (subst (λ q. runs_at (layout_of p) q k (at s k).smbase ≡ true) (ap handler_of e) here.runs)) (stood_at (at s k) l here.place) c (h k)
 
 pub latched_rests : (called : Bool) (s : State) → called ≡ false → Latched called s.cpus → Latched called (leave_smm 0 s).cpus
 latched_rests called s no_more h =

@@ -6,7 +6,8 @@ use Rattle.hp_model.specs.declared.accesses.Want.TheVariants as want
 use Rattle.hp_model.specs.declared.labels.Label.{Label}
 use Rattle.hp_model.specs.declared.labels.Label.TheVariants.{C1, C2, C3, C4, C5, C6, NB, N0, N1, N2, N3, N4, N5, N6, N7, N8a, N8b, N9, N10, N11, E0, E1, E2, E3, E4a, T, E4b, E4c, E4d, E4e, E4f, E4g, E4h}
 use Rattle.hp_model.specs.declared.entries.Entry.{Entry}
-use Rattle.hp_model.specs.Labels.{Monarch as Monarchs, part_of, index_of}
+use Rattle.hp_model.specs.declared.labels.Handler.TheVariants.{Monarch as Monarchs}
+use Rattle.hp_model.specs.Labels.{handler_of, index_of}
 use Rattle.hp_model.specs.SharedBytes.{layout_of}
 use Rattle.hp_model.specs.Handlers.{want_at}
 use Rattle.hp_model.specs.State.{State}
@@ -29,14 +30,14 @@ unfolding since
 own_none p x past is = subst (λ b. (elim b as (λ _. List Transition) [ true ↦ [] | false ↦ x ∷ since (λ y. ends_outcome p y.entry) past ]) ≡ []) (sym is) refl
 
 -- an entry elsewhere is none of the collection's
-pub elsewhere : (p : Platform) (e : Entry) → ((m : Label) → part_of m ≡ Monarchs → is_at p m e ≡ false) → is_tell e ≡ false → bounds_session e ≡ false → ends_outcome p e ≡ false
+pub elsewhere : (p : Platform) (e : Entry) → ((m : Label) → handler_of m ≡ Monarchs → is_at p m e ≡ false) → is_tell e ≡ false → bounds_session e ≡ false → ends_outcome p e ≡ false
 elsewhere p e unseen silent within = rw (silent, unseen C1 refl, unseen C2 refl, unseen C3 refl, unseen C4 refl, unseen C5 refl, unseen C6 refl, within) refl
 
 -- and one of the monarch's is by its label
 abbrev pub is_collects : Label → Bool
 is_collects l = list_any (λ m. index_of l == index_of m) (C1 ∷ C2 ∷ C3 ∷ C4 ∷ C5 ∷ C6 ∷ [])
 
-pub by_label : (p : Platform) (e : Entry) (l : Label) → ((m : Label) → part_of m ≡ Monarchs → is_at p m e ≡ (index_of l == index_of m)) → is_tell e ≡ false → bounds_session e ≡ false → ends_outcome p e ≡ (is_collects l || false)
+pub by_label : (p : Platform) (e : Entry) (l : Label) → ((m : Label) → handler_of m ≡ Monarchs → is_at p m e ≡ (index_of l == index_of m)) → is_tell e ≡ false → bounds_session e ≡ false → ends_outcome p e ≡ (is_collects l || false)
 by_label p e l seen silent within = rw (silent, seen C1 refl, seen C2 refl, seen C3 refl, seen C4 refl, seen C5 refl, seen C6 refl, within) refl
 
 pub adding_goes : (l : Label) → is_among l adding ≡ true → (is_collects l || false) ≡ false

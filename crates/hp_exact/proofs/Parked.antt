@@ -9,7 +9,8 @@ use Rattle.hp_model.specs.declared.outcomes.Outcome.TheVariants.{Added, Ejected,
 use Rattle.hp_model.specs.Platform.{tile}
 use Rattle.hp_model.specs.Memory.{Write, byte_at}
 use Rattle.hp_model.specs.Cpu.{cpu_at, smm_address}
-use Rattle.hp_model.specs.Labels.{Relocated, part_of}
+use Rattle.hp_model.specs.declared.labels.Handler.TheVariants.{Relocated}
+use Rattle.hp_model.specs.Labels.{handler_of}
 use Rattle.hp_model.specs.SharedBytes.{layout_of, parked_byte}
 use Rattle.hp_model.specs.Monarch.{Monarch}
 use Rattle.hp_model.specs.Handlers.{Seat, next_at, address_of_label}
@@ -32,7 +33,7 @@ parked_alike p slot c d h = parked_stays p slot c d h.present h.smbase (rw (h.pr
 pub parked_inside : (p : Platform) (slot : ℕ) (c : Cpu) → Parked p slot c → smm_address c ≡ None → ⊥
 parked_inside p slot c h e = let both : None ≡ Some (address_of_label (tile p slot) h.label) = sym e ∙ h.place in cc
 
-pub loops_relocated : (l : Label) → is_among l looping ≡ true → part_of l ≡ Relocated
+pub loops_relocated : (l : Label) → is_among l looping ≡ true → handler_of l ≡ Relocated
 loops_relocated R1 e = refl
 loops_relocated R2 e = refl
 loops_relocated R3 e = refl

@@ -12,7 +12,8 @@ use Rattle.hp_model.specs.Platform.{count_of, tseg}
 use Rattle.hp_model.specs.Memory.{Write, byte_at, value_from}
 use Rattle.hp_model.specs.View.{Locks, is_hole, loaded, stored}
 use Rattle.hp_model.specs.Boot.{value_in}
-use Rattle.hp_model.specs.Labels.{Relocated, Monarch as Monarchs, part_of}
+use Rattle.hp_model.specs.declared.labels.Handler.TheVariants.{Relocated, Monarch as Monarchs}
+use Rattle.hp_model.specs.Labels.{handler_of}
 use Rattle.hp_model.specs.SharedBytes.{layout_of, arrived_byte, map_byte, parked_byte, gate, closed, flag, default_smbase_field}
 use Rattle.hp_model.specs.Monarch.{Monarch}
 use Rattle.hp_model.specs.Handlers.{Seat, want_at, runs_at}
@@ -58,7 +59,7 @@ other_misses base j slot other = grind (arith, nat_tests)
 same_place : (i j : ℕ) → (i == j) ≡ true → i ≡ j
 same_place i j e = grind (arith, nat_tests)
 
-row_marks : (p : Platform) (k : ℕ) (s : State) (q : Seat) (r : Monarch) (slot : ℕ) (l : Label) → Sound p → (part_of l ≡ Relocated → q.slot < 0x1000) → part_of l ≢ Monarchs → MarksBy p k s (parked_byte (layout_of p) slot) slot l q.slot (want_at (layout_of p) q r l)
+row_marks : (p : Platform) (k : ℕ) (s : State) (q : Seat) (r : Monarch) (slot : ℕ) (l : Label) → Sound p → (handler_of l ≡ Relocated → q.slot < 0x1000) → handler_of l ≢ Monarchs → MarksBy p k s (parked_byte (layout_of p) slot) slot l q.slot (want_at (layout_of p) q r l)
 row_marks p k s q r slot F1 fit tight other = pick (λ vs. Marks (parked_byte (layout_of p) slot) slot F1 q.slot s.writes vs) (loaded s.locks true (byte_at s.writes) gate 8 == q.apic) _ _ (inl (inl (missed s.locks gate 8 closed (parked_byte (layout_of p) slot) s.writes (low_misses (tseg p) gate 8 slot fit.above (omega arith))))) (inl (inl refl))
 row_marks p k s q r slot F2 fit tight other = inl (inl refl)
 row_marks p k s q r slot F3 fit tight other = inl (inl (missed s.locks default_smbase_field 4 q.base (parked_byte (layout_of p) slot) s.writes (low_misses (tseg p) default_smbase_field 4 slot fit.above (omega arith))))

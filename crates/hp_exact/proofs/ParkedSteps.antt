@@ -15,7 +15,9 @@ use Rattle.hp_model.specs.Platform.{count_of, apic_of, tile, is_late}
 use Rattle.hp_model.specs.Memory.{byte_at}
 use Rattle.hp_model.specs.Cpu.{absent, inserted, cpu_at, is_outside, is_in_smm, is_free, smm_address, may_take_smi, take_smi, may_take_init, take_init, resumed, moved}
 use Rattle.hp_model.specs.Boot.{Stage, value_in}
-use Rattle.hp_model.specs.Labels.{Part, First, Relocated, Monarch as Monarchs, part_of}
+use Rattle.hp_model.specs.declared.labels.Handler.{Handler}
+use Rattle.hp_model.specs.declared.labels.Handler.TheVariants.{First, Relocated, Monarch as Monarchs}
+use Rattle.hp_model.specs.Labels.{handler_of}
 use Rattle.hp_model.specs.SharedBytes.{layout_of, tile_in, parked_byte}
 use Rattle.hp_model.specs.Slots.{slot_among}
 use Rattle.hp_model.specs.SaveArea.{saved_smbase, saved_rip}
@@ -87,7 +89,7 @@ module _ (p : Platform) (fit : Sound p) (ids : Ids p) (past : List Transition) (
   x = parked_byte (layout_of p) slot
 
   -- steps of others, and of the host
-  same_parts : (e : Entry) (t : State) → ((m : Label) → part_of m ≡ Monarchs → is_at p m e ≡ false) → is_tell e ≡ false → bounds_session e ≡ false → t.monarch ≡ s.monarch → (t.disturbed ≡ false → s.disturbed ≡ false)
+  same_parts : (e : Entry) (t : State) → ((m : Label) → handler_of m ≡ Monarchs → is_at p m e ≡ false) → is_tell e ≡ false → bounds_session e ≡ false → t.monarch ≡ s.monarch → (t.disturbed ≡ false → s.disturbed ≡ false)
       → (t.disturbed ≡ false → (k : ℕ) → (at s k).present ≡ true → (at t k).present ≡ true)
       → (is_among s.monarch.label (E1 ∷ E2 ∷ E4a ∷ E4b ∷ []) ≡ true → t.disturbed ≡ false → Parked p slot (at s c) → Parked p slot (at t c))
       → (is_among s.monarch.label (E1 ∷ E2 ∷ []) ≡ true → t.disturbed ≡ false → IsBoundEject p s.monarch → byte_at t.writes x ≡ 1 → (byte_at s.writes x ≡ 1) ⊎ Parked p slot (at t c)) → Now e t
@@ -187,13 +189,13 @@ module _ (p : Platform) (fit : Sound p) (ids : Ids p) (past : List Transition) (
   same_tile : (a b : ℕ) → tile p a ≡ tile p b → a ≡ b
   same_tile a b e = omega (arith, e)
 
-  tiled : (k : ℕ) (l : Label) → AtOther p s k l → (at s k).smbase ≡ tile p slot → part_of l ≡ Relocated
-  tiled k l here is = by_part (part_of l) refl here.runs
+  tiled : (k : ℕ) (l : Label) → AtOther p s k l → (at s k).smbase ≡ tile p slot → handler_of l ≡ Relocated
+  tiled k l here is = by_handler (handler_of l) refl here.runs
     where
-      by_part : (q : Part) → part_of l ≡ q → runs_at (layout_of p) q k (at s k).smbase ≡ true → part_of l ≡ Relocated
-      by_part First mine runs = absurd (above slot (sym is ∙ eqb-true (at s k).smbase 0x30000 (and_parts (not (k == 0)) ((at s k).smbase == 0x30000) runs).1))
-      by_part Relocated mine runs = mine
-      by_part Monarchs mine runs = absurd (here.part mine)
+      by_handler : (q : Handler) → handler_of l ≡ q → runs_at (layout_of p) q k (at s k).smbase ≡ true → handler_of l ≡ Relocated
+      by_handler First mine runs = absurd (above slot (sym is ∙ eqb-true (at s k).smbase 0x30000 (and_parts (not (k == 0)) ((at s k).smbase == 0x30000) runs).1))
+      by_handler Relocated mine runs = mine
+      by_handler Monarchs mine runs = absurd (here.part mine)
 
   -- it stands where the parked processor stands
   same_label_of : (k : ℕ) (l : Label) → AtOther p s k l → (f : Parked p slot (at s k)) → l ≡ f.label
@@ -272,7 +274,7 @@ module _ (p : Platform) (fit : Sound p) (ids : Ids p) (past : List Transition) (
             place = let there = there_u in rw (there, base) refl;
           })
 
-      tile_slot : part_of l ≡ Relocated → (1 ≤ (seat p s k).slot) × ((seat p s k).slot < 0x1000) × ((at s k).smbase ≡ tile p (seat p s k).slot)
+      tile_slot : handler_of l ≡ Relocated → (1 ≤ (seat p s k).slot) × ((seat p s k).slot < 0x1000) × ((at s k).smbase ≡ tile p (seat p s k).slot)
       tile_slot f =
           let runs : runs_at (layout_of p) Relocated k (at s k).smbase ≡ true = subst (λ q. runs_at (layout_of p) q k (at s k).smbase ≡ true) f here.runs in
           let other = (and_parts (not (k == 0)) (is_other_tile (layout_of p) (at s k).smbase) runs).1 in
@@ -285,7 +287,7 @@ module _ (p : Platform) (fit : Sound p) (ids : Ids p) (past : List Transition) (
 
       stays_held : is_after_broadcast s.monarch.label ≡ true → l ≡ R3 → (v == 1) ≡ false
       stays_held after is =
-          let q = tile_slot (ap part_of is) in
+          let q = tile_slot (ap handler_of is) in
           let none = h.released (seat p s k).slot q.0 q.1 (kept_called s.monarch (seat p s k).slot (rw after (any (is_among s.monarch.label (S2 ∷ []))))) in
           want_of p k s (λ b. (value_in (answer_to true b s) == 1) ≡ false) l R3 a is wants (reads_none p s (seat p s k).slot none)
         where
@@ -311,7 +313,7 @@ module _ (p : Platform) (fit : Sound p) (ids : Ids p) (past : List Transition) (
       -- who stores at R6 for this slot is the eject's processor
       parks : IsBoundEject p s.monarch → l ≡ R6 → (seat p s k).slot ≡ slot → Parked p slot (cpu_at t.cpus c)
       parks eject_bound is same =
-          let q = tile_slot (ap part_of is) in
+          let q = tile_slot (ap handler_of is) in
           let base : (at s k).smbase ≡ tile p slot = subst (λ i. (at s k).smbase ≡ tile p i) same q.2 in
           let next : is_among n.label looping ≡ true = subst (λ m. is_among (next_at (layout_of p) (seat p s k) s.monarch m v).label looping ≡ true) (sym is) refl in
           subst (λ i. Parked p slot (cpu_at t.cpus i)) (by_place base (slotted k stood.0)) (goes_to base next)

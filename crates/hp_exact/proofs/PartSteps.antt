@@ -15,7 +15,8 @@ use Rattle.hp_model.specs.Memory.{byte_at}
 use Rattle.hp_model.specs.Cpu.{absent, cpu_at, smm_address}
 use Rattle.hp_model.specs.Block.{slot_at}
 use Rattle.hp_model.specs.Boot.{Stage, value_in}
-use Rattle.hp_model.specs.Labels.{Monarch as Monarchs, part_of, index_of, same_label}
+use Rattle.hp_model.specs.declared.labels.Handler.TheVariants.{Monarch as Monarchs}
+use Rattle.hp_model.specs.Labels.{handler_of, index_of, same_label}
 use Rattle.hp_model.specs.SharedBytes.{layout_of, parked_byte}
 use Rattle.hp_model.specs.Handlers.{Next, want_at, next_at, address_of_label}
 use Rattle.hp_model.specs.State.{State, at}
@@ -96,7 +97,7 @@ module _ (p : Platform) (fit : Sound p) (ids : Ids p) (past : List Transition) (
       t : State
       t = ends (led_on p s 0 l v u) g (not (same_label l S2) && s.disturbed)
 
-      seen : (m : Label) → part_of m ≡ Monarchs → is_at p m e ≡ (index_of l == index_of m)
+      seen : (m : Label) → handler_of m ≡ Monarchs → is_at p m e ≡ (index_of l == index_of m)
       seen m part = at_monarch p l m e (tile p 0) refl here.place part
 
       goes : ends_outcome p e ≡ (is_collects l || false)

@@ -13,13 +13,18 @@ use Rattle.hp_model.specs.Platform.{count_of, apic_of, is_late}
 use Rattle.hp_model.specs.Memory.{Write, byte_at}
 use Rattle.hp_model.specs.Cpu.{cpu_at}
 use Rattle.hp_model.specs.Block.{is_in}
-use Rattle.hp_model.specs.Labels.{Monarch as Monarchs, part_of}
+use Rattle.hp_model.specs.declared.labels.Handler.TheVariants.{Monarch as Monarchs}
+use Rattle.hp_model.specs.Labels.{handler_of}
 use Rattle.hp_model.specs.SharedBytes.{layout_of, parked_byte}
 use Rattle.hp_model.specs.Slots.{slot_among, known_from}
-use Rattle.hp_model.specs.Collection.{Report, Collection, CollectNext, CollectsAt, CollectEnds, collection_start, next_processor}
+use Rattle.hp_model.specs.declared.reports.Report.{Report}
+use Rattle.hp_model.specs.Collection.{Collection, CollectNext, CollectsAt, CollectEnds, collection_start, next_processor}
 use Rattle.hp_model.specs.Add.{AddNext, Ends, failed, is_last_look}
 use Rattle.hp_model.specs.Eject.{EjectsAt}
-use Rattle.hp_model.specs.Monarch.{Monarch, Facts, Decision, ToTell, ToAdd, ToEject, decision, held_decision, facts_of, at_label, look_at, noted, ejects, took, answered, taken_up, next_report, after_collection, after_tell, after_add, after_eject}
+use Rattle.hp_model.specs.declared.reports.Facts.{Facts}
+use Rattle.hp_model.specs.declared.reports.Decision.{Decision}
+use Rattle.hp_model.specs.declared.reports.Decision.TheVariants.{Tell as ToTell, Add as ToAdd, Eject as ToEject}
+use Rattle.hp_model.specs.Monarch.{Monarch, decision, held_decision, facts_of, at_label, look_at, noted, ejects, took, answered, taken_up, next_report, after_collection, after_tell, after_add, after_eject}
 use Rattle.hp_model.specs.Handlers.{Seat, next_at}
 use Rattle.hp_model.specs.Transitions.{Transition}
 use Rattle.hp_model.specs.Outcomes.{departures, is_eject_of, is_only}
@@ -131,7 +136,7 @@ module _ (p : Platform) (own own2 : List Transition) (d d2 : Bool) (cs cs2 : Lis
   eject_bound_as : (m : Monarch) → m.slots ≡ r.slots → m.eject.cpu ≡ r.eject.cpu → m.eject.apic ≡ r.eject.apic → m.eject.slot ≡ r.eject.slot → IsBoundEject p r → IsBoundEject p m
   eject_bound_as m a b c e h = record { own = ap (apic_of p) b ∙ (h.own ∙ sym c); less = subst (λ k. k < count_of p) (sym b) h.less; bound = rw (a, c) h.bound; place = rw (a, c, e) h.place }
 
-  pub parts_row : (l : Label) → part_of l ≡ Monarchs → r.label ≡ l → Does p own own2 d d2 cs cs2 ws ws2 r l v → Now (next_at (layout_of p) q r l v).monarch
+  pub parts_row : (l : Label) → handler_of l ≡ Monarchs → r.label ≡ l → Does p own own2 d d2 cs cs2 ws ws2 r l v → Now (next_at (layout_of p) q r l v).monarch
   parts_row F1 mine is does = absurd cc
   parts_row F2 mine is does = absurd cc
   parts_row F3 mine is does = absurd cc

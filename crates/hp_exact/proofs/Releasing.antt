@@ -11,7 +11,8 @@ use Rattle.hp_model.specs.declared.labels.Label.TheVariants.{F1, F2, F3, F4, F5,
 use Rattle.hp_model.specs.Platform.{tseg, count_of}
 use Rattle.hp_model.specs.Memory.{Write, byte_at}
 use Rattle.hp_model.specs.View.{loaded}
-use Rattle.hp_model.specs.Labels.{Relocated, Monarch as Monarchs, part_of}
+use Rattle.hp_model.specs.declared.labels.Handler.TheVariants.{Relocated, Monarch as Monarchs}
+use Rattle.hp_model.specs.Labels.{handler_of}
 use Rattle.hp_model.specs.SharedBytes.{Layout, layout_of, tile_in, arrived_byte, release_byte, map_byte, parked_byte, session_byte, gate, closed, new_smbase, flag, default_smbase_field}
 use Rattle.hp_model.specs.Monarch.{Monarch, at_label, first_slot, next_slot, restarted}
 use Rattle.hp_model.specs.Handlers.{Seat, want_at, next_at, runs_at, slot_at, is_tile}
@@ -41,7 +42,7 @@ later_misses : (base a x : ℕ) → base + 0x2000 ≤ a → x < base + 0x2000 �
 later_misses base a x from to = grind (arith, nat_tests)
 
 row_bytes : (p : Platform) (k : ℕ) (s : State) (q : Seat) (r : Monarch) (x : ℕ) (l : Label) → Sound p → tseg p + 0x1000 ≤ x → x < tseg p + 0x2000
-    → (part_of l ≡ Relocated → q.slot < 0x1000) → (l ≡ E6 → x ≢ release_byte (layout_of p) r.slot) → Bytes p k s x (want_at (layout_of p) q r l)
+    → (handler_of l ≡ Relocated → q.slot < 0x1000) → (l ≡ E6 → x ≢ release_byte (layout_of p) r.slot) → Bytes p k s x (want_at (layout_of p) q r l)
 row_bytes p k s q r x F1 sound from to small other = pick (Leaves x s.writes) (loaded s.locks true (byte_at s.writes) gate 8 == q.apic) _ _ (elsewhere s.locks gate 8 (closed) x s.writes (low_misses (tseg p) gate 8 x sound.above (omega arith) from)) (inl refl)
 row_bytes p k s q r x F3 sound from to small other = elsewhere s.locks default_smbase_field 4 (q.base) x s.writes (low_misses (tseg p) default_smbase_field 4 x sound.above (omega arith) from)
 row_bytes p k s q r x F4 sound from to small other = elsewhere s.locks flag 1 (1) x s.writes (low_misses (tseg p) flag 1 x sound.above (omega arith) from)
@@ -147,7 +148,7 @@ kept_next r slot is some = pick_by (Kept r slot S1) (nat_lt (r.slot + 1) (length
         by_test true f = inr (refl, same_place slot r.slot f)
         by_test false f = by_place (length r.slots.bound) refl (inl (far (length r.slots.bound) slot r.slot e f))
 
-kept_row : (y : Layout) (q : Seat) (r : Monarch) (l : Label) (v slot : ℕ) → part_of l ≡ Monarchs → r.label ≡ l → 1 ≤ slot → Kept r slot l (next_at y q r l v).monarch
+kept_row : (y : Layout) (q : Seat) (r : Monarch) (l : Label) (v slot : ℕ) → handler_of l ≡ Monarchs → r.label ≡ l → 1 ≤ slot → Kept r slot l (next_at y q r l v).monarch
 kept_row y q r F1 v slot mine is some = absurd cc
 kept_row y q r F2 v slot mine is some = absurd cc
 kept_row y q r F3 v slot mine is some = absurd cc
@@ -228,7 +229,7 @@ released_other p s k l a sound here wants h slot some small e =
     let bytes : Leaves x s.writes (access_effect p k true a s).writes =
     subst (Bytes p k s x) wants
     (row_bytes p k s (seat p s k) s.monarch x l sound (from_1000 (tseg p) slot) (to_2000 (tseg p) slot small)
-    (λ f. slot_small p k (at s k).smbase sound (subst (λ q. runs_at (layout_of p) q k (at s k).smbase ≡ true) f here.runs)) (λ f. absurd (here.part (ap part_of f)))) in
+    (λ f. slot_small p k (at s k).smbase sound (subst (λ q. runs_at (layout_of p) q k (at s k).smbase ≡ true) f here.runs)) (λ f. absurd (here.part (ap handler_of f)))) in
     elim bytes [ inl same ↦ same ∙ h slot some small e | inr is_0 ↦ is_0 ]
 
 -- an access from outside SMM

@@ -11,10 +11,12 @@ use Rattle.hp_model.specs.declared.outcomes.Outcome.TheVariants.{Added, Ejected,
 use Rattle.hp_model.specs.Platform.{count_of, apic_of, is_late}
 use Rattle.hp_model.specs.Cpu.{cpu_at}
 use Rattle.hp_model.specs.Block.{Block, slot_at, status}
-use Rattle.hp_model.specs.Labels.{Monarch as Monarchs, part_of}
+use Rattle.hp_model.specs.declared.labels.Handler.TheVariants.{Monarch as Monarchs}
+use Rattle.hp_model.specs.Labels.{handler_of}
 use Rattle.hp_model.specs.SharedBytes.{layout_of}
 use Rattle.hp_model.specs.Slots.{known_from}
-use Rattle.hp_model.specs.Collection.{Report, Collection, CollectNext, CollectsAt, CollectEnds, collection_start, next_processor, found, judged, reported}
+use Rattle.hp_model.specs.declared.reports.Report.{Report}
+use Rattle.hp_model.specs.Collection.{Collection, CollectNext, CollectsAt, CollectEnds, collection_start, next_processor, found, judged, reported}
 use Rattle.hp_model.specs.Monarch.{Monarch, is_own, at_label, look_at, noted, at_tell, adds, ejects, took, next_report, after_collection, after_tell, after_eject}
 use Rattle.hp_model.specs.Handlers.{Seat, next_at}
 use Rattle.hp_model.specs.Step.{is_after_broadcast}
@@ -253,7 +255,7 @@ module _ (p : Platform) (b b2 : Block) (ds cs : List Cpu) (o o2 : Option Transit
           by_test true f = (before (rw is refl)).reported.next (rw is refl) (e ∙ eqb-true n 1 f)
           by_test false f = refl
 
-  pub clear_row : (l : Label) → part_of l ≡ Monarchs → r.label ≡ l → Reads p b b2 o o2 r l v → is_after_broadcast (next_at (layout_of p) q r l v).monarch.label ≡ true → Now (next_at (layout_of p) q r l v).monarch
+  pub clear_row : (l : Label) → handler_of l ≡ Monarchs → r.label ≡ l → Reads p b b2 o o2 r l v → is_after_broadcast (next_at (layout_of p) q r l v).monarch.label ≡ true → Now (next_at (layout_of p) q r l v).monarch
   clear_row F1 mine is reads after = absurd cc
   clear_row F2 mine is reads after = absurd cc
   clear_row F3 mine is reads after = absurd cc

@@ -17,9 +17,10 @@ use Rattle.hp_model.specs.Cpu.{absent, cpu_at}
 use Rattle.hp_model.specs.Block.{Block, slot_at, status, block_write, ejected_by}
 use Rattle.hp_model.specs.Interrupts.{decoded}
 use Rattle.hp_model.specs.Boot.{value_in}
-use Rattle.hp_model.specs.Labels.{index_of, mark_of, same_label, Monarch as Monarchs, part_of}
+use Rattle.hp_model.specs.declared.labels.Handler.TheVariants.{Monarch as Monarchs}
+use Rattle.hp_model.specs.Labels.{index_of, mark_of, same_label, handler_of}
 use Rattle.hp_model.specs.SharedBytes.{layout_of}
-use Rattle.hp_model.specs.Collection.{Report}
+use Rattle.hp_model.specs.declared.reports.Report.{Report}
 use Rattle.hp_model.specs.Monarch.{Monarch}
 use Rattle.hp_model.specs.Handlers.{Seat, want_at}
 use Rattle.hp_model.specs.State.{State, at}
@@ -215,7 +216,7 @@ Unwritten (Some (want.Do a)) = writes_block a ≡ false
 Unwritten (Some (want.Tell o)) = Unit {0}
 Unwritten (Some want.Resume) = Unit {0}
 
-pub other_unwritten : (p : Platform) (s : State) (k : ℕ) (l : Label) → part_of l ≢ Monarchs → Unwritten (want_at (layout_of p) (seat p s k) s.monarch l)
+pub other_unwritten : (p : Platform) (s : State) (k : ℕ) (l : Label) → handler_of l ≢ Monarchs → Unwritten (want_at (layout_of p) (seat p s k) s.monarch l)
 other_unwritten p s k F1 other = refl
 other_unwritten p s k F2 other = refl
 other_unwritten p s k F3 other = refl

@@ -17,7 +17,9 @@ use Rattle.hp_model.specs.Platform.{count_of, tile, is_late}
 use Rattle.hp_model.specs.Cpu.{is_free, is_in_smm, smm_address, may_take_smi, may_take_init, take_init}
 use Rattle.hp_model.specs.Boot.{Stage, Boots, Refused, Handed, is_handed, stage_after, value_in}
 use Rattle.hp_model.specs.SharedBytes.{Layout, layout_of}
-use Rattle.hp_model.specs.Labels.{Part, First, Relocated, Monarch as Monarchs, part_of, mark_of, same_label}
+use Rattle.hp_model.specs.declared.labels.Handler.{Handler}
+use Rattle.hp_model.specs.declared.labels.Handler.TheVariants.{First, Relocated, Monarch as Monarchs}
+use Rattle.hp_model.specs.Labels.{handler_of, mark_of, same_label}
 use Rattle.hp_model.specs.Monarch.{Monarch}
 use Rattle.hp_model.specs.Handlers.{Seat, want_at, next_at, wanted_at, runs_at, is_current, address_of_label}
 use Rattle.hp_model.specs.State.{State, at, set_cpu}
@@ -50,7 +52,7 @@ led_on p s k l v t = with_next k (at s k).smbase (next_at (layout_of p) (seat p 
 
 -- processor 0 stands at a label, and the monarch's record with it
 pub record AtMonarch (p : Platform) (s : State) (l : Label) : Type 0 where
-  pub part : part_of l ≡ Monarchs
+  pub part : handler_of l ≡ Monarchs
   pub label : s.monarch.label ≡ l
   pub smbase : (at s 0).smbase ≡ tile p 0
   pub place : smm_address (at s 0) ≡ Some (address_of_label (tile p 0) l)
@@ -58,12 +60,12 @@ pub record AtMonarch (p : Platform) (s : State) (l : Label) : Type 0 where
 -- another processor stands at a label of the first or of the relocated handler
 pub record AtOther (p : Platform) (s : State) (k : ℕ) (l : Label) : Type 0 where
   pub other : k ≢ 0
-  pub part : part_of l ≢ Monarchs
-  pub runs : runs_at (layout_of p) (part_of l) k (at s k).smbase ≡ true
+  pub part : handler_of l ≢ Monarchs
+  pub runs : runs_at (layout_of p) (handler_of l) k (at s k).smbase ≡ true
   pub place : smm_address (at s k) ≡ Some (address_of_label (at s k).smbase l)
 
 sides : (p : Platform) (s : State) (k : ℕ) (l : Label) → AtRow p s k l → ((k ≡ 0) × AtMonarch p s l) ⊎ AtOther p s k l
-sides p s k l h = by_part (part_of l) refl h.cell.runs h.cell.current
+sides p s k l h = by_handler (handler_of l) refl h.cell.runs h.cell.current
   where
     place : smm_address (at s k) ≡ Some (address_of_label (at s k).smbase l)
     place = h.is ∙ ap Some h.cell.here
@@ -72,10 +74,10 @@ sides p s k l h = by_part (part_of l) refl h.cell.runs h.cell.current
     not_0 true is e f = cc
     not_0 false is e f = let z : (k == 0) ≡ true = rw f refl in let both : true ≡ false = sym z ∙ is in cc
 
-    by_part : (q : Part) → part_of l ≡ q → runs_at (layout_of p) q k (at s k).smbase ≡ true → is_current s.monarch q l ≡ true → ((k ≡ 0) × AtMonarch p s l) ⊎ AtOther p s k l
-    by_part First is runs due = inr (record { other = not_0 (k == 0) refl (and_parts (not (k == 0)) ((at s k).smbase == 0x30000) runs).0; part = λ e. let both : First ≡ Monarchs = sym is ∙ e in cc; runs = h.cell.runs; place = place })
-    by_part Relocated is runs due = inr (record { other = not_0 (k == 0) refl (and_parts (not (k == 0)) (is_other_tile (layout_of p) (at s k).smbase) runs).0; part = λ e. let both : Relocated ≡ Monarchs = sym is ∙ e in cc; runs = h.cell.runs; place = place })
-    by_part Monarchs is runs due =
+    by_handler : (q : Handler) → handler_of l ≡ q → runs_at (layout_of p) q k (at s k).smbase ≡ true → is_current s.monarch q l ≡ true → ((k ≡ 0) × AtMonarch p s l) ⊎ AtOther p s k l
+    by_handler First is runs due = inr (record { other = not_0 (k == 0) refl (and_parts (not (k == 0)) ((at s k).smbase == 0x30000) runs).0; part = λ e. let both : First ≡ Monarchs = sym is ∙ e in cc; runs = h.cell.runs; place = place })
+    by_handler Relocated is runs due = inr (record { other = not_0 (k == 0) refl (and_parts (not (k == 0)) (is_other_tile (layout_of p) (at s k).smbase) runs).0; part = λ e. let both : Relocated ≡ Monarchs = sym is ∙ e in cc; runs = h.cell.runs; place = place })
+    by_handler Monarchs is runs due =
         let both = and_parts (k == 0) ((at s k).smbase == tile p 0) runs in
         let zero : k ≡ 0 = eqb-true k 0 both.0 in
         let base : (at s 0).smbase ≡ tile p 0 = subst (λ i. (at s i).smbase ≡ tile p 0) zero (eqb-true (at s k).smbase (tile p 0) both.1) in
@@ -150,12 +152,12 @@ module _ (p : Platform) (s : State) (P : Entry → State → Type 0) (h : IsStoo
   resumes k l g here wants = by_side (sides p s k l here) (row_resumes (layout_of p) (seat p s k) s.monarch l wants)
     where
       by_side : ((k ≡ 0) × AtMonarch p s l) ⊎ AtOther p s k l → (l ≡ F6) ⊎ ((l ≡ R5) ⊎ (l ≡ E7)) → P (entry_by s (Resume k)) (ends (leave_smm k s) g s.disturbed)
-      by_side (inl here) (inl e) = absurd (let p1 : First ≡ Monarchs = sym (ap part_of e) ∙ here.1.part in cc)
-      by_side (inl here) (inr (inl e)) = absurd (let p1 : Relocated ≡ Monarchs = sym (ap part_of e) ∙ here.1.part in cc)
+      by_side (inl here) (inl e) = absurd (let p1 : First ≡ Monarchs = sym (ap handler_of e) ∙ here.1.part in cc)
+      by_side (inl here) (inr (inl e)) = absurd (let p1 : Relocated ≡ Monarchs = sym (ap handler_of e) ∙ here.1.part in cc)
       by_side (inl here) (inr (inr e)) = subst (λ i. P (entry_by s (Resume i)) (ends (leave_smm i s) g s.disturbed)) (sym here.0) (m.rests g (subst (AtMonarch p s) e here.1))
       by_side (inr here) (inl e) = m.returns k l g here (inl e)
       by_side (inr here) (inr (inl e)) = m.returns k l g here (inr e)
-      by_side (inr here) (inr (inr e)) = absurd (here.part (ap part_of e))
+      by_side (inr here) (inr (inr e)) = absurd (here.part (ap handler_of e))
 
   told_row : (l : Label) (o t : Outcome) (g : Stage) → AtRow p s 0 l → want_at (layout_of p) (seat p s 0) s.monarch l ≡ Some (want.Tell t) → same_outcome o t ≡ true → P (entry_by s (Tell o)) (ends (led_on p s 0 l 0 s) g s.disturbed)
   told_row l o t g here wants same = by_side (sides p s 0 l here) (row_tells (layout_of p) (seat p s 0) s.monarch l t wants)

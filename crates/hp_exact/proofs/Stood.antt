@@ -6,7 +6,7 @@ use Rattle.hp_model.specs.declared.labels.Label.{Label}
 use Rattle.hp_model.specs.Platform.{count_of}
 use Rattle.hp_model.specs.Cpu.{smm_address}
 use Rattle.hp_model.specs.Boot.{is_handed}
-use Rattle.hp_model.specs.Labels.{part_of}
+use Rattle.hp_model.specs.Labels.{handler_of}
 use Rattle.hp_model.specs.SharedBytes.{layout_of}
 use Rattle.hp_model.specs.Handlers.{runs_at, is_current, address_of_label}
 use Rattle.hp_model.specs.State.{State, at}
@@ -19,8 +19,8 @@ use Rattle.hp_safety.proofs.Runs.{IsHanded}
 
 -- processor k stands at address a, the cell of a label of the handler that runs at its SMBASE, and has this label's row
 pub record AtCell (p : Platform) (s : State) (k a : ℕ) (l : Label) : Type 0 where
-  pub runs : runs_at (layout_of p) (part_of l) k (at s k).smbase ≡ true
-  pub current : is_current s.monarch (part_of l) l ≡ true
+  pub runs : runs_at (layout_of p) (handler_of l) k (at s k).smbase ≡ true
+  pub current : is_current s.monarch (handler_of l) l ≡ true
   pub here : a ≡ address_of_label (at s k).smbase l
   pub row : label_at p s k ≡ Some l
 

@@ -12,9 +12,11 @@ use Rattle.hp_model.specs.declared.labels.Label.TheVariants.{C4, C6, T, E7}
 use Rattle.hp_model.specs.Platform.{IsFit, tile}
 use Rattle.hp_model.specs.Cpu.{smm_address}
 use Rattle.hp_model.specs.Boot.{is_handed, value_in}
-use Rattle.hp_model.specs.Labels.{Monarch as Monarchs, part_of, index_of}
+use Rattle.hp_model.specs.declared.labels.Handler.TheVariants.{Monarch as Monarchs}
+use Rattle.hp_model.specs.Labels.{handler_of, index_of}
 use Rattle.hp_model.specs.SharedBytes.{layout_of}
-use Rattle.hp_model.specs.Collection.{Report, Collection}
+use Rattle.hp_model.specs.declared.reports.Report.{Report}
+use Rattle.hp_model.specs.Collection.{Collection}
 use Rattle.hp_model.specs.Monarch.{is_own}
 use Rattle.hp_model.specs.Handlers.{want_at}
 use Rattle.hp_model.specs.State.{State, at}
@@ -83,7 +85,7 @@ module _ (p : Platform) (fit : Sound p) (past : List Transition) (s : State) (st
       place : e.at ≡ Some (tile p 0 + 0x8000 + 4 * index_of C6)
       place = ap (λ (x : Entry). x.at) is ∙ here.place
 
-      seen : (m : Label) → part_of m ≡ Monarchs → is_at p m e ≡ (index_of C6 == index_of m)
+      seen : (m : Label) → handler_of m ≡ Monarchs → is_at p m e ≡ (index_of C6 == index_of m)
       seen m part = at_monarch p C6 m e (tile p 0) refl place part
 
       now : is_at p C6 e ≡ true

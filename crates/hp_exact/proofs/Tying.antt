@@ -8,10 +8,12 @@ use Rattle.hp_model.specs.declared.outcomes.Outcome.{Outcome}
 use Rattle.hp_model.specs.declared.outcomes.Outcome.TheVariants.{Added, Ejected, Refused}
 use Rattle.hp_model.specs.declared.entries.Entry.{Entry}
 use Rattle.hp_model.specs.Boot.{value_in}
-use Rattle.hp_model.specs.Labels.{Monarch as Monarchs, part_of, index_of, same_label}
+use Rattle.hp_model.specs.declared.labels.Handler.TheVariants.{Monarch as Monarchs}
+use Rattle.hp_model.specs.Labels.{handler_of, index_of, same_label}
 use Rattle.hp_model.specs.SharedBytes.{Layout}
 use Rattle.hp_model.specs.Slots.{known_from}
-use Rattle.hp_model.specs.Collection.{Report, Collection, CollectNext, CollectsAt, CollectEnds, next_processor, found, judged}
+use Rattle.hp_model.specs.declared.reports.Report.{Report}
+use Rattle.hp_model.specs.Collection.{Collection, CollectNext, CollectsAt, CollectEnds, next_processor, found, judged}
 use Rattle.hp_model.specs.Monarch.{Monarch, at_label, first_slot, next_slot, look_at, noted, at_tell, adds, ejects, took, next_report, after_collection, after_tell, restarted}
 use Rattle.hp_model.specs.Handlers.{Seat, next_at}
 use Rattle.hp_model.specs.Step.{is_after_broadcast}
@@ -35,11 +37,11 @@ row_account l v a =
       status = if index_of l == index_of C4 then v else a.status;
     }
 
-pub account_row : (p : Platform) (e : Entry) (l : Label) (a : Account) → ((m : Label) → part_of m ≡ Monarchs → is_at p m e ≡ (index_of l == index_of m)) → interferes e ≡ false → account_after p e a ≡ row_account l (value_in e.answer) a
+pub account_row : (p : Platform) (e : Entry) (l : Label) (a : Account) → ((m : Label) → handler_of m ≡ Monarchs → is_at p m e ≡ (index_of l == index_of m)) → interferes e ≡ false → account_after p e a ≡ row_account l (value_in e.answer) a
 account_row p e l a seen calm = rw (seen S2 refl, seen E5 refl, seen C6 refl, seen C3 refl, seen C4 refl, calm) refl
 
 -- and after one of another processor, or of the host
-pub account_other : (p : Platform) (e : Entry) (a : Account) → ((m : Label) → part_of m ≡ Monarchs → is_at p m e ≡ false) → account_after p e a ≡ record a { disturbed = if interferes e then (a.sent && not a.closed) || a.disturbed else a.disturbed }
+pub account_other : (p : Platform) (e : Entry) (a : Account) → ((m : Label) → handler_of m ≡ Monarchs → is_at p m e ≡ false) → account_after p e a ≡ record a { disturbed = if interferes e then (a.sent && not a.closed) || a.disturbed else a.disturbed }
 account_other p e a unseen = rw (unseen S2 refl, unseen E5 refl, unseen C6 refl, unseen C3 refl, unseen C4 refl) refl
 
 -- from S0 to S2
@@ -160,7 +162,7 @@ pub one_more : (xs ys : List Report) (i j s u v : ℕ) → xs ≡ ys → i ≡ j
 one_more xs ys i j s u v a b c = rw (a, b, c) refl
 
 -- at each label of the monarch
-pub tied_row : (y : Layout) (x : Seat) (r : Monarch) (l : Label) (v : ℕ) (a : Account) (d : Bool) → part_of l ≡ Monarchs → r.label ≡ l → Tied a r d → Tied (row_account l v a) (next_at y x r l v).monarch (not (same_label l S2) && d)
+pub tied_row : (y : Layout) (x : Seat) (r : Monarch) (l : Label) (v : ℕ) (a : Account) (d : Bool) → handler_of l ≡ Monarchs → r.label ≡ l → Tied a r d → Tied (row_account l v a) (next_at y x r l v).monarch (not (same_label l S2) && d)
 tied_row y x r S0 v a d mine is h = tied_first a r d (h.early (rw is refl)) (h.none (rw is refl))
 tied_row y x r S1 v a d mine is h = tied_next a r d (h.early (rw is refl)) (h.none (rw is refl))
 tied_row y x r S2 v a d mine is h =

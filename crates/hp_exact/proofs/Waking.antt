@@ -15,7 +15,8 @@ use Rattle.hp_model.specs.declared.labels.Label.TheVariants.{F1, F2, F3, F4, F5,
 use Rattle.hp_model.specs.Platform.{apic_of, high_half}
 use Rattle.hp_model.specs.Cpu.{is_waiting, hit, started}
 use Rattle.hp_model.specs.Interrupts.{destination, is_target}
-use Rattle.hp_model.specs.Labels.{Monarch as Monarchs, part_of}
+use Rattle.hp_model.specs.declared.labels.Handler.TheVariants.{Monarch as Monarchs}
+use Rattle.hp_model.specs.Labels.{handler_of}
 use Rattle.hp_model.specs.SharedBytes.{Layout, layout_of}
 use Rattle.hp_model.specs.Slots.{known_from}
 use Rattle.hp_model.specs.Collection.{Collection, CollectsAt, CollectEnds, collection_start, next_processor}
@@ -47,7 +48,7 @@ asleep_processor : (n : ℕ) (apics : List ℕ) (r : Monarch) (c : Collection) �
 asleep_processor n apics r c = pick (λ w. Asleep (after_collection apics w r)) (nat_lt (c.cpu + 1) n) (CollectsAt C1 (record c { cpu = c.cpu + 1 })) (CollectEnds (record c { cpu = c.cpu + 1 })) refl (asleep_next apics (record r { collection = record c { cpu = c.cpu + 1 } }))
 
 -- only from N3, N4 and N5 on
-pub asleep_row : (y : Layout) (q : Seat) (r : Monarch) (l : Label) (v : ℕ) → part_of l ≡ Monarchs → r.label ≡ l → is_among l (N3 ∷ N4 ∷ N5 ∷ []) ≡ false → Asleep (next_at y q r l v).monarch
+pub asleep_row : (y : Layout) (q : Seat) (r : Monarch) (l : Label) (v : ℕ) → handler_of l ≡ Monarchs → r.label ≡ l → is_among l (N3 ∷ N4 ∷ N5 ∷ []) ≡ false → Asleep (next_at y q r l v).monarch
 asleep_row y q r F1 v mine is other = absurd cc
 asleep_row y q r F2 v mine is other = absurd cc
 asleep_row y q r F3 v mine is other = absurd cc

@@ -5,7 +5,9 @@ use Rattle.std.proofs.lemmas.Bool.Decides.{nat_tests}
 use Rattle.std.proofs.lemmas.Grind.{common_steps}
 use Rattle.hp_model.specs.declared.labels.Label.{Label}
 use Rattle.hp_model.specs.declared.platforms.Platform.{Platform}
-use Rattle.hp_model.specs.Labels.{Part, First, Relocated, Monarch, cell_of, mark_of, part_of}
+use Rattle.hp_model.specs.declared.labels.Handler.{Handler}
+use Rattle.hp_model.specs.declared.labels.Handler.TheVariants.{First, Relocated, Monarch}
+use Rattle.hp_model.specs.Labels.{cell_of, mark_of, handler_of}
 use Rattle.hp_model.specs.Image.{image, monarch_labels, relocated_labels, with_cells, with_releases, with_tiles}
 use Rattle.hp_model.specs.Memory.{Write, write_of}
 use Rattle.hp_model.specs.Platform.{IsFit, count_of}
@@ -24,13 +26,13 @@ push_stored cs c = stored_in_order cs (c ∷ []) []
 pub push_fit : (low : ℕ) (cs : List Cell) (c : Cell) → cell_fits low c ≡ true → cells_fit low (cs ++ c ∷ []) ≡ cells_fit low cs
 push_fit low cs c h = fit_in_order low cs (c ∷ []) ∙ grind (arith, nat_tests, common_steps, h)
 
-part_inside : (p : Platform) (h : Part) (slot : ℕ) → IsFit p → slot < count_of p → smbase_in p h slot + 0x10000 ≤ p.low_memory
-part_inside p First slot fit h = grind (arith, nat_tests, fit)
-part_inside p Relocated slot fit h = (tile_inside p slot fit h).1
-part_inside p Monarch slot fit h = (tile_inside p 0 fit (omega (arith, h))).1
+handler_inside : (p : Platform) (h : Handler) (slot : ℕ) → IsFit p → slot < count_of p → smbase_in p h slot + 0x10000 ≤ p.low_memory
+handler_inside p First slot fit h = grind (arith, nat_tests, fit)
+handler_inside p Relocated slot fit h = (tile_inside p slot fit h).1
+handler_inside p Monarch slot fit h = (tile_inside p 0 fit (omega (arith, h))).1
 
 pub cell_inside : (p : Platform) (l : Label) (slot : ℕ) → IsFit p → slot < count_of p → cell_of p l slot + 4 ≤ p.low_memory
-cell_inside p l slot fit h = omega (arith, (in_tile p l slot).1, part_inside p (part_of l) slot fit h)
+cell_inside p l slot fit h = omega (arith, (in_tile p l slot).1, handler_inside p (handler_of l) slot fit h)
 
 pub release_inside : (p : Platform) (slot : ℕ) → IsFit p → slot < count_of p → release_byte (layout_of p) slot + 1 ≤ p.low_memory
 release_inside p slot fit h = grind (arith, nat_tests, fit, tile_inside p slot fit h)

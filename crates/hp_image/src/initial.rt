@@ -10,7 +10,7 @@ ghost use Rattle.hp_image.specs.Cells.{AreCells, cells_fit, stored_cells};
 
 use crate::marks::{cell, mark};
 use crate::stores::{Cell, CellList, Cells};
-use hp_model::{Label, NoMemory, Platform, tseg};
+use hp_model::{Label, NoMemory, Platform, release_byte, tseg};
 use std::alloc::Global;
 
 const RELOCATED: [Label; 6] = [
@@ -123,7 +123,7 @@ fn add_release(cells: &mut Vec<Cell>, p: &Platform, slot: u32) -> Result<(), NoM
     ensures fits { OnOk result (cells_fit p.now.low_memory cells.new.items ≡ cells_fit p.now.low_memory cells.old.items) }
 {
     let cell = Cell {
-        addr: tseg(p) + 0x1000 + slot,
+        addr: release_byte(tseg(p), slot),
         width: 1,
         value: 1,
     };

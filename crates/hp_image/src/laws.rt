@@ -4,7 +4,8 @@ ghost use Rattle.std.specs.Prelude.{◌≡◌, ◌≢◌, ◌⊎◌, ℕ, ◌+�
 ghost use Rattle.hp_model.specs.declared.labels.Label.{Label};
 ghost use Rattle.hp_model.specs.declared.platforms.Platform.{Platform};
 ghost use Rattle.hp_model.specs.Boot.{pen_mark};
-ghost use Rattle.hp_model.specs.Labels.{Part, cell_of, first_cell, label_with, mark_of, part_of};
+ghost use Rattle.hp_model.specs.declared.labels.Handler.{Handler};
+ghost use Rattle.hp_model.specs.Labels.{cell_of, first_cell, label_with, mark_of, handler_of};
 ghost use Rattle.hp_model.specs.Memory.{Write, byte_at};
 ghost use Rattle.hp_model.specs.Platform.{IsFit, count_of, tile, tseg};
 ghost use Rattle.hp_model.specs.SaveArea.{revision_field};
@@ -46,8 +47,8 @@ pub fn no_label_where_no_handler_is()
 #[tactic(auto, using(crate::proofs::Tiles::handlers_apart))]
 pub fn cells_of_a_handler_are_apart()
     ensures distinct { (p : Platform) (l m : Label) (slot : ℕ) →
-        part_of l ≡ part_of m → cell_of p l slot ≡ cell_of p m slot → l ≡ m }
-    ensures apart { (p : Platform) (l m : Label) (slot : ℕ) → part_of l ≡ part_of m → l ≢ m →
+        handler_of l ≡ handler_of m → cell_of p l slot ≡ cell_of p m slot → l ≡ m }
+    ensures apart { (p : Platform) (l m : Label) (slot : ℕ) → handler_of l ≡ handler_of m → l ≢ m →
         (cell_of p l slot + 4 ≤ cell_of p m slot) ⊎ (cell_of p m slot + 4 ≤ cell_of p l slot) }
 {}
 
@@ -55,11 +56,11 @@ pub fn cells_of_a_handler_are_apart()
 /// so they lie within 64 KiB from SMBASE, which for the relocated handler and the monarch are a tile.
 #[tactic(auto, using(crate::proofs::Tiles::cells_inside))]
 pub fn cells_lie_between_entry_and_save_area()
-    ensures entry { (p : Platform) (h : Part) (slot : ℕ) → first_cell p h slot ≡ smbase_in p h slot + 0x8000 }
-    ensures from { (p : Platform) (l : Label) (slot : ℕ) → smbase_in p (part_of l) slot + 0x8000 ≤ cell_of p l slot }
+    ensures entry { (p : Platform) (h : Handler) (slot : ℕ) → first_cell p h slot ≡ smbase_in p h slot + 0x8000 }
+    ensures from { (p : Platform) (l : Label) (slot : ℕ) → smbase_in p (handler_of l) slot + 0x8000 ≤ cell_of p l slot }
     ensures to { (p : Platform) (l : Label) (slot : ℕ) →
-        cell_of p l slot + 4 ≤ smbase_in p (part_of l) slot + revision_field }
-    ensures tile { (p : Platform) (l : Label) (slot : ℕ) → cell_of p l slot + 4 ≤ smbase_in p (part_of l) slot + 0x10000 }
+        cell_of p l slot + 4 ≤ smbase_in p (handler_of l) slot + revision_field }
+    ensures tile { (p : Platform) (l : Label) (slot : ℕ) → cell_of p l slot + 4 ≤ smbase_in p (handler_of l) slot + 0x10000 }
 {}
 
 /// The tiles of the possible processors lie side by side in TSEG, past its 128 KiB of shared bytes and below the end of RAM.

@@ -12,5 +12,5 @@ pub use laws::{
     cells_store_in_order, each_mark_names_its_label, no_label_where_no_handler_is,
     tiles_lie_side_by_side_in_tseg,
 };
-pub use marks::{Handler, Position, cell, label_of, mark, pen_bytes, position_of};
+pub use marks::{Position, cell, label_of, mark, pen_bytes, position_of};
 pub use stores::{Cell, CellList, Cells};

@@ -2,20 +2,11 @@
 
 ghost use Rattle.std.specs.Prelude.{◌≡◌, ◌<◌};
 ghost use Rattle.hp_model.specs.Boot.{pen_mark};
-ghost use Rattle.hp_model.specs.Labels.{cell_of, first_cell as first_cell_of, first_mark as first_mark_of, index_of, label_with, mark_of, part_of};
+ghost use Rattle.hp_model.specs.Labels.{cell_of, first_cell as first_cell_of, first_mark as first_mark_of, index_of, label_with, mark_of, handler_of};
 ghost use Rattle.hp_model.specs.Memory.{bytes_of};
 ghost use Rattle.hp_model.specs.Platform.{IsFit, count_of};
-ghost use Rattle.hp_image.specs.Handlers.{part_named};
 
-use hp_model::{Label, Platform, tile};
-
-/// Whose label it is.
-#[derive(Clone, Copy)]
-pub enum Handler {
-    First,
-    Relocated,
-    Monarch,
-}
+use hp_model::{Handler, Label, Platform, tile};
 
 /// A label's handler, and how many of that handler's labels come before it.
 #[derive(Clone, Copy)]
@@ -34,7 +25,7 @@ const FIRST_AFTER: u32 = Label::T as u32;
 
 /// Where a label stands among the labels.
 pub fn position_of(label: Label) -> Position
-    ensures handler { part_named result.handler ≡ part_of label }
+    ensures handler { result.handler ≡ handler_of label }
     ensures index { result.index ≡ index_of label }
     ensures below { result.index < 41 }
 {
@@ -70,7 +61,7 @@ pub fn position_of(label: Label) -> Position
 
 /// The mark of a handler's first label.
 fn first_mark(handler: Handler) -> u32
-    ensures { result ≡ first_mark_of (part_named handler) }
+    ensures { result ≡ first_mark_of handler }
 {
     match handler {
         Handler::First => 0x53000001,
@@ -155,7 +146,7 @@ pub fn label_of(mark: u32) -> Option<Label>
 fn first_cell(p: &Platform, handler: Handler, slot: u32) -> u32
     requires fit { IsFit p.now }
     requires slot { slot < count_of p.now }
-    ensures { result ≡ first_cell_of p.now (part_named handler) slot }
+    ensures { result ≡ first_cell_of p.now handler slot }
 {
     match handler {
         Handler::First => 0x38000,

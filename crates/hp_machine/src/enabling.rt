@@ -1,7 +1,7 @@
 //! What a processor may do, by its presence, mode and latches.
 
 ghost use Rattle.std.specs.Prelude.{◌≡◌};
-ghost use Rattle.hp_model.specs.Cpu.{is_unlatched as unlatched, is_free as free, is_running, is_in_smm, is_outside, may_take_smi, may_take_init};
+ghost use Rattle.hp_model.specs.Cpu.{is_unlatched as unlatched, is_free as free, is_running, is_in_smm};
 ghost use Rattle.hp_model.specs.Access.{is_normal as normal, is_halt as halt, stands_in_smm, may_access};
 
 use hp_model::{Access, Cpu, Mode, holds, is_memory_width, is_port_width};
@@ -50,12 +50,6 @@ pub fn is_smm_mode(mode: Mode) -> bool
     matches!(mode, Mode::Smm(_))
 }
 
-fn is_outside_mode(mode: Mode) -> bool
-    ensures { result ≡ is_outside mode }
-{
-    matches!(mode, Mode::Running(_) | Mode::Halted(_))
-}
-
 /// Whether nothing is latched that goes before the processor's next access. `late` tells that a latched SMI may come
 /// late, after it.
 fn is_unlatched(late: bool, cpu: &Cpu) -> bool
@@ -83,16 +77,4 @@ pub fn can_access(late: bool, cpu: &Cpu, access: Access) -> bool
     ensures { result ≡ may_access late cpu.now access }
 {
     is_free(late, cpu) || is_in_smm_now(cpu) && !is_halt(access)
-}
-
-pub fn can_take_smi(cpu: &Cpu) -> bool
-    ensures { result ≡ may_take_smi cpu.now }
-{
-    cpu.present && cpu.smi && is_outside_mode(cpu.mode)
-}
-
-pub fn can_take_init(cpu: &Cpu) -> bool
-    ensures { result ≡ may_take_init cpu.now }
-{
-    cpu.present && !cpu.smi && cpu.init && is_outside_mode(cpu.mode)
 }

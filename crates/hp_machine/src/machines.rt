@@ -6,20 +6,17 @@ ghost use Rattle.hp_model.specs.declared.entries.Event.TheVariants.{Do, Insert, 
 ghost use Rattle.hp_model.specs.Platform.{IsFit};
 ghost use Rattle.hp_model.specs.Cpu.{cpu_at, is_in_smm, smm_address, moved};
 ghost use Rattle.hp_model.specs.State.{State};
-ghost use Rattle.hp_model.specs.Access.{stands_in_smm};
+ghost use Rattle.hp_model.specs.Access.{IsPortWidth, stands_in_smm};
 ghost use Rattle.hp_model.specs.Firmware.{mark_at};
 ghost use Rattle.hp_model.specs.Step.{can_do};
 ghost use Rattle.hp_model.specs.Memory.{Write};
 ghost use Rattle.hp_mem.specs.Kept.{StandsFor as MemoryStandsFor};
 ghost use Rattle.hp_model.specs.Block.{ejected_by};
 ghost use Rattle.hp_image.specs.Cells.{AreCells, cells_fit, stored_cells};
-ghost use Rattle.hp_regs.specs.Ports.{IsWidth};
 ghost use Rattle.hp_model.specs.Ports.{start_transfer as with_transfer, write_block as on_block, write_ich9 as with_ich9, write_port as with_port};
 ghost use Rattle.hp_machine.specs.Machine.{StandsFor, IsStep, FitsEvent, started};
 
-use crate::enabling::{
-    can_access, can_take_init, can_take_smi, is_in_smm_now, is_normal, is_smm_mode,
-};
+use crate::enabling::{can_access, is_in_smm_now, is_normal, is_smm_mode};
 use crate::interrupts::send;
 use crate::ports::{
     is_broadcast, is_dma_high, is_dma_low, is_on_block, is_selector, read_port, write_block,
@@ -86,7 +83,7 @@ fn store_cells(memory: &mut Mem, cells: &[Cell], low: u32) -> Result<(), NoMemor
 impl Machine {
     /// A write of a port of the register block.
     fn write_block(&mut self, port: u16, width: u8, value: u32)
-        requires width { IsWidth width }
+        requires width { IsPortWidth width }
         requires from { 0xcd8 ≤ port }
         requires to { port < 0xce4 }
         ensures state { (p : Platform) (s : State) → StandsFor p self.old s → StandsFor p self.new (on_block (port - 0xcd8) width value s) }
@@ -135,7 +132,7 @@ impl Machine {
     /// A write of processor `cpu` to a port.
     #[tactic(auto, using(crate::proofs::Ejects::ejects))]
     fn write_port(&mut self, cpu: u32, port: u16, width: u8, value: u32) -> Result<(), NoMemory>
-        requires width { IsWidth width }
+        requires width { IsPortWidth width }
         requires place { cpu < length self.old.apic }
         requires value { value < 256 ^ width }
         ensures state { (p : Platform) (s : State) → StandsFor p self.old s → OnOk result (StandsFor p self.new (with_port p cpu port width value s)) }
@@ -285,8 +282,8 @@ impl Machine {
             Event::Do(cpu, access) => {
                 is_normal(access) && can_access(self.late, &self.cpu_or_absent(cpu), access)
             }
-            Event::TakeSmi(cpu) => can_take_smi(&self.cpu_or_absent(cpu)),
-            Event::TakeInit(cpu) => can_take_init(&self.cpu_or_absent(cpu)),
+            Event::TakeSmi(cpu) => self.cpu_or_absent(cpu).can_take_smi(),
+            Event::TakeInit(cpu) => self.cpu_or_absent(cpu).can_take_init(),
             Event::Resume(cpu) => is_in_smm_now(&self.cpu_or_absent(cpu)),
             Event::Tell(_) => is_in_smm_now(&self.cpu_or_absent(0)),
         }

@@ -6,7 +6,7 @@ ghost use Rattle.hp_model.specs.Block.{block_write, ejected_by};
 ghost use Rattle.hp_model.specs.FwCfg.{has_broadcast};
 ghost use Rattle.hp_model.specs.Ich9.{ich9_write, raises_smi};
 ghost use Rattle.hp_model.specs.Interrupts.{smi_raised};
-ghost use Rattle.hp_regs.specs.Ports.{IsWidth};
+ghost use Rattle.hp_model.specs.Access.{IsPortWidth};
 ghost use Rattle.hp_machine.specs.Machine.{port_value, port_read, most_processors};
 
 use crate::interrupts::raise_smi;
@@ -58,7 +58,7 @@ pub fn is_dma_low(port: u16, width: u8) -> bool
 
 /// Reads a port. A read of fw_cfg's data moves its offset; ports that no rule names read 0.
 pub fn read_port(block: &Block, ich9: &Ich9, fw_cfg: &mut FwCfg, port: u16, width: u8) -> u32
-    requires { IsWidth width }
+    requires { IsPortWidth width }
     ensures value { result ≡ port_value port width block.now ich9.now fw_cfg.old }
     ensures moved { fw_cfg.new ≡ port_read port width fw_cfg.old }
     ensures below { result < 256 ^ width }
@@ -81,7 +81,7 @@ pub fn write_block(
     width: u8,
     value: u32,
 ) -> Option<u32>
-    requires width { IsWidth width }
+    requires width { IsPortWidth width }
     requires from { 0xcd8 ≤ port }
     requires to { port < 0xce4 }
     requires count { length cpus.old ≡ length block.old.slots }

@@ -5,7 +5,8 @@ ghost use Rattle.hp_model.specs.Memory.{Write, byte_at};
 ghost use Rattle.hp_model.specs.View.{loaded, stored, swapped, ones as all_ones};
 ghost use Rattle.hp_model.specs.declared.processors.Cpu.{Cpu};
 ghost use Rattle.hp_model.specs.SaveArea.{saved, saved_smbase, saved_rip};
-ghost use Rattle.hp_mem.specs.Kept.{StandsFor, IsWidth};
+ghost use Rattle.hp_model.specs.Access.{IsMemoryWidth};
+ghost use Rattle.hp_mem.specs.Kept.{StandsFor};
 ghost use Rattle.hp_cpu.specs.Saving.{plan_of};
 ghost use Rattle.hp_cpu.specs.Smbase.{IsSmbase};
 
@@ -23,7 +24,7 @@ const RIP_FIELD: u32 = 0xff78;
 
 /// As many bytes of ff as the width.
 fn ones(width: u8) -> u64
-    requires { IsWidth width }
+    requires { IsMemoryWidth width }
     ensures { result ≡ all_ones width }
 {
     match width {
@@ -37,7 +38,7 @@ fn ones(width: u8) -> u64
 /// What an access reads, made in SMM or outside.
 #[tactic(auto, using(hp_mem::proofs::Standing::standing))]
 pub fn load(memory: &Mem, locks: &Locks, in_smm: bool, addr: u32, width: u8) -> u64
-    requires { IsWidth width }
+    requires { IsMemoryWidth width }
     ensures value { (ws : List Write) → StandsFor memory.now ws → result ≡ loaded locks.now in_smm (byte_at ws) addr width }
     ensures below { result < 256 ^ width }
 {
@@ -57,7 +58,7 @@ pub fn store(
     width: u8,
     value: u64,
 ) -> Result<(), NoMemory>
-    requires { IsWidth width }
+    requires { IsMemoryWidth width }
     ensures stored { (ws : List Write) → StandsFor memory.old ws → OnOk result (StandsFor memory.new (stored locks.now in_smm addr width value ws)) }
     ensures no_memory { (ws : List Write) → StandsFor memory.old ws → OnErr result (StandsFor memory.new ws) }
     ensures succeeds { width ≤ memory.old.spare → IsOk result }

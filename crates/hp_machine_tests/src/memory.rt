@@ -1,6 +1,6 @@
 //! Memory where no machine reaches it: its last addresses, values wider than their access, its room, and when two are the same.
 
-ghost use Rattle.hp_mem.specs.Kept.{IsWidth};
+ghost use Rattle.hp_model.specs.Access.{IsMemoryWidth};
 ghost use Rattle.std.specs.Prelude.{◌+◌, ◌^◌, ◌≤◌, IsTrue};
 
 use hp_mem::Mem;
@@ -9,7 +9,7 @@ use std::test::Fail;
 
 /// Whether a memory takes an access.
 fn is_access(addr: u32, width: u8) -> bool
-    ensures width { IsTrue result → IsWidth width }
+    ensures width { IsTrue result → IsMemoryWidth width }
     ensures end { IsTrue result → addr + width ≤ 2 ^ 32 }
 {
     matches!(width, 1 | 2 | 4 | 8) && u64::from(addr) + u64::from(width) <= 0x1_0000_0000

@@ -38,7 +38,7 @@ fn a_present_processor_is_not_inserted_and_an_absent_one_not_removed(
     assert!(rt; matches!(cpus.get(2).mode, Mode::Halted(0x9f)));
     cpus.hit(2, Kind::Smi);
     assert!(rt; !cpus.insert(2) && cpus.get(2).smi);
-    assert!(rt; cpus.can_take_smi(2));
+    assert!(rt; cpus.get(2).can_take_smi());
     cpus.enter(2);
     assert!(rt; !cpus.insert(2));
     assert!(rt; matches!(cpus.get(2).mode, Mode::Smm(0x38000)));

@@ -1,5 +1,5 @@
 -- What contracts see of a memory, and which writes it stands for.
-use Rattle.std.specs.Prelude.{◌≡◌, ◌⊎◌, ℕ, List}
+use Rattle.std.specs.Prelude.{◌≡◌, ℕ, List}
 use Rattle.hp_model.specs.Memory.{Write, byte_at}
 use Rattle.hp_mem.specs.Pages.{byte_in}
 
@@ -16,7 +16,3 @@ kept_at kept x = byte_in kept.directory kept.bytes x
 -- a memory that holds, at each address, what these writes left there
 pub record StandsFor (kept : Kept) (ws : List Write) : Type 0 where
   pub each : (x : ℕ) → kept_at kept x ≡ byte_at ws x
-
--- the widths of an access, in bytes
-abbrev pub IsWidth : ℕ → Type 0
-IsWidth width = (width ≡ 1) ⊎ ((width ≡ 2) ⊎ ((width ≡ 4) ⊎ (width ≡ 8)))

@@ -2,7 +2,8 @@
 
 ghost use Rattle.std.specs.Prelude.{◌≡◌, ◌≢◌, ◌↔◌, ◌+◌, ◌^◌, ◌<◌, ◌≤◌, ℕ, IfOk, IsOk, IsTrue, OnErr, OnOk};
 ghost use Rattle.hp_model.specs.Memory.{byte_over, value_from, write_of};
-ghost use Rattle.hp_mem.specs.Kept.{IsWidth, kept_at};
+ghost use Rattle.hp_model.specs.Access.{IsMemoryWidth};
+ghost use Rattle.hp_mem.specs.Kept.{kept_at};
 ghost use Rattle.hp_mem.specs.Pages.{entry};
 ghost use Rattle.hp_mem.specs.Same.{SameOutside};
 
@@ -54,7 +55,7 @@ impl Mem {
     /// The value of the `width` bytes at `addr`, the lowest byte first.
     #[tactic(auto, using(crate::proofs::Finding::load_facts))]
     pub fn load(&self, addr: u32, width: u8) -> u64
-        requires width { IsWidth width }
+        requires width { IsMemoryWidth width }
         requires end { addr + width ≤ 2 ^ 32 }
         ensures value { result ≡ value_from (kept_at self.now) addr width }
         ensures below { result < 256 ^ width }
@@ -115,7 +116,7 @@ impl Mem {
     /// was: the pages of the whole store are taken before its first byte.
     #[tactic(auto, using(crate::proofs::Storing::pages_facts))]
     pub fn store(&mut self, addr: u32, width: u8, value: u64) -> Result<(), NoMemory>
-        requires width { IsWidth width }
+        requires width { IsMemoryWidth width }
         requires end { addr + width ≤ 2 ^ 32 }
         ensures written { OnOk result ((x : ℕ) → kept_at self.new x ≡ byte_over (write_of addr width value) (kept_at self.old) x) }
         ensures no_memory { OnErr result ((x : ℕ) → kept_at self.new x ≡ kept_at self.old x) }

@@ -2,14 +2,14 @@
 
 ghost use Rattle.std.specs.Prelude.{◌≡◌, ◌+◌, ◌^◌, ◌<◌, ◌≤◌, ℕ, length, slice_index};
 ghost use Rattle.hp_model.specs.Memory.{byte_over, value_from, write_of};
-ghost use Rattle.hp_mem.specs.Kept.{IsWidth};
+ghost use Rattle.hp_model.specs.Access.{IsMemoryWidth};
 
 use byteorder::{ByteOrder, LittleEndian};
 
 /// The value of the `width` bytes from `at` on.
 #[tactic(auto, using(crate::proofs::Slices::word_facts))]
 pub fn word_at(bytes: &[u8], at: usize, width: u8) -> u64
-    requires width { IsWidth width }
+    requires width { IsMemoryWidth width }
     requires end { at + width ≤ length bytes.now }
     ensures value { result ≡ value_from (slice_index bytes.now) at width }
     ensures below { result < 256 ^ width }
@@ -24,7 +24,7 @@ pub fn word_at(bytes: &[u8], at: usize, width: u8) -> u64
 
 /// Writes the lowest `width` bytes of a value from `at` on.
 pub fn put_word(bytes: &mut [u8], at: usize, width: u8, value: u64)
-    requires width { IsWidth width }
+    requires width { IsMemoryWidth width }
     requires end { at + width ≤ length bytes.old }
     ensures len { length bytes.new ≡ length bytes.old }
     ensures written { (k : ℕ) → slice_index bytes.new k ≡ byte_over (write_of at width value) (slice_index bytes.old) k }

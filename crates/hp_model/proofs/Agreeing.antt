@@ -1,5 +1,5 @@
 -- Voices that agree with what places tell: there are some, and where all places tell there are no others.
-use Rattle.std.proofs.Common.{◌≡◌, List, [], ◌∷◌, map, Option, Some, None, refl, ap, subst, ◌∙◌}
+use Rattle.std.proofs.Common.{◌≡◌, List, [], ◌∷◌, map, Option, Some, None, refl, sym, ap, subst, ◌∙◌}
 use Rattle.hp_model.specs.declared.platforms.Platform.{Platform}
 use Rattle.hp_model.specs.declared.files.File.{File}
 use Rattle.hp_model.specs.declared.files.VoiceKind.{VoiceKind}
@@ -29,6 +29,10 @@ told_alone [] (v ∷ vs) agree = absurd agree
 told_alone (u ∷ us) [] agree = absurd agree
 told_alone (u ∷ us) (v ∷ vs) agree = ap (λ (w : Voice). w ∷ vs) agree.0 ∙ ap (λ (ws : List Voice). u ∷ ws) (told_alone us vs agree.1)
 
+told_agrees : (us : List Voice) → Agree (map (λ u. Some u) us) us
+told_agrees [] = tt
+told_agrees (u ∷ us) = (refl, told_agrees us)
+
 -- what a file's places tell, where all that was handed in tells its voice
 told_is : (p : Platform) (kinds : List VoiceKind) (handed : List Voice) →
     told_by p kinds (map (λ v. Some v) handed) ≡ map (λ v. Some v) (with_handed (voice_of p) kinds handed)
@@ -39,6 +43,10 @@ told_is p (Pen ∷ kinds) handed = ap (λ (os : List (Option Voice)). Some (voic
 told_is p (Seeded seed ∷ kinds) handed = ap (λ (os : List (Option Voice)). Some (voice_of p (Seeded seed)) ∷ os) (told_is p kinds handed)
 told_is p (Handed ∷ kinds) [] = ap (λ (os : List (Option Voice)). Some silent ∷ os) (told_is p kinds [])
 told_is p (Handed ∷ kinds) (v ∷ handed) = ap (λ (os : List (Option Voice)). Some v ∷ os) (told_is p kinds handed)
+
+pub told_agree : (f : File) (handed : List Voice) → Agree (told_of f (map (λ v. Some v) handed)) (voices_of f handed)
+told_agree f handed =
+    subst (λ (os : List (Option Voice)). Agree os (voices_of f handed)) (sym (told_is f.platform f.voices handed)) (told_agrees (voices_of f handed))
 
 pub told_voices : (f : File) (handed vs : List Voice) → Agree (told_of f (map (λ v. Some v) handed)) vs → vs ≡ voices_of f handed
 told_voices f handed vs agree = told_alone (voices_of f handed) vs (subst (λ (os : List (Option Voice)). Agree os vs) (told_is f.platform f.voices handed) agree)

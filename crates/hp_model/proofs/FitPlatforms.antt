@@ -47,15 +47,15 @@ pub tseg_below : (p : Platform) → IsFit p → tseg p ≤ 0x80000000
 tseg_below p fit = grind (arith, nat_tests)
 
 -- possible APIC IDs are at most the greatest, so without x2APIC they have 8 bits
-pub ids_small : (p : Platform) → IsFit p → list_all (λ a. nat_le a (greatest_id p)) p.apic ≡ true
-ids_small p fit = (and_parts (list_all (λ a. nat_le a (greatest_id p)) p.apic) (all_distinct p.apic) (rules_of p fit).ids).0
+pub ids_small : (p : Platform) → IsFit p → list_all (λ a. nat_le a (greatest_id p.x2apic)) p.apic ≡ true
+ids_small p fit = (and_parts (list_all (λ a. nat_le a (greatest_id p.x2apic)) p.apic) (all_distinct p.apic) (rules_of p fit).ids).0
 
 each_of : (most : ℕ) (ids : List ℕ) (k : ℕ) → list_all (λ a. nat_le a most) ids ≡ true → is_in k ids ≡ true → k ≤ most
 each_of most [] k all among = cc
 each_of most (x ∷ xs) k all among = grind (arith, nat_tests, each_of most xs k)
 
-pub possible_small : (p : Platform) (a : ℕ) → IsFit p → is_in a p.apic ≡ true → a ≤ greatest_id p
-possible_small p a fit among = each_of (greatest_id p) p.apic a (ids_small p fit) among
+pub possible_small : (p : Platform) (a : ℕ) → IsFit p → is_in a p.apic ≡ true → a ≤ greatest_id p.x2apic
+possible_small p a fit among = each_of (greatest_id p.x2apic) p.apic a (ids_small p fit) among
 
 pub fits_a_byte : (p : Platform) (apic : ℕ) → IsFit p → p.x2apic ≡ false → is_in apic p.apic ≡ true → apic ≤ 254
 fits_a_byte p apic fit narrow among =

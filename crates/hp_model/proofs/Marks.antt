@@ -4,7 +4,9 @@ use Rattle.std.proofs.lemmas.Bool.Decides.{nat_tests}
 use Rattle.std.proofs.lemmas.Option.{same_Some}
 use Rattle.hp_model.specs.declared.labels.Label.{Label}
 use Rattle.hp_model.specs.declared.labels.Label.TheVariants.{F1, F2, F3, F4, F5, F6}
-use Rattle.hp_model.specs.Labels.{Part, First, Relocated, Monarch, first_mark, index_of, label_with, labels, mark_of, part_of, with_mark}
+use Rattle.hp_model.specs.declared.labels.Handler.{Handler}
+use Rattle.hp_model.specs.declared.labels.Handler.TheVariants.{First, Relocated, Monarch}
+use Rattle.hp_model.specs.Labels.{first_mark, index_of, label_with, labels, mark_of, handler_of, with_mark}
 
 -- each label stands in the list, and the first one with its mark is itself
 pub found : (l : Label) → label_with (mark_of l) ≡ Some l
@@ -24,7 +26,7 @@ found_is n l h = with_mark-is n labels l h
 pub same_label : (l m : Label) → mark_of l ≡ mark_of m → l ≡ m
 same_label l m e = same_Some l m (sym (found l) ∙ (ap label_with e ∙ found m))
 
-pub same_place : (l m : Label) → part_of l ≡ part_of m → index_of l ≡ index_of m → l ≡ m
+pub same_place : (l m : Label) → handler_of l ≡ handler_of m → index_of l ≡ index_of m → l ≡ m
 same_place l m parts indices = same_label l m (rw (parts, indices) refl)
 
 -- a handler has at most 41 labels, the first one 6
@@ -32,7 +34,7 @@ pub index_small : (l : Label) → index_of l ≤ 40
 index_small F1 = omega arith
 index_small _ = omega arith
 
-pub index_first : (l : Label) → part_of l ≡ First → index_of l ≤ 5
+pub index_first : (l : Label) → handler_of l ≡ First → index_of l ≤ 5
 index_first F1 e = omega arith
 index_first F2 e = omega arith
 index_first F3 e = omega arith
@@ -42,11 +44,11 @@ index_first F6 e = omega arith
 index_first _ e = absurd cc
 
 pub mark_small : (l : Label) → mark_of l < 2 ^ 32
-mark_small l = by_part (part_of l) (index_of l) (index_small l)
+mark_small l = by_handler (handler_of l) (index_of l) (index_small l)
   where
-    by_part : (q : Part) (i : ℕ) → i ≤ 40 → first_mark q + i < 2 ^ 32
-    by_part First i h = omega (arith, h)
-    by_part Relocated i h = omega (arith, h)
-    by_part Monarch i h = omega (arith, h)
+    by_handler : (q : Handler) (i : ℕ) → i ≤ 40 → first_mark q + i < 2 ^ 32
+    by_handler First i h = omega (arith, h)
+    by_handler Relocated i h = omega (arith, h)
+    by_handler Monarch i h = omega (arith, h)
 
 pub ruleset by_mark = (found, found_is, same_label, mark_small)

@@ -14,7 +14,7 @@ use Rattle.hp_model.specs.declared.entries.Entry.{Entry}
 use Rattle.hp_model.specs.declared.files.File.{File}
 use Rattle.hp_model.specs.declared.turns.Due.{Due}
 use Rattle.hp_model.specs.declared.turns.Due.TheVariants.{Idle, Makes, Asks}
-use Rattle.hp_model.specs.State.{State}
+use Rattle.hp_model.specs.State.{State, start}
 use Rattle.hp_model.specs.Access.{normal}
 use Rattle.hp_model.specs.Firmware.{is_wanted}
 use Rattle.hp_model.specs.Step.{After, after, is_enabled, step}
@@ -42,6 +42,16 @@ run_from-append p (x ∷ es) fs s t e = onward (run_on p s x) (λ u. run_from-ap
         option_and_then (λ u. run_from p u es) n ≡ Some t → option_and_then (λ u. run_from p u (es ++ fs)) n ≡ run_from p t fs
     onward None more e = cc
     onward (Some u) more e = more u e
+
+-- a run of one entry more
+pub run_from-more : (p : Platform) (es : List Entry) (e : Entry) (s t u : State) →
+    run_from p s es ≡ Some t → run_on p t e ≡ Some u → run_from p s (es ++ e ∷ []) ≡ Some u
+unfolding run_from
+run_from-more p es e s t u is on = run_from-append p es (e ∷ []) s t is ∙ ap (option_and_then (λ (v : State). run_from p v [])) on
+
+pub run-more : (p : Platform) (es : List Entry) (e : Entry) (s t : State) → run p es ≡ Some s → run_on p s e ≡ Some t → run p (es ++ e ∷ []) ≡ Some t
+unfolding run
+run-more p es e s t is on = run_from-more p es e (start p) s t is on
 
 -- a part of the schedule is a run from the state of its scene to that of the scene after it
 pub record IsRun (p : Platform) (w : Scene) (m : Made) : Type 0 where

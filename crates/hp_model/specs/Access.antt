@@ -1,5 +1,5 @@
 -- What an access is: how the machine takes it, who may make it, what it is answered, and what it does.
-use Rattle.std.specs.Prelude.{ℕ, Bool, true, false, not, ◌&&◌, ◌||◌, ◌==◌, nat_lt, ◌%◌, ◌^◌, if◌then◌else◌}
+use Rattle.std.specs.Prelude.{◌≡◌, ◌⊎◌, ℕ, Bool, true, false, not, ◌&&◌, ◌||◌, ◌==◌, nat_lt, ◌%◌, ◌^◌, if◌then◌else◌}
 use Rattle.hp_model.specs.declared.platforms.Platform.{Platform}
 use Rattle.hp_model.specs.declared.processors.Cpu.{Cpu}
 use Rattle.hp_model.specs.declared.accesses.Access.{Access}
@@ -20,6 +20,13 @@ is_memory_width w = (w == 1) || ((w == 2) || ((w == 4) || (w == 8)))
 
 abbrev pub is_port_width : ℕ → Bool
 is_port_width w = (w == 1) || ((w == 2) || (w == 4))
+
+-- the same as facts
+abbrev pub IsMemoryWidth : ℕ → Type 0
+IsMemoryWidth w = (w ≡ 1) ⊎ ((w ≡ 2) ⊎ ((w ≡ 4) ⊎ (w ≡ 8)))
+
+abbrev pub IsPortWidth : ℕ → Type 0
+IsPortWidth w = (w ≡ 1) ⊎ ((w ≡ 2) ⊎ (w ≡ 4))
 
 -- an access with a width that there is, and no value that its width can't hold
 abbrev pub is_normal : Access → Bool

@@ -7,8 +7,8 @@ use Rattle.hp_model.specs.declared.accesses.Access.TheVariants.{Store, Out, Icr}
 abbrev pub once_more : ℕ → ℕ
 once_more i = (i + 1) % 2 ^ 32
 
--- a storm: its ejects of one processor after another, up to one past the last of so many, are handed to the firmware; all others get INIT and an SMI; 0 is
--- stored in the gate, and the firmware is called
+-- a storm: where i is a multiple of 6 it selects i modulo (count + 2), which is below count + 2; the eject of the processor there, if there is one, is handed to
+-- the firmware; all others get INIT and an SMI; 0 is stored in the gate, and the firmware is called
 abbrev pub storm_access : ℕ → ℕ → Access
 storm_access count i =
     if i % 6 == 0 then Out 0xcd8 4 (i % (count + 2))
@@ -25,7 +25,7 @@ flood_access apic i =
     else if i % 3 == 1 then Icr (apic * 0x1000000) 0x610
     else Icr (apic * 0x1000000) 0x200
 
--- a digger: fw_cfg is to transfer 8 bytes of item 22 to the first handler's cells, by a descriptor at 0x1000, and then it stores there itself
+-- a digger: fw_cfg is to transfer 8 bytes of item 0x22 to the first handler's cells, by a descriptor at 0x1000, and then it stores there itself
 abbrev pub digger_access : ℕ → Access
 digger_access i =
     if i % 4 == 0 then Store 0x1000 8 0x080000000a002200

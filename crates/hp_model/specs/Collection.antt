@@ -2,12 +2,7 @@
 use Rattle.std.specs.Prelude.{ℕ, ◌||◌, not, ◌==◌, nat_lt, ◌+◌, List, [], ◌∷◌, ◌++◌, bit_and, if◌then◌else◌}
 use Rattle.hp_model.specs.declared.labels.Label.{Label}
 use Rattle.hp_model.specs.declared.labels.Label.TheVariants.{C1, C4, C5}
-
--- what the register block says of a processor with an event: its place, its status byte and its APIC ID
-pub record Report : Type 0 where
-  pub cpu : ℕ
-  pub status : ℕ
-  pub apic : ℕ
+use Rattle.hp_model.specs.declared.reports.Report.{Report}
 
 pub record Collection : Type 0 where
   pub cpu : ℕ  -- the processor from which on the next event is looked for, and the one that was found

@@ -6,7 +6,7 @@ use Rattle.hp_model.specs.declared.labels.Label.TheVariants.{C4, C6, E5}
 use Rattle.hp_model.specs.declared.entries.Entry.{Entry}
 use Rattle.hp_model.specs.Platform.{apic_of, is_late}
 use Rattle.hp_model.specs.Block.{slot_at, status}
-use Rattle.hp_model.specs.Collection.{Report}
+use Rattle.hp_model.specs.declared.reports.Report.{Report}
 use Rattle.hp_model.specs.Monarch.{is_that, is_own}
 use Rattle.hp_model.specs.Events.{acts, is_resume_of}
 use Rattle.hp_model.specs.Transitions.{Transition, transitions, entries_of, at_each, newest, moved_in}

@@ -7,7 +7,9 @@ use Rattle.hp_model.specs.declared.accesses.Want.TheVariants as want
 use Rattle.hp_model.specs.declared.labels.Label.{Label}
 use Rattle.hp_model.specs.declared.labels.Label.TheVariants.{F1, F2, F3, F4, F5, F6, R1, R2, R3, R4, R5, R6, S0, S1, S2, S3, S4, C1, C2, C3, C4, C5, C6, NB, N0, N1, N2, N3, N4, N5, N6, N7, N8a, N8b, N9, N10, N11, E0, E1, E2, E3, E4a, E4b, E4c, E4d, E4e, E4f, E4g, E4h, T, E5, E6, E7}
 use Rattle.hp_model.specs.Platform.{high_half}
-use Rattle.hp_model.specs.Labels.{Part, First, Relocated, Monarch as Monarchs, part_of, index_of, same_label, label_with}
+use Rattle.hp_model.specs.declared.labels.Handler.{Handler}
+use Rattle.hp_model.specs.declared.labels.Handler.TheVariants.{First, Relocated, Monarch as Monarchs}
+use Rattle.hp_model.specs.Labels.{handler_of, index_of, same_label, label_with}
 use Rattle.hp_model.specs.SharedBytes.{Layout, tile_in, arrived_byte, release_byte, map_byte, parked_byte, session_byte, gate, closed, new_smbase, flag, default_smbase_field}
 use Rattle.hp_model.specs.Slots.{known_from}
 use Rattle.hp_model.specs.Collection.{found, judged, reported}
@@ -144,20 +146,20 @@ abbrev pub is_tile : Layout → ℕ → Bool
 is_tile y smbase = nat_lt (slot_at y smbase) y.count && (smbase == tile_in y (slot_at y smbase))
 
 -- whose handler runs at this SMBASE on this processor: processor 0 runs the monarch alone, in the tile of slot 0
-abbrev pub runs_at : Layout → Part → ℕ → ℕ → Bool
+abbrev pub runs_at : Layout → Handler → ℕ → ℕ → Bool
 runs_at y First cpu smbase = not (cpu == 0) && (smbase == 0x30000)
 runs_at y Relocated cpu smbase = not (cpu == 0) && (not (slot_at y smbase == 0) && is_tile y smbase)
 runs_at y Monarchs cpu smbase = (cpu == 0) && (smbase == tile_in y 0)
 
 -- the monarch's row is the one of the label where its record stands
-abbrev pub is_current : Monarch → Part → Label → Bool
+abbrev pub is_current : Monarch → Handler → Label → Bool
 is_current r First l = true
 is_current r Relocated l = true
 is_current r Monarchs l = same_label l r.label
 
 -- the label, where its handler runs and its row is due
 abbrev pub current_label : Layout → Monarch → ℕ → ℕ → Label → Option Label
-current_label y r cpu smbase l = if runs_at y (part_of l) cpu smbase && is_current r (part_of l) l then Some l else None
+current_label y r cpu smbase l = if runs_at y (handler_of l) cpu smbase && is_current r (handler_of l) l then Some l else None
 
 -- the label whose mark this is, likewise
 unfoldable pub label_of_mark : Layout → Monarch → ℕ → ℕ → ℕ → Option Label

@@ -3,68 +3,65 @@ use Rattle.std.specs.Prelude.{ℕ, Bool, ◌==◌, ◌+◌, ◌*◌, List, [], �
 use Rattle.hp_model.specs.declared.platforms.Platform.{Platform}
 use Rattle.hp_model.specs.declared.labels.Label.{Label}
 use Rattle.hp_model.specs.declared.labels.Label.TheVariants.{F1, F2, F3, F4, F5, F6, R1, R2, R3, R4, R5, R6, S0, S1, S2, S3, S4, C1, C2, C3, C4, C5, C6, NB, N0, N1, N2, N3, N4, N5, N6, N7, N8a, N8b, N9, N10, N11, E0, E1, E2, E3, E4a, E4b, E4c, E4d, E4e, E4f, E4g, E4h, T, E5, E6, E7}
+use Rattle.hp_model.specs.declared.labels.Handler.{Handler}
+use Rattle.hp_model.specs.declared.labels.Handler.TheVariants.{First, Relocated, Monarch}
 use Rattle.hp_model.specs.Platform.{tile}
 
--- whose handler a label is of: the first handler, the relocated handler, the monarch
-pub data Part : Type 0 where
-  First : Part
-  Relocated : Part
-  Monarch : Part
-
-abbrev pub part_of : Label → Part
-part_of F1 = First
-part_of F2 = First
-part_of F3 = First
-part_of F4 = First
-part_of F5 = First
-part_of F6 = First
-part_of R1 = Relocated
-part_of R2 = Relocated
-part_of R3 = Relocated
-part_of R4 = Relocated
-part_of R5 = Relocated
-part_of R6 = Relocated
-part_of S0 = Monarch
-part_of S1 = Monarch
-part_of S2 = Monarch
-part_of S3 = Monarch
-part_of S4 = Monarch
-part_of C1 = Monarch
-part_of C2 = Monarch
-part_of C3 = Monarch
-part_of C4 = Monarch
-part_of C5 = Monarch
-part_of C6 = Monarch
-part_of NB = Monarch
-part_of N0 = Monarch
-part_of N1 = Monarch
-part_of N2 = Monarch
-part_of N3 = Monarch
-part_of N4 = Monarch
-part_of N5 = Monarch
-part_of N6 = Monarch
-part_of N7 = Monarch
-part_of N8a = Monarch
-part_of N8b = Monarch
-part_of N9 = Monarch
-part_of N10 = Monarch
-part_of N11 = Monarch
-part_of E0 = Monarch
-part_of E1 = Monarch
-part_of E2 = Monarch
-part_of E3 = Monarch
-part_of E4a = Monarch
-part_of E4b = Monarch
-part_of E4c = Monarch
-part_of E4d = Monarch
-part_of E4e = Monarch
-part_of E4f = Monarch
-part_of E4g = Monarch
-part_of E4h = Monarch
-part_of T = Monarch
-part_of E5 = Monarch
-part_of E6 = Monarch
-part_of E7 = Monarch
+-- whose label it is
+abbrev pub handler_of : Label → Handler
+handler_of F1 = First
+handler_of F2 = First
+handler_of F3 = First
+handler_of F4 = First
+handler_of F5 = First
+handler_of F6 = First
+handler_of R1 = Relocated
+handler_of R2 = Relocated
+handler_of R3 = Relocated
+handler_of R4 = Relocated
+handler_of R5 = Relocated
+handler_of R6 = Relocated
+handler_of S0 = Monarch
+handler_of S1 = Monarch
+handler_of S2 = Monarch
+handler_of S3 = Monarch
+handler_of S4 = Monarch
+handler_of C1 = Monarch
+handler_of C2 = Monarch
+handler_of C3 = Monarch
+handler_of C4 = Monarch
+handler_of C5 = Monarch
+handler_of C6 = Monarch
+handler_of NB = Monarch
+handler_of N0 = Monarch
+handler_of N1 = Monarch
+handler_of N2 = Monarch
+handler_of N3 = Monarch
+handler_of N4 = Monarch
+handler_of N5 = Monarch
+handler_of N6 = Monarch
+handler_of N7 = Monarch
+handler_of N8a = Monarch
+handler_of N8b = Monarch
+handler_of N9 = Monarch
+handler_of N10 = Monarch
+handler_of N11 = Monarch
+handler_of E0 = Monarch
+handler_of E1 = Monarch
+handler_of E2 = Monarch
+handler_of E3 = Monarch
+handler_of E4a = Monarch
+handler_of E4b = Monarch
+handler_of E4c = Monarch
+handler_of E4d = Monarch
+handler_of E4e = Monarch
+handler_of E4f = Monarch
+handler_of E4g = Monarch
+handler_of E4h = Monarch
+handler_of T = Monarch
+handler_of E5 = Monarch
+handler_of E6 = Monarch
+handler_of E7 = Monarch
 
 -- the label's index in its handler; those that look whether an eject went through came last (own rule)
 abbrev pub index_of : Label → ℕ
@@ -123,13 +120,13 @@ index_of E4g = 39
 index_of E4h = 40
 
 -- a mark is 4 bytes; those of a handler follow one another
-abbrev pub first_mark : Part → ℕ
+abbrev pub first_mark : Handler → ℕ
 first_mark First = 0x53000001
 first_mark Relocated = 0x53000011
 first_mark Monarch = 0x53000021
 
 abbrev pub mark_of : Label → ℕ
-mark_of l = first_mark (part_of l) + index_of l
+mark_of l = first_mark (handler_of l) + index_of l
 
 -- all labels, in their order
 abbrev pub labels : List Label
@@ -151,14 +148,14 @@ unfoldable pub label_with : ℕ → Option Label
 label_with found = with_mark found labels
 
 -- where a handler's first cell lies, in slot `slot`: the first handler's past the default SMBASE, the others' in tiles, the monarch's in that of slot 0
-abbrev pub first_cell : Platform → Part → ℕ → ℕ
+abbrev pub first_cell : Platform → Handler → ℕ → ℕ
 first_cell p First slot = 0x38000
 first_cell p Relocated slot = tile p slot + 0x8000
 first_cell p Monarch slot = tile p 0 + 0x8000
 
 -- the 4 bytes where the label's mark stands, and where a processor stands at the label
 abbrev pub cell_of : Platform → Label → ℕ → ℕ
-cell_of p l slot = first_cell p (part_of l) slot + 4 * index_of l
+cell_of p l slot = first_cell p (handler_of l) slot + 4 * index_of l
 
 -- two labels are one where their marks are
 abbrev pub same_label : Label → Label → Bool

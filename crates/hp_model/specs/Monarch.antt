@@ -9,7 +9,11 @@ use Rattle.hp_model.specs.declared.outcomes.Refusal.{Refusal}
 use Rattle.hp_model.specs.declared.outcomes.Refusal.TheVariants.{Foreign, Disabled, Both, AlreadyKnown, GateHeld, NoUnplug, NotKnown, NotArrived}
 use Rattle.hp_model.specs.Block.{is_in}
 use Rattle.hp_model.specs.Slots.{Slots, slots_start, known_from, slot_among, is_known, bind, completed, forgotten}
-use Rattle.hp_model.specs.Collection.{Report, Collection, CollectNext, CollectsAt, CollectEnds, collection_start}
+use Rattle.hp_model.specs.declared.reports.Report.{Report}
+use Rattle.hp_model.specs.declared.reports.Facts.{Facts}
+use Rattle.hp_model.specs.declared.reports.Decision.{Decision}
+use Rattle.hp_model.specs.declared.reports.Decision.TheVariants.{Tell as ToTell, Add as ToAdd, Eject as ToEject}
+use Rattle.hp_model.specs.Collection.{Collection, CollectNext, CollectsAt, CollectEnds, collection_start}
 use Rattle.hp_model.specs.Add.{Add, AddNext, AddsAt, Ends, add_of}
 use Rattle.hp_model.specs.Eject.{Eject, EjectNext, EjectsAt, EjectEnds, eject_of}
 
@@ -87,12 +91,6 @@ looked polls value r =
 abbrev pub commanded : ℕ → Monarch → Monarch
 commanded command r = if command == 4 then record r { label = C1; collection = collection_start; taken = 0 } else at_label E5 r
 
--- what becomes of a report
-pub data Decision : Type 0 where
-  ToTell : Outcome → Decision
-  ToAdd : Decision
-  ToEject : Decision
-
 abbrev pub refuses : Refusal → Decision
 refuses why = ToTell (outcome.Refused why)
 
@@ -103,15 +101,6 @@ is_that (Some other) apic = other == apic
 -- its APIC ID is that of its processor, among these by place, and that isn't processor 0
 abbrev pub is_own : List ℕ → Report → Bool
 is_own apics t = not (t.cpu == 0) && is_that (slice_get apics t.cpu) t.apic
-
--- what the tests of a report go by
-pub record Facts : Type 0 where
-  pub own : Bool  -- its APIC ID is its processor's own, and that isn't processor 0
-  pub known : Bool  -- its APIC ID is a boot processor's or was added, and not ejected since
-  pub slot : ℕ  -- the slot of its APIC ID among those bound
-  pub held : Option ℕ  -- the APIC ID whose add isn't complete
-  pub features : ℕ  -- the negotiated SMI features
-  pub look : ℕ  -- what was last read of its arrived byte in this session; 2 for nothing
 
 -- while an APIC ID is held, no other one is added
 abbrev pub held_decision : Option ℕ → Report → Decision
@@ -151,7 +140,7 @@ facts_of apics r t =
       look = slice_index_or r.last (slot_among r.slots.bound t.apic) 2;
     }
 
--- an outcome is told
+-- an outcome is to be told
 abbrev pub at_tell : Outcome → Monarch → Monarch
 at_tell o r = record r { label = T; outcome = o }
 
@@ -192,17 +181,17 @@ taken_up apics (t ∷ ts) r = answered (decision (facts_of apics r t) t) t (took
 abbrev pub next_report : List ℕ → Monarch → Monarch
 next_report apics r = taken_up apics (drop r.taken r.collection.reports) r
 
--- where the collection is led; its end leads to the first report
+-- where the collection goes on; its end leads to the first report
 abbrev pub after_collection : List ℕ → CollectNext → Monarch → Monarch
 after_collection apics (CollectsAt l c) r = record r { label = l; collection = c }
 after_collection apics (CollectEnds c) r = next_report apics (record r { collection = c })
 
--- where the add is led
+-- where the add goes on; its end leads to T, and so does that of an eject
 abbrev pub after_add : AddNext → Monarch → Monarch
 after_add (AddsAt l a) r = record r { label = l; add = a }
 after_add (Ends o) r = at_tell o r
 
--- where the eject is led
+-- where the eject goes on
 abbrev pub after_eject : EjectNext → Monarch → Monarch
 after_eject (EjectsAt l j) r = record r { label = l; eject = j }
 after_eject (EjectEnds o) r = at_tell o r

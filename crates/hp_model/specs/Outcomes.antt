@@ -15,8 +15,10 @@ use Rattle.hp_model.specs.Platform.{tile}
 use Rattle.hp_model.specs.Block.{is_in}
 use Rattle.hp_model.specs.Boot.{value_in}
 use Rattle.hp_model.specs.Slots.{slot_among}
-use Rattle.hp_model.specs.Collection.{Report}
-use Rattle.hp_model.specs.Monarch.{Decision, ToTell, ToAdd, ToEject, is_that}
+use Rattle.hp_model.specs.declared.reports.Report.{Report}
+use Rattle.hp_model.specs.declared.reports.Decision.{Decision}
+use Rattle.hp_model.specs.declared.reports.Decision.TheVariants.{Tell as ToTell, Add as ToAdd, Eject as ToEject}
+use Rattle.hp_model.specs.Monarch.{is_that}
 use Rattle.hp_model.specs.State.{State, at}
 use Rattle.hp_model.specs.Access.{stands_in_smm}
 use Rattle.hp_model.specs.Firmware.{same_outcome}
@@ -137,7 +139,7 @@ was_let_in p apic own =
     is_last_look p (newest (λ e. is_access_of 0 e.event) own)
     && list_any (opens p apic) (older_than (is_at p N9) (older_than (is_at p N10) own))
 
--- the slot is the APIC ID's place, and the next one where it had none before
+-- the slot is the APIC ID's, and the next one where it had none before
 abbrev pub has_slot : List ℕ → List ℕ → ℕ → ℕ → Bool
 has_slot before now apic slot = is_in apic now && ((slot_among now apic == slot) && (is_in apic before || (slot == length before)))
 

@@ -18,12 +18,12 @@ all_distinct [] = true
 all_distinct (x ∷ xs) = not (list_any (λ y. y == x) xs) && all_distinct xs
 
 -- an APIC ID has 8 bits, or 32 under x2APIC, and isn't the one of all ones
-abbrev pub greatest_id : Platform → ℕ
-greatest_id p = if p.x2apic then 0xfffffffe else 254
+abbrev pub greatest_id : Bool → ℕ
+greatest_id x2apic = if x2apic then 0xfffffffe else 254
 
 -- rule 3: APIC IDs are at most the greatest, and distinct
 abbrev pub ids_fit : Platform → Bool
-ids_fit p = list_all (λ a. nat_le a (greatest_id p)) p.apic && all_distinct p.apic
+ids_fit p = list_all (λ a. nat_le a (greatest_id p.x2apic)) p.apic && all_distinct p.apic
 
 -- each number is above the one before it, the first above `low`
 abbrev pub ascends_from : ℕ → List ℕ → Bool

@@ -13,8 +13,10 @@ use Rattle.hp_model.specs.declared.entries.Entry.{Entry}
 use Rattle.hp_model.specs.Boot.{value_in}
 use Rattle.hp_model.specs.SharedBytes.{layout_of, arrived_byte}
 use Rattle.hp_model.specs.Slots.{slot_among}
-use Rattle.hp_model.specs.Collection.{Report}
-use Rattle.hp_model.specs.Monarch.{Decision, Facts, decision, is_own}
+use Rattle.hp_model.specs.declared.reports.Report.{Report}
+use Rattle.hp_model.specs.declared.reports.Facts.{Facts}
+use Rattle.hp_model.specs.declared.reports.Decision.{Decision}
+use Rattle.hp_model.specs.Monarch.{decision, is_own}
 use Rattle.hp_model.specs.State.{State}
 use Rattle.hp_model.specs.Ports.{writes_block}
 use Rattle.hp_model.specs.Access.{same_access}

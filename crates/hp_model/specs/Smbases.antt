@@ -10,7 +10,7 @@ use Rattle.hp_model.specs.Memory.{touched}
 use Rattle.hp_model.specs.Block.{is_in}
 use Rattle.hp_model.specs.SharedBytes.{gate}
 use Rattle.hp_model.specs.Slots.{slot_among}
-use Rattle.hp_model.specs.Collection.{Report}
+use Rattle.hp_model.specs.declared.reports.Report.{Report}
 use Rattle.hp_model.specs.Monarch.{is_that}
 use Rattle.hp_model.specs.State.{State, at}
 use Rattle.hp_model.specs.Boot.{value_in}
@@ -19,7 +19,7 @@ use Rattle.hp_model.specs.Transitions.{Transition, transitions, entries_of, at_e
 use Rattle.hp_model.specs.Account.{is_at, opened_for, bound}
 use Rattle.hp_model.specs.Sessions.{session, triples}
 
--- with these APIC IDs bound: a present processor has the default SMBASE, or the tile of its APIC ID's place
+-- with these APIC IDs bound: a present processor has the default SMBASE, or the tile of its APIC ID's slot
 abbrev pub has_own_smbase : Platform → List ℕ → ℕ → Cpu → Bool
 has_own_smbase p ids apic c = not c.present || ((c.smbase == 0x30000) || (is_in apic ids && (c.smbase == tile p (slot_among ids apic))))
 

@@ -1,4 +1,15 @@
-//! The labels of the SMI handlers.
+//! The SMI handlers and their labels.
+
+/// An SMI handler.
+#[derive(Clone, Copy)]
+pub enum Handler {
+    /// At the default SMBASE, for a processor that has no tile yet.
+    First,
+    /// At the tile of a slot from 1 on.
+    Relocated,
+    /// Processor 0's, at the tile of slot 0.
+    Monarch,
+}
 
 /// Where an SMI handler stands. Each label has its row in the handlers' tables, its cell in SMRAM, and its mark.
 #[derive(Clone, Copy)]

@@ -15,8 +15,9 @@ pub fn schedule_is_a_run()
     ensures boot { (p : APlatform) (vs : List Voice) → IsSome (run p (booted p vs).entries) }
 {}
 
-/// Where all that is handed in tells its voice, the voices that agree with what a file's places tell are those of the file with these handed in, and no others.
-#[tactic(auto, using(crate::proofs::Agreeing::told_voices))]
+/// Where all that is handed in tells its voice, the voices of the file with these handed in agree with what the file's places tell, and no others do.
+#[tactic(auto, using(crate::proofs::Agreeing::told_voices, crate::proofs::Agreeing::told_agree))]
 pub fn told_voices_alone_agree()
-    ensures { (f : File) (handed vs : List Voice) → Agree (told_of f (map (λ v. Some v) handed)) vs → vs ≡ voices_of f handed }
+    ensures agree { (f : File) (handed : List Voice) → Agree (told_of f (map (λ v. Some v) handed)) (voices_of f handed) }
+    ensures alone { (f : File) (handed vs : List Voice) → Agree (told_of f (map (λ v. Some v) handed)) vs → vs ≡ voices_of f handed }
 {}

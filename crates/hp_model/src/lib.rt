@@ -12,6 +12,7 @@ mod layout;
 mod outcomes;
 mod platforms;
 mod processors;
+mod reports;
 mod rules;
 mod shared_bytes;
 mod spans;
@@ -23,13 +24,14 @@ pub use entries::{Actor, Entry, Event};
 pub use errors::NoMemory;
 pub use files::{File, HostEvent, Hosts, Stall, Stalls, VoiceKind, Voices};
 pub use generators::Generator;
-pub use labels::Label;
+pub use labels::{Handler, Label};
 pub use laws::{schedule_is_a_run, told_voices_alone_agree};
 pub use layout::{icr_high, tile, tseg};
 pub use outcomes::{BootFact, Outcome, Refusal, Step};
 pub use platforms::{Delivery, Ids, Platform};
 pub use processors::{Cpu, Ipi, Kind, Mode, Target};
-pub use rules::{Rule, fits};
+pub use reports::{Decision, Facts, Report};
+pub use rules::{Rule, fits, greatest_id};
 pub use shared_bytes::{
     CLOSED, DEFAULT_SMBASE_FIELD, FLAG, GATE, NEW_SMBASE, arrived_byte, map_byte, parked_byte,
     release_byte, session_byte, tile_at,

@@ -1,5 +1,8 @@
 //! Processors and interrupt commands.
 
+ghost use Rattle.std.specs.Prelude.{◌≡◌};
+ghost use Rattle.hp_model.specs.Cpu.{is_outside as outside, may_take_init, may_take_smi};
+
 /// The mode of a present processor.
 #[derive(Clone, Copy)]
 pub enum Mode {
@@ -11,6 +14,15 @@ pub enum Mode {
     Halted(u32),
     /// Is in SMM, at this instruction address.
     Smm(u32),
+}
+
+impl Mode {
+    /// Whether it is a running or halted processor's, outside SMM.
+    pub fn is_outside(self) -> bool
+        ensures { result ≡ outside self }
+    {
+        matches!(self, Mode::Running(_) | Mode::Halted(_))
+    }
 }
 
 /// One possible processor.
@@ -26,6 +38,22 @@ pub struct Cpu {
     pub init: bool,
     /// What the first handler loaded as new SMBASE.
     pub base: u32,
+}
+
+impl Cpu {
+    /// Whether it may take the SMI that is latched.
+    pub fn can_take_smi(&self) -> bool
+        ensures { result ≡ may_take_smi self.now }
+    {
+        self.present && self.smi && self.mode.is_outside()
+    }
+
+    /// Whether it may take the INIT that is latched: an SMI goes before it.
+    pub fn can_take_init(&self) -> bool
+        ensures { result ≡ may_take_init self.now }
+    {
+        self.present && !self.smi && self.init && self.mode.is_outside()
+    }
 }
 
 /// What an interrupt command delivers.

@@ -2,7 +2,7 @@
 
 ghost use Rattle.std.specs.Prelude.{◌≡◌, ◌↔◌, ◌==◌, None, Some, IsOk, IfErr, nat_lt, nat_le};
 ghost use Rattle.std.specs.List.{list_all, list_any};
-ghost use Rattle.hp_model.specs.Platform.{counts_fit, all_distinct, ids_fit, ascends_from, boot_fits, memory_fits, tseg_fits, tiles_fit, features_fit, polls_fit, turns_fit, greatest_id, delivery_fits, first_broken};
+ghost use Rattle.hp_model.specs.Platform.{counts_fit, all_distinct, ids_fit, ascends_from, boot_fits, memory_fits, tseg_fits, tiles_fit, features_fit, polls_fit, turns_fit, greatest_id as greatest, delivery_fits, first_broken};
 
 use crate::platforms::{Delivery, Platform};
 
@@ -38,16 +38,17 @@ fn are_at_most(ids: &[u32], greatest: u32) -> bool
     ids.iter().all(|id| *id <= greatest)
 }
 
-fn greatest_apic_id(p: &Platform) -> u32
-    ensures { result ≡ greatest_id p.now }
+/// The greatest APIC ID that a processor may have: of 8 bits, or of 32 under x2APIC, and not the one of all ones.
+pub fn greatest_id(x2apic: bool) -> u32
+    ensures { result ≡ greatest x2apic }
 {
-    if p.x2apic { 0xfffffffe } else { 254 }
+    if x2apic { 0xfffffffe } else { 254 }
 }
 
 fn has_fitting_ids(p: &Platform) -> bool
     ensures { result ≡ ids_fit p.now }
 {
-    are_at_most(p.apic.0.as_slice(), greatest_apic_id(p)) && are_distinct(p.apic.0.as_slice())
+    are_at_most(p.apic.0.as_slice(), greatest_id(p.x2apic)) && are_distinct(p.apic.0.as_slice())
 }
 
 /// Whether the numbers ascend strictly, the first from above `low`.

@@ -6,8 +6,11 @@ use Rattle.std.proofs.lemmas.Bool.{and_parts, eqb-true}
 use Rattle.std.proofs.lemmas.Bool.Decides.{nat_tests}
 use Rattle.hp_model.specs.declared.outcomes.Outcome.{Outcome}
 use Rattle.hp_model.specs.Block.{is_in}
-use Rattle.hp_model.specs.Collection.{Report}
-use Rattle.hp_model.specs.Monarch.{Decision, Facts, ToTell, ToAdd, ToEject, decision, eject_decision, held_decision, insert_decision, is_own, is_that}
+use Rattle.hp_model.specs.declared.reports.Report.{Report}
+use Rattle.hp_model.specs.declared.reports.Facts.{Facts}
+use Rattle.hp_model.specs.declared.reports.Decision.{Decision}
+use Rattle.hp_model.specs.declared.reports.Decision.TheVariants.{Tell as ToTell, Add as ToAdd, Eject as ToEject}
+use Rattle.hp_model.specs.Monarch.{decision, eject_decision, held_decision, insert_decision, is_own, is_that}
 use Rattle.hp_reloc.specs.Roster.{IsFree}
 
 -- an if that leads to this decision, which one side is not

@@ -7,11 +7,15 @@ use Rattle.hp_model.specs.declared.labels.Label.{Label}
 use Rattle.hp_model.specs.declared.labels.Label.TheVariants.{F1, F2, R1, R2, R3, R4, R6, S0, S1, S2, S3, S4, C1, C3, C4, C6, NB, N0, N8a, N8b, N9, N10, N11, E0, E2, E3, E4a, E4b, E4c, E4f, E4g, E4h, T, E5, E6, E7}
 use Rattle.hp_model.specs.declared.outcomes.Outcome.{Outcome}
 use Rattle.hp_model.specs.Add.{Add, AddsAt, Ends, failed}
-use Rattle.hp_model.specs.Collection.{Collection, CollectEnds, Report, next_processor}
+use Rattle.hp_model.specs.declared.reports.Report.{Report}
+use Rattle.hp_model.specs.Collection.{Collection, CollectEnds, next_processor}
 use Rattle.hp_model.specs.Eject.{EjectsAt, awaits, handed_to_block, saw_parked}
 use Rattle.hp_model.specs.Handlers.{Seat, next_at}
-use Rattle.hp_model.specs.Labels.{Monarch as Monarchs, part_of}
-use Rattle.hp_model.specs.Monarch.{Monarch, Decision, ToTell, ToAdd, ToEject, answered, at_label, decision, after_collection, after_eject, facts_of, after_add, look_at, next_report, noted, taken_up, after_tell, took}
+use Rattle.hp_model.specs.declared.labels.Handler.TheVariants.{Monarch as Monarchs}
+use Rattle.hp_model.specs.Labels.{handler_of}
+use Rattle.hp_model.specs.declared.reports.Decision.{Decision}
+use Rattle.hp_model.specs.declared.reports.Decision.TheVariants.{Tell as ToTell, Add as ToAdd, Eject as ToEject}
+use Rattle.hp_model.specs.Monarch.{Monarch, answered, at_label, decision, after_collection, after_eject, facts_of, after_add, look_at, next_report, noted, taken_up, after_tell, took}
 use Rattle.hp_model.specs.SharedBytes.{Layout}
 use Rattle.hp_model.specs.Slots.{known_from}
 use Rattle.hp_monarch.specs.Order.{may_follow}
@@ -31,7 +35,7 @@ failed_leads : (P : Label → Type 0) (why : Outcome) (a : Add) (r : Monarch) �
 failed_leads P why a r again ends = pick (λ d. P (after_add d r).label) (nat_lt a.attempt 3) _ (Ends why) again ends
 
 -- each row leads to one of its successors
-pub follows : (y : Layout) (x : Seat) (r : Monarch) (l : Label) (v : ℕ) → (part_of l ≡ Monarchs → r.label ≡ l) → may_follow l (next_at y x r l v).label ≡ true
+pub follows : (y : Layout) (x : Seat) (r : Monarch) (l : Label) (v : ℕ) → (handler_of l ≡ Monarchs → r.label ≡ l) → may_follow l (next_at y x r l v).label ≡ true
 follows y x r F1 v at = pick (λ m. may_follow F1 m ≡ true) (v == x.apic) F2 F1 refl refl
 follows y x r R2 v at = pick (λ m. may_follow R2 m ≡ true) (v == 1) R6 R3 refl refl
 follows y x r R3 v at = pick (λ m. may_follow R3 m ≡ true) (v == 1) R4 R1 refl refl
@@ -79,7 +83,7 @@ only_release E5 e = inl refl
 only_release E6 e = inr refl
 only_release _ e = absurd cc
 
-pub before_release : (y : Layout) (x : Seat) (r : Monarch) (l : Label) (v : ℕ) → part_of l ≡ Monarchs → r.label ≡ l → (next_at y x r l v).label ≡ E6 → (l ≡ E5) ⊎ (l ≡ E6)
+pub before_release : (y : Layout) (x : Seat) (r : Monarch) (l : Label) (v : ℕ) → handler_of l ≡ Monarchs → r.label ≡ l → (next_at y x r l v).label ≡ E6 → (l ≡ E5) ⊎ (l ≡ E6)
 before_release y x r l v m at is = only_release l (leads y x r l E6 v at is)
 
 -- the SMI to all others: there is no slot, or none behind this one
@@ -96,7 +100,7 @@ only_broadcast y x r S0 v e is = inl (refl, at_most 1 (length r.slots.bound) (sk
 only_broadcast y x r S1 v e is = inr (refl, at_most (r.slot + 1) (length r.slots.bound) (skips (nat_lt (r.slot + 1) (length r.slots.bound)) r (r.slot + 1) is))
 only_broadcast y x r _ v e is = absurd cc
 
-pub before_broadcast : (y : Layout) (x : Seat) (r : Monarch) (l : Label) (v : ℕ) → part_of l ≡ Monarchs → r.label ≡ l → (next_at y x r l v).label ≡ S2 →
+pub before_broadcast : (y : Layout) (x : Seat) (r : Monarch) (l : Label) (v : ℕ) → handler_of l ≡ Monarchs → r.label ≡ l → (next_at y x r l v).label ≡ S2 →
     ((l ≡ S0) × (length r.slots.bound ≤ 1)) ⊎ ((l ≡ S1) × (length r.slots.bound ≤ r.slot + 1))
 before_broadcast y x r l v m at is = only_broadcast y x r l v (leads y x r l S2 v at is) is
 
@@ -141,7 +145,7 @@ only_end y x r C6 v e is = inr (inr (inr (inl refl)), processor_ends y.apics y.c
 only_end y x r T v e is = inr (inr (inr (inr refl)), report_ends y.apics (after_tell r.outcome r) is)
 only_end y x r _ v e is = absurd cc
 
-pub before_session_end : (y : Layout) (x : Seat) (r : Monarch) (l : Label) (v : ℕ) → part_of l ≡ Monarchs → r.label ≡ l → (next_at y x r l v).label ≡ E5 →
+pub before_session_end : (y : Layout) (x : Seat) (r : Monarch) (l : Label) (v : ℕ) → handler_of l ≡ Monarchs → r.label ≡ l → (next_at y x r l v).label ≡ E5 →
     (l ≡ S4) ⊎ (TakesReports l × (reports_left (next_at y x r l v).monarch ≡ []))
 before_session_end y x r l v m at is = only_end y x r l v (leads y x r l E5 v at is) is
 
@@ -153,7 +157,7 @@ only_add C6 e = inr (inr (inl refl))
 only_add T e = inr (inr (inr refl))
 only_add _ e = absurd cc
 
-pub before_add : (y : Layout) (x : Seat) (r : Monarch) (l : Label) (v : ℕ) → part_of l ≡ Monarchs → r.label ≡ l → (next_at y x r l v).label ≡ NB → TakesReports l
+pub before_add : (y : Layout) (x : Seat) (r : Monarch) (l : Label) (v : ℕ) → handler_of l ≡ Monarchs → r.label ≡ l → (next_at y x r l v).label ≡ NB → TakesReports l
 before_add y x r l v m at is = only_add l (leads y x r l NB v at is)
 
 -- an eject
@@ -164,7 +168,7 @@ only_eject C6 e = inr (inr (inl refl))
 only_eject T e = inr (inr (inr refl))
 only_eject _ e = absurd cc
 
-pub before_eject : (y : Layout) (x : Seat) (r : Monarch) (l : Label) (v : ℕ) → part_of l ≡ Monarchs → r.label ≡ l → (next_at y x r l v).label ≡ E0 → TakesReports l
+pub before_eject : (y : Layout) (x : Seat) (r : Monarch) (l : Label) (v : ℕ) → handler_of l ≡ Monarchs → r.label ≡ l → (next_at y x r l v).label ≡ E0 → TakesReports l
 before_eject y x r l v m at is = only_eject l (leads y x r l E0 v at is)
 
 -- control 8: the processor has parked
@@ -172,7 +176,7 @@ only_control : (l : Label) → may_follow l E4b ≡ true → l ≡ E4a
 only_control E4a e = refl
 only_control _ e = absurd cc
 
-pub before_control : (y : Layout) (x : Seat) (r : Monarch) (l : Label) (v : ℕ) → part_of l ≡ Monarchs → r.label ≡ l → (next_at y x r l v).label ≡ E4b → l ≡ E4a
+pub before_control : (y : Layout) (x : Seat) (r : Monarch) (l : Label) (v : ℕ) → handler_of l ≡ Monarchs → r.label ≡ l → (next_at y x r l v).label ≡ E4b → l ≡ E4a
 before_control y x r l v m at is = only_control l (leads y x r l E4b v at is)
 
 parked_one : (v : ℕ) (r : Monarch) → (after_eject (saw_parked v r.eject) r).label ≡ E4a → v ≡ 1
@@ -190,7 +194,7 @@ only_selector : (y : Layout) (x : Seat) (r : Monarch) (l : Label) (v : ℕ) → 
 only_selector y x r E2 v e is = (refl, parked_one v r is)
 only_selector y x r _ v e is = absurd cc
 
-pub before_selector : (y : Layout) (x : Seat) (r : Monarch) (l : Label) (v : ℕ) → part_of l ≡ Monarchs → r.label ≡ l → (next_at y x r l v).label ≡ E4a → (l ≡ E2) × (v ≡ 1)
+pub before_selector : (y : Layout) (x : Seat) (r : Monarch) (l : Label) (v : ℕ) → handler_of l ≡ Monarchs → r.label ≡ l → (next_at y x r l v).label ≡ E4a → (l ≡ E2) × (v ≡ 1)
 before_selector y x r l v m at is = only_selector y x r l v (leads y x r l E4a v at is) is
 
 -- an eject that went through: under late delivery its status was read
@@ -203,7 +207,7 @@ only_clearing y x r E4b v e is = inl (refl, prompt y.late is)
 only_clearing y x r E4g v e is = inr refl
 only_clearing y x r _ v e is = absurd cc
 
-pub before_clearing : (y : Layout) (x : Seat) (r : Monarch) (l : Label) (v : ℕ) → part_of l ≡ Monarchs → r.label ≡ l → (next_at y x r l v).label ≡ E4c → ((l ≡ E4b) × (y.late ≡ false)) ⊎ (l ≡ E4g)
+pub before_clearing : (y : Layout) (x : Seat) (r : Monarch) (l : Label) (v : ℕ) → handler_of l ≡ Monarchs → r.label ≡ l → (next_at y x r l v).label ≡ E4c → ((l ≡ E4b) × (y.late ≡ false)) ⊎ (l ≡ E4g)
 before_clearing y x r l v m at is = only_clearing y x r l v (leads y x r l E4c v at is) is
 
 pub ruleset order = (before_release, before_broadcast, before_session_end, before_add, before_eject, before_control, before_selector, before_clearing)

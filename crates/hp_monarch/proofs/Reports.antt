@@ -4,9 +4,11 @@ use Rattle.std.specs.Prelude.{slice_get, slice_index_or, nat_lt}
 use Rattle.std.proofs.lemmas.Bool.Decides.{nat_tests}
 use Rattle.hp_model.specs.declared.labels.Label.{Label}
 use Rattle.hp_model.specs.declared.labels.Label.TheVariants.{NB, E0, T, E5}
-use Rattle.hp_model.specs.Collection.{Report}
+use Rattle.hp_model.specs.declared.reports.Report.{Report}
 use Rattle.hp_monarch.specs.Session.{Session}
-use Rattle.hp_model.specs.Monarch.{Monarch, Decision, ToTell, ToAdd, ToEject, decision, facts_of, answered, taken_up, took, next_report, at_label}
+use Rattle.hp_model.specs.declared.reports.Decision.{Decision}
+use Rattle.hp_model.specs.declared.reports.Decision.TheVariants.{Tell as ToTell, Add as ToAdd, Eject as ToEject}
+use Rattle.hp_model.specs.Monarch.{Monarch, decision, facts_of, answered, taken_up, took, next_report, at_label}
 
 pub pick : {X : Type 0} (P : X → Type 0) (b : Bool) (y n : X) → P y → P n → P (cond b y n)
 pick P true y n h g = h
@@ -64,10 +66,10 @@ below_next n m e = grind (arith, nat_tests)
 none_below : (n : ℕ) → true ≡ nat_lt n 0 → ⊥
 none_below n e = grind (arith, nat_tests)
 
-pub shown : {X Y : Type 0} (f : X → Y) (ts : List X) (n : ℕ) (t d : X) → true ≡ nat_lt n (length ts) → t ≡ slice_index_or ts n d → slice_get (map f ts) n ≡ Some (f t)
-shown f [] n t d low is = absurd (none_below n low)
-shown f (u ∷ ts) zero t d low is = ap (λ x. Some (f x)) (sym is)
-shown f (u ∷ ts) (suc n) t d low is = shown f ts n t d (below_next n (length ts) low) is
+pub shown : {X : Type 0} (ts : List X) (n : ℕ) (t d : X) → true ≡ nat_lt n (length ts) → t ≡ slice_index_or ts n d → slice_get ts n ≡ Some t
+shown [] n t d low is = absurd (none_below n low)
+shown (u ∷ ts) zero t d low is = ap (λ x. Some x) (sym is)
+shown (u ∷ ts) (suc n) t d low is = shown ts n t d (below_next n (length ts) low) is
 
 -- one that is taken up is answered
 pub taking : (s : Session) (t : Report) → slice_get s.monarch.collection.reports s.monarch.taken ≡ Some t →

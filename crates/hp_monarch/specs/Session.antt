@@ -5,20 +5,20 @@ use Rattle.hp_model.specs.declared.labels.Label.{Label}
 use Rattle.hp_model.specs.declared.labels.Label.TheVariants as label
 use Rattle.hp_model.specs.declared.accesses.Answer.{Answer}
 use Rattle.hp_model.specs.Add.{AddNext, AddsAt, Ends}
-use Rattle.hp_model.specs.Collection.{CollectNext, CollectsAt, CollectEnds, Report}
+use Rattle.hp_model.specs.declared.reports.Report.{Report}
+use Rattle.hp_model.specs.Collection.{CollectNext, CollectsAt, CollectEnds}
 use Rattle.hp_model.specs.Eject.{EjectNext, EjectsAt, EjectEnds}
 use Rattle.hp_model.specs.Fitting.{FitsWant}
 use Rattle.hp_model.specs.Handlers.{Seat, want_at}
-use Rattle.hp_model.specs.Monarch.{Monarch, Decision as ADecision, Facts as TheFacts, ToTell, ToAdd, ToEject, is_own}
+use Rattle.hp_model.specs.declared.reports.Facts.{Facts}
+use Rattle.hp_model.specs.Monarch.{Monarch, is_own}
+use Rattle.hp_model.specs.Platform.{greatest_id}
 use Rattle.hp_model.specs.SharedBytes.{Layout}
 use Rattle.hp_model.specs.Slots.{is_known, slot_among}
 use Rattle.hp_collect.specs.Collecting.{Collecting, IsGoing as IsCollecting}
 use Rattle.hp_eject.specs.Ejecting.{Ejecting, IsGoing as IsEjecting}
-use Rattle.hp_reloc.specs.Relocating.{Relocating, IsGoing as IsAdding, greatest}
+use Rattle.hp_reloc.specs.Relocating.{Relocating, IsGoing as IsAdding}
 use Rattle.hp_reloc.specs.Roster.{Roster}
-use Rattle.hp_monarch.specs.declared.decisions.Decision.{Decision}
-use Rattle.hp_monarch.specs.declared.decisions.Decision.TheVariants as decision
-use Rattle.hp_monarch.specs.declared.decisions.Facts.{Facts}
 use Rattle.hp_monarch.specs.declared.rows.Standing.{Standing}
 use Rattle.hp_monarch.specs.declared.rows.Standing.TheVariants as standing
 use Rattle.hp_monarch.specs.declared.rows.Row.{Row}
@@ -63,18 +63,8 @@ label_at standing.Collects c d e = collecting_at c
 label_at standing.Adds c d e = adding_at d
 label_at standing.Ejects c d e = ejecting_at e
 
--- what becomes of a report, as the code has it
-abbrev pub decision_of : Decision → ADecision
-decision_of (decision.Tell o) = ToTell o
-decision_of decision.Add = ToAdd
-decision_of decision.Eject = ToEject
-
--- what is known of it, as the code has it
-abbrev pub facts_in : Facts → TheFacts
-facts_in f = record { own = f.own; known = f.known; slot = f.slot; held = f.held; features = f.features; look = f.look }
-
--- and by these slots, what was last read of their bytes, and these features
-abbrev pub facts_by : Roster → List ℕ → ℕ → Report → TheFacts
+-- what is known of a report, by these slots, what was last read of their bytes, and these features
+abbrev pub facts_by : Roster → List ℕ → ℕ → Report → Facts
 facts_by s last features t =
     record {
       own = is_own s.possible t;
@@ -121,7 +111,7 @@ pub record IsSound (tseg count looks : ℕ) (x2apic late : Bool) (slot : ℕ) (s
   pub at_most : length roster.slots.bound ≤ 512
   pub below : tseg ≤ 0x80000000
   pub few : count ≤ 512
-  pub ids : list_all (λ a. nat_le a (greatest x2apic)) roster.possible ≡ true
+  pub ids : list_all (λ a. nat_le a (greatest_id x2apic)) roster.possible ≡ true
   pub fits : 512 ≤ room
   pub parts : IsBy tseg count looks x2apic late collect add eject
   pub inside : IsIn standing (length roster.slots.bound) collect.next add eject.next

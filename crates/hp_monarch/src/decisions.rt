@@ -3,11 +3,9 @@
 ghost use Rattle.std.specs.Prelude.{◌≡◌, ◌<◌, true, slice_index_or};
 ghost use Rattle.hp_model.specs.Monarch.{decision as decision_at, eject_decision, insert_decision, is_own, refuses};
 ghost use Rattle.hp_model.specs.Slots.{is_known, slot_among};
-ghost use Rattle.hp_collect.specs.Collecting.{report_of};
-ghost use Rattle.hp_monarch.specs.Session.{decision_of, facts_in, facts_by};
+ghost use Rattle.hp_monarch.specs.Session.{facts_by};
 
-use hp_collect::Reported;
-use hp_model::{Outcome, Refusal};
+use hp_model::{Decision, Facts, Outcome, Refusal, Report};
 use hp_reloc::Slots;
 
 /// Status bit 0: the processor is enabled.
@@ -20,34 +18,6 @@ const BOTH: u8 = 0x12;
 const UNPLUG: u64 = 0x04;
 /// What stands for a byte that wasn't read in this session. A byte that is read as 2 counts as not read.
 pub const UNREAD: u8 = 2;
-
-/// What becomes of a report.
-#[derive(Clone, Copy)]
-pub enum Decision {
-    /// This outcome is told.
-    Tell(Outcome),
-    /// An add begins.
-    Add,
-    /// An eject begins.
-    Eject,
-}
-
-/// What is known of a report when it is taken up.
-#[derive(Clone, Copy)]
-pub struct Facts {
-    /// Its APIC ID is that of its processor, and that isn't processor 0.
-    own: bool,
-    /// Its APIC ID is a boot processor's or was added, and not ejected since.
-    known: bool,
-    /// The slot of its APIC ID among those bound, and their number where it isn't bound.
-    slot: u32,
-    /// The APIC ID whose add isn't complete.
-    held: Option<u32>,
-    /// The negotiated SMI features.
-    features: u64,
-    /// What was last read of its arrived byte in this session, or `UNREAD`.
-    look: u8,
-}
 
 /// What was last read of this slot's byte.
 fn look_at(last: &[u8], slot: u32) -> u8
@@ -66,8 +36,8 @@ pub fn bound_slot(slots: &Slots, apic: u32) -> u32
 }
 
 /// What the monarch knows of a report, by its slots, what it last read of their arrived bytes, and the negotiated features.
-pub fn gather(slots: &Slots, last: &[u8], features: u64, report: Reported) -> Facts
-    ensures { facts_in result ≡ facts_by slots.now last.now features (report_of report) }
+pub fn gather(slots: &Slots, last: &[u8], features: u64, report: Report) -> Facts
+    ensures { result ≡ facts_by slots.now last.now features report }
 {
     let slot = bound_slot(slots, report.apic);
     Facts {
@@ -81,24 +51,24 @@ pub fn gather(slots: &Slots, last: &[u8], features: u64, report: Reported) -> Fa
 }
 
 /// Whether its APIC ID is that of its processor, and that isn't processor 0.
-fn has_own_id(slots: &Slots, report: Reported) -> bool
-    ensures { result ≡ is_own slots.now.possible (report_of report) }
+fn has_own_id(slots: &Slots, report: Report) -> bool
+    ensures { result ≡ is_own slots.now.possible report }
 {
     report.cpu != 0 && slots.id_of(report.cpu) == Some(report.apic)
 }
 
 /// A refusal is told.
 fn refuse(why: Refusal) -> Decision
-    ensures { decision_of result ≡ refuses why }
+    ensures { result ≡ refuses why }
 {
     Decision::Tell(Outcome::Refused(why))
 }
 
 /// A report of a processor with an insert event. While another APIC ID is held, none is added.
-fn insert(facts: Facts, report: Reported) -> Decision
-    ensures { decision_of result ≡ insert_decision (facts_in facts) (report_of report) }
+fn insert(facts: Facts, report: Report) -> Decision
+    ensures { result ≡ insert_decision facts report }
 {
-    let Reported { cpu, apic, .. } = report;
+    let Report { cpu, apic, .. } = report;
     if facts.known {
         let slot = facts.slot;
         return refuse(Refusal::AlreadyKnown { cpu, apic, slot });
@@ -110,10 +80,10 @@ fn insert(facts: Facts, report: Reported) -> Decision
 }
 
 /// A report of a processor with a firmware eject.
-fn eject(facts: Facts, report: Reported) -> Decision
-    ensures { decision_of result ≡ eject_decision (facts_in facts) (report_of report) }
+fn eject(facts: Facts, report: Report) -> Decision
+    ensures { result ≡ eject_decision facts report }
 {
-    let Reported { cpu, apic, .. } = report;
+    let Report { cpu, apic, .. } = report;
     let features = facts.features;
     if features & UNPLUG != UNPLUG {
         return refuse(Refusal::NoUnplug { cpu, features });
@@ -129,10 +99,10 @@ fn eject(facts: Facts, report: Reported) -> Decision
 
 /// What becomes of this report: each has an answer. One whose APIC ID isn't its processor's, one of a processor that isn't enabled, and
 /// one with an insert event and a firmware eject at once are refused, in this order.
-pub fn judge(facts: Facts, report: Reported) -> Decision
-    ensures { decision_of result ≡ decision_at (facts_in facts) (report_of report) }
+pub fn judge(facts: Facts, report: Report) -> Decision
+    ensures { result ≡ decision_at facts report }
 {
-    let Reported { cpu, status, apic } = report;
+    let Report { cpu, status, apic } = report;
     if !facts.own {
         return refuse(Refusal::Foreign { cpu, apic });
     }

@@ -5,21 +5,21 @@ ghost use Rattle.hp_model.specs.declared.labels.Label.TheVariants as labels;
 ghost use Rattle.hp_model.specs.Boot.{value_in};
 ghost use Rattle.hp_model.specs.Handlers.{Seat, next_at, want_at};
 ghost use Rattle.hp_model.specs.Fitting.{FitsWant};
-ghost use Rattle.hp_model.specs.Monarch.{ToAdd, ToEject, adds, answered, decision as decision_at, commanded, ejects, facts_of, first_slot, look_at, looked, monarch_start, next_report, next_slot, noted, restarted, after_tell, with_features};
+ghost use Rattle.hp_model.specs.declared.reports.Decision.TheVariants.{Add as ToAdd, Eject as ToEject};
+ghost use Rattle.hp_model.specs.Monarch.{adds, answered, decision as decision_at, commanded, ejects, facts_of, first_slot, look_at, looked, monarch_start, next_report, next_slot, noted, restarted, after_tell, with_features};
 ghost use Rattle.hp_model.specs.Platform.{IsFit, is_late};
 ghost use Rattle.hp_model.specs.SharedBytes.{layout_of};
 ghost use Rattle.hp_model.specs.Slots.{known_from};
-ghost use Rattle.hp_collect.specs.Collecting.{report_of};
 ghost use Rattle.hp_monarch.specs.declared.rows.Row.TheVariants as rows;
 ghost use Rattle.hp_monarch.specs.Session.{Fits, ReadsByte, label_of};
 
-use crate::decisions::{Decision, UNREAD, bound_slot, gather, judge};
+use crate::decisions::{UNREAD, bound_slot, gather, judge};
 use crate::rows::{Row, Standing};
-use hp_collect::{Collect, Reported, Stage};
+use hp_collect::{Collect, Stage};
 use hp_eject::Eject;
 use hp_model::{
-    Access, Answer, Label, NoMemory, Outcome, Platform, Refusal, Want, arrived_byte, release_byte,
-    session_byte, tseg,
+    Access, Answer, Decision, Label, NoMemory, Outcome, Platform, Refusal, Report, Want,
+    arrived_byte, release_byte, session_byte, tseg,
 };
 use hp_reloc::{Reloc, Slots};
 use std::alloc::Global;
@@ -297,9 +297,9 @@ impl Monarch {
 
     /// An add begins: its APIC ID is bound and held. The byte of a new slot wasn't read.
     #[tactic(auto, using(crate::proofs::Adds::add_facts))]
-    fn begin_add(&mut self, report: Reported)
-        requires { decision_at (facts_of self.old.layout.apics self.old.monarch (report_of report)) (report_of report) ≡ ToAdd }
-        ensures { self.new ≡ record self.old { monarch = adds (report_of report) self.old.monarch } }
+    fn begin_add(&mut self, report: Report)
+        requires { decision_at (facts_of self.old.layout.apics self.old.monarch report) report ≡ ToAdd }
+        ensures { self.new ≡ record self.old { monarch = adds report self.old.monarch } }
     {
         let slot = self.slots.bind(report.apic);
         add_unread(&mut self.last, self.slots.count());
@@ -308,9 +308,9 @@ impl Monarch {
     }
 
     /// An eject begins.
-    fn begin_eject(&mut self, report: Reported)
-        requires { decision_at (facts_of self.old.layout.apics self.old.monarch (report_of report)) (report_of report) ≡ ToEject }
-        ensures { self.new ≡ record self.old { monarch = ejects (report_of report) self.old.monarch } }
+    fn begin_eject(&mut self, report: Report)
+        requires { decision_at (facts_of self.old.layout.apics self.old.monarch report) report ≡ ToEject }
+        ensures { self.new ≡ record self.old { monarch = ejects report self.old.monarch } }
     {
         let slot = bound_slot(&self.slots, report.apic);
         self.eject.restart(report.cpu, report.apic, slot);
@@ -318,10 +318,10 @@ impl Monarch {
     }
 
     /// A report is answered: by an outcome, an add or an eject.
-    fn answer(&mut self, report: Reported)
+    fn answer(&mut self, report: Report)
         ensures { self.new ≡ record self.old {
           monarch =
-              answered (decision_at (facts_of self.old.layout.apics self.old.monarch (report_of report)) (report_of report)) (report_of report) self.old.monarch;
+              answered (decision_at (facts_of self.old.layout.apics self.old.monarch report) report) report self.old.monarch;
         } }
     {
         let facts = gather(&self.slots, self.last.as_slice(), self.features, report);

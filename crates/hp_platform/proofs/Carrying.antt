@@ -28,7 +28,8 @@ use Rattle.hp_platform.specs.declared.worlds.Turn.TheVariants.{Made, Idle}
 use Rattle.hp_platform.specs.Carrying.{Carries, AgreesWith, IsMadeOf, Leads, ActsAs}
 use Rattle.hp_platform.specs.World.{Acts, IsIdle, IsMade, IsSaid, IsStepOf, IsTurned, IsUnasked, Says, StandsFor, World, entries_in}
 use Rattle.hp_platform.proofs.Telling.{acts, step_is, told-is, map-set, without-is}
-use Rattle.hp_platform.proofs.Turning.{accepted, run_more}
+use Rattle.hp_model.proofs.Scheduled.{run-more}
+use Rattle.hp_platform.proofs.Turning.{accepted}
 
 -- the voice in a place that is told is the told one
 agree_at : (cs : List (Option Voice)) (vs : List Voice) (k : ℕ) → Agree cs vs → MayHave (voice_told cs k) (slice_index_or vs k silent)
@@ -235,7 +236,7 @@ module _ (old new : World) (c : Carried) (carries : Carries old c) (platform : n
     replay : run new.platform new.entries ≡ Some next.state
     replay =
         ap (λ (q : Platform). run q new.entries) platform ∙ ap (run p0) made.entries
-        ∙ run_more p0 old.entries e c.state next.state carries.is (accepted p0 c.state e.event e (step_is p0 c.state e.event next is.step) refl is.answer is.address)
+        ∙ run-more p0 old.entries e c.state next.state carries.is (accepted p0 c.state e.event e (step_is p0 c.state e.event next is.step) refl is.answer is.address)
 
     -- voices before the turn, by which it is due as it was, and leaves these
     record Before (d : Due) (left : List Voice) : Type 0 where

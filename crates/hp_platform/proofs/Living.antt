@@ -28,7 +28,8 @@ use Rattle.hp_platform.specs.Agents.{IsSaid, IsUnasked, Says, without_heard}
 use Rattle.hp_platform.specs.Board.{Board, IsOther, IsReady, StandsFor, is_step}
 use Rattle.hp_platform.specs.Live.{HasMade, IsApplied, IsIdle, IsKept, IsMade, IsReached, IsRefused, Live, agents_of, state_after}
 use Rattle.hp_platform.proofs.Stepping.{IsAsks, asks_is, idle_none, makes_is, unmade}
-use Rattle.hp_platform.proofs.Turning.{accepted, due_step, run_more}
+use Rattle.hp_model.proofs.Scheduled.{run-more}
+use Rattle.hp_platform.proofs.Turning.{accepted, due_step}
 
 abbrev pub state_in : Board → List (Event × Answer) → State
 state_in b xs = state_after b.platform (start b.platform) xs
@@ -113,7 +114,7 @@ module _ (b c : Board) (xs ys : List (Event × Answer)) (e : Entry) (kept : IsKe
     fit = subst (λ (q : Platform). IsFit q) (sym made.platform) kept.fit;
     reached = subst (λ (u : State). IsReached c.platform u) (sym state-is) (subst (λ (q : Platform). IsReached q t) (sym made.platform) (record {
       entries = kept.reached.entries ++ e ∷ [];
-      run = run_more p kept.reached.entries e s t kept.reached.run (accepted p s e.event e is refl (made.answer s kept.shows) (made.address s kept.shows));
+      run = run-more p kept.reached.entries e s t kept.reached.run (accepted p s e.event e is refl (made.answer s kept.shows) (made.address s kept.shows));
     }));
     shows = subst (λ (u : State). StandsFor c u) (sym state-is) (made.state s kept.shows);
   }

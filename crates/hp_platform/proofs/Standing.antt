@@ -73,13 +73,13 @@ stood_at : (p : Platform) (s : State) (k : ℕ) (x : SmmCpu) → x.cpu ≡ k →
 stood_at p s k x is stands = subst (λ (j : ℕ). IsSmmCpu p s j x) (sym is) stands
 
 pub access_found : (b : Board) (x : SmmCpu) (l : Label) (k : ℕ) (a : Access) → is_handed b.boot.stage ≡ true → ((s : State) → StandsFor b s → IsSmmCpu b.platform s k x) → x.cpu ≡ k →
-    row_for b.handlers x ≡ Some l → x.smbase ≤ 0x90000000 → IsRow b x l (event.Do k a)
-access_found b x l k a handed stands cpu label smbase =
-    record { handed = handed; stands = λ s shows. stood_at b.platform s k x cpu (stands s shows); label = label; smbase = smbase; event = sym cpu }
+    row_for b.handlers x ≡ Some l → IsRow b x l (event.Do k a)
+access_found b x l k a handed stands cpu label =
+    record { handed = handed; stands = λ s shows. stood_at b.platform s k x cpu (stands s shows); label = label; event = sym cpu }
 
 pub outcome_found : (b : Board) (x : SmmCpu) (l : Label) (o : Outcome) → is_handed b.boot.stage ≡ true → ((s : State) → StandsFor b s → IsSmmCpu b.platform s 0 x) → x.cpu ≡ 0 →
-    row_for b.handlers x ≡ Some l → x.smbase ≤ 0x90000000 → IsRow b x l (event.Tell o)
-outcome_found b x l o handed stands cpu label smbase =
-    record { handed = handed; stands = λ s shows. stood_at b.platform s 0 x cpu (stands s shows); label = label; smbase = smbase; event = cpu }
+    row_for b.handlers x ≡ Some l → IsRow b x l (event.Tell o)
+outcome_found b x l o handed stands cpu label =
+    record { handed = handed; stands = λ s shows. stood_at b.platform s 0 x cpu (stands s shows); label = label; event = cpu }
 
 pub ruleset rows_found = (access_found, outcome_found)

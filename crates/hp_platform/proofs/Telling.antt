@@ -26,7 +26,8 @@ use Rattle.hp_platform.specs.declared.worlds.Turn.TheVariants.{Made, Idle}
 use Rattle.hp_platform.specs.Board.{is_step}
 use Rattle.hp_platform.specs.World.{Acts, IsIdle, IsMade, IsSaid, IsStepOf, IsTurned, IsUnasked, Says, StandsFor, World}
 use Rattle.hp_platform.proofs.Stepping.{asks_is, makes_is}
-use Rattle.hp_platform.proofs.Turning.{accepted, run_more}
+use Rattle.hp_model.proofs.Scheduled.{run-more}
+use Rattle.hp_platform.proofs.Turning.{accepted}
 
 -- told voices
 pub told-is : (vs : List Voice) (k : ℕ) → get_or (map (λ v. Some v) vs) k (Some silent) ≡ Some (slice_index_or vs k silent)
@@ -83,7 +84,7 @@ module _ (old new : World) (w : Scene) (tells : StandsFor old w) (platform : new
       replay : run new.platform new.entries ≡ Some next.state
       replay =
           ap (λ (q : Platform). run q new.entries) platform ∙ ap (run p0) made.entries
-          ∙ run_more p0 old.entries e w.state next.state tells.is (accepted p0 w.state x e (step_is p0 w.state x next its_step) same its_answer its_address)
+          ∙ run-more p0 old.entries e w.state next.state tells.is (accepted p0 w.state x e (step_is p0 w.state x next its_step) same its_answer its_address)
 
       made_acts : Acts new (made_by w x vs last (step p0 w.state x)) (Made e)
       made_acts = subst (λ (o : Option After). Acts new (made_by w x vs last o) (Made e)) (sym its_step) (record {

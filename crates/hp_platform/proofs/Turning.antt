@@ -13,7 +13,7 @@ use Rattle.hp_model.specs.Platform.{IsFit, count_of, is_late}
 use Rattle.hp_model.specs.Runs.{accept, address_of, run, run_from, run_on}
 use Rattle.hp_model.specs.State.{State, start}
 use Rattle.hp_model.specs.Step.{after, answer_of, step}
-use Rattle.hp_model.proofs.Scheduled.{run_from-append, same_address-refl, same_answer-refl}
+use Rattle.hp_model.proofs.Scheduled.{run-more, same_address-refl, same_answer-refl}
 use Rattle.hp_platform.specs.Agents.{HasNone}
 use Rattle.hp_platform.specs.Board.{is_step}
 use Rattle.hp_platform.specs.Live as live
@@ -37,14 +37,6 @@ taken p s e is answer address =
 pub accepted : (p : Platform) (s : State) (x : Event) (e : Entry) → is_step p s x ≡ true → e.event ≡ x → e.answer ≡ answer_of s x → e.at ≡ address_of s x → run_on p s e ≡ Some (after p s x).state
 accepted p s x e is event answer address =
     subst (λ (y : Event). (step p s y ≡ Some (after p s y) → e.answer ≡ answer_of s y → e.at ≡ address_of s y → run_on p s e ≡ Some (after p s y).state)) event (taken p s e) (due_step p s x is) answer address
-
-run_last : (p : Platform) (s : State) (e : Entry) (t : State) → run_on p s e ≡ Some t → run_from p s (e ∷ []) ≡ Some t
-unfolding run_from
-run_last p s e t on = ap (option_and_then (λ (u : State). run_from p u [])) on
-
-pub run_more : (p : Platform) (es : List Entry) (e : Entry) (s t : State) → run p es ≡ Some s → run_on p s e ≡ Some t → run p (es ++ e ∷ []) ≡ Some t
-unfolding run
-run_more p es e s t so on = run_from-append p es (e ∷ []) (start p) s so ∙ run_last p s e t on
 
 take-front : (es fs : List Entry) (n : ℕ) → n ≤ length es → take n (es ++ fs) ≡ take n es
 take-front es fs zero within = refl
@@ -177,7 +169,7 @@ module _ (l : Live) (es : List Entry) (asked : List ℕ) (notes : List (Option �
     pub kept_more : IsKept m (es ++ e ∷ []) asked notes
     kept_more = record {
       fit = subst (λ (q : Platform). IsFit q) (sym same) kept.fit;
-      replay = subst (λ (q : Platform). run q (es ++ e ∷ []) ≡ Some m.state) (sym same) (run_more p es e l.state m.state kept.replay next);
+      replay = subst (λ (q : Platform). run q (es ++ e ∷ []) ≡ Some m.state) (sym same) (run-more p es e l.state m.state kept.replay next);
       noted = subst (λ (q : Platform). IsNoted q (es ++ e ∷ []) asked notes) (sym same)
           (record { counts = kept.noted.counts; places = kept.noted.places; was = λ a i n place is. longer a n (kept.noted.was a i n place is) });
     }

@@ -1,5 +1,5 @@
 -- What contracts see of a machine with its firmware, and which states of the model it shows.
-use Rattle.std.specs.Prelude.{◌≡◌, ◌≤◌, ⊤, ℕ, Bool, true, false, ◌&&◌, ◌==◌, List, Some, if◌then◌else◌}
+use Rattle.std.specs.Prelude.{◌≡◌, ⊤, ℕ, Bool, true, false, ◌&&◌, ◌==◌, List, Some, if◌then◌else◌}
 use Rattle.hp_model.specs.declared.platforms.Platform.{Platform}
 use Rattle.hp_model.specs.declared.entries.Event.{Event}
 use Rattle.hp_model.specs.declared.entries.Event.TheVariants.{Insert, Remove, Do, TakeSmi, TakeInit, Resume, Tell}
@@ -88,7 +88,6 @@ pub record IsRow (b : Board) (x : SmmCpu) (l : Label) (e : Event) : Type 0 where
   pub handed : is_handed b.boot.stage ≡ true
   pub stands : (s : State) → StandsFor b s → IsSmmCpu b.platform s x.cpu x
   pub label : row_for b.handlers x ≡ Some l
-  pub smbase : x.smbase ≤ 0x90000000
   pub event : IsRowEvent x.cpu e
 
 pub record IsOther (b : Board) (e : Event) : Type 0 where

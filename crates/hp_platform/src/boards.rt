@@ -5,11 +5,10 @@ ghost use Rattle.hp_model.specs.Access.{stands_in_smm};
 ghost use Rattle.hp_model.specs.Boot.{fact_of, is_handed};
 ghost use Rattle.hp_model.specs.Cpu.{cpu_at, page_of, smm_address};
 ghost use Rattle.hp_model.specs.Firmware.{mark_at, wanted};
-ghost use Rattle.hp_model.specs.Platform.{IsFit, apic_of};
+ghost use Rattle.hp_model.specs.Platform.{IsFit, apic_of, greatest_id};
 ghost use Rattle.hp_model.specs.Runs.{address_of as address_in};
 ghost use Rattle.hp_model.specs.State.{State, at, start};
 ghost use Rattle.hp_machine.specs.Machine.{StandsFor as MachineStandsFor};
-ghost use Rattle.hp_reloc.specs.Relocating.{greatest};
 ghost use Rattle.hp_smm.specs.Rows.{row_for};
 ghost use Rattle.hp_platform.specs.Board.{IsSmmCpu, StandsFor};
 
@@ -54,7 +53,7 @@ fn apic_at(p: &Platform, cpu: u32) -> u32
     requires fit { IsFit p.now }
     requires place { cpu < length p.now.apic }
     ensures value { result ≡ apic_of p.now cpu }
-    ensures low { result ≤ greatest p.now.x2apic }
+    ensures low { result ≤ greatest_id p.now.x2apic }
 {
     p.apic.0[cpu as usize]
 }
@@ -66,7 +65,7 @@ fn smm_cpu_of(machine: &Machine, p: &Platform, cpu: u32) -> Option<SmmCpu>
     ensures some { (s : State) → MachineStandsFor p.now machine.now s → IfSome result (IsSmmCpu p.now s cpu) }
     ensures none { (s : State) → MachineStandsFor p.now machine.now s → result ≡ None → mark_at s cpu ≡ None }
     ensures cpu { IfSome result (λ x. x.cpu ≡ cpu) }
-    ensures apic { IfSome result (λ x. x.apic ≤ greatest p.now.x2apic) }
+    ensures apic { IfSome result (λ x. x.apic ≤ greatest_id p.now.x2apic) }
 {
     let Some(mark) = machine.mark_at(cpu) else {
         return None;
@@ -139,7 +138,7 @@ impl Board {
         ensures some { (s : State) → StandsFor self.now s → IfSome result (IsSmmCpu self.now.platform s cpu) }
         ensures none { (s : State) → StandsFor self.now s → result ≡ None → mark_at s cpu ≡ None }
         ensures cpu { IfSome result (λ x. x.cpu ≡ cpu) }
-        ensures apic { IfSome result (λ x. x.apic ≤ greatest self.now.platform.x2apic) }
+        ensures apic { IfSome result (λ x. x.apic ≤ greatest_id self.now.platform.x2apic) }
     {
         smm_cpu_of(&self.machine, &self.platform, cpu)
     }
@@ -152,7 +151,6 @@ impl Board {
         ensures stands { (s : State) → StandsFor self.now s → IfSome result (λ row. IsSmmCpu self.now.platform s cpu row.0) }
         ensures cpu { IfSome result (λ row. row.0.cpu ≡ cpu) }
         ensures label { IfSome result (λ row. row_for self.now.handlers row.0 ≡ Some row.1) }
-        ensures smbase { IfSome result (λ row. row.0.smbase ≤ 0x90000000) }
     {
         let Some(smm_cpu) = self.smm_cpu(cpu) else {
             return None;

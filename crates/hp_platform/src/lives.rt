@@ -199,7 +199,7 @@ impl<A: Agent> Live<A> {
     }
 
     /// The instruction address that an entry of this event would have now.
-    pub(crate) fn address_of(&self, e: &Event) -> Option<u32>
+    pub fn address_of(&self, e: &Event) -> Option<u32>
         ensures { result ≡ address_in self.now.state e.now }
     {
         self.board.address_of(e)

@@ -1,21 +1,9 @@
 //! Accesses as the machine takes them.
 
 ghost use Rattle.std.specs.Prelude.{◌≡◌, ◌%◌, ◌^◌, true};
-ghost use Rattle.hp_model.specs.Access.{is_memory_width as is_memory, is_port_width as is_port, normal as normal_of};
+ghost use Rattle.hp_model.specs.Access.{is_memory_width as is_memory, normal as normal_of};
 
-use hp_model::Access;
-
-fn is_memory_width(width: u8) -> bool
-    ensures { result ≡ is_memory width }
-{
-    matches!(width, 1 | 2 | 4 | 8)
-}
-
-fn is_port_width(width: u8) -> bool
-    ensures { result ≡ is_port width }
-{
-    matches!(width, 1 | 2 | 4)
-}
+use hp_model::{Access, is_memory_width, is_port_width};
 
 /// The lowest bytes of a value, so many as the width is.
 fn cut(value: u64, width: u8) -> u64

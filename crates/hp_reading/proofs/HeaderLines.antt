@@ -455,7 +455,7 @@ has_bits p fit =
     let (delivery, j) = kept (delivery_fits p) 11 _ i in
     let (some, few) = and_parts (nat_lt 0 (length p.apic)) (nat_le (length p.apic) 512) counts in
     let many : length p.apic ≤ 512 = leb-true (length p.apic) 512 few in
-    let (small, distinct) = and_parts (list_all (λ a. nat_le a (greatest_id p)) p.apic) (all_distinct p.apic) ids in
+    let (small, distinct) = and_parts (list_all (λ a. nat_le a (greatest_id p.x2apic)) p.apic) (all_distinct p.apic) ids in
     let (up, places) = and_parts (ascends_from_zero p.boot) (list_all (λ k. nat_lt k (length p.apic)) p.boot) boot in
     let (whole, bounds) = and_parts (p.low_memory % 0x100000 == 0) (nat_le 0x1000000 p.low_memory && nat_le p.low_memory 0x80000000) memory in
     let (above, under) = and_parts (nat_le 0x1000000 p.low_memory) (nat_le p.low_memory 0x80000000) bounds in
@@ -468,7 +468,7 @@ has_bits p fit =
     record {
       few_apic = many;
       some_apic = ltb-true 0 (length p.apic) some;
-      small_apic = all_below (greatest_id p) p.apic (id_small p.x2apic) small;
+      small_apic = all_below (greatest_id p.x2apic) p.apic (id_small p.x2apic) small;
       few_boot = boots.0;
       some_boot = boots.1;
       small_boot = all_places (length p.apic) p.boot many places;

@@ -3,7 +3,7 @@ use Rattle.std.proofs.Common.{◌≡◌, ◌≢◌, ℕ, zero, suc, Bool, true, 
 use Rattle.std.proofs.lemmas.Bool.{true≢false}
 use Rattle.std.proofs.lemmas.Bool.Decides.{nat_tests}
 use Rattle.hp_model.specs.Block.{Slot, Block, no_slot, slot_at, bit, bitmap, first_places, cut, block_read}
-use Rattle.hp_regs.specs.Ports.{IsWidth}
+use Rattle.hp_model.specs.Access.{IsPortWidth}
 
 bit_small : (b : Bool) → bit b ≤ 1
 bit_small true = omega arith
@@ -32,17 +32,17 @@ first_places_all ss h = take_all 32 ss h
 pub ruleset bitmap_facts = (first_places_take, first_places_all)
 
 -- an odd number is odd after a cut to a width
-odd : (n width : ℕ) → IsWidth width → cut width (1 + 2 * n) ≢ 0
+odd : (n width : ℕ) → IsPortWidth width → cut width (1 + 2 * n) ≢ 0
 odd n width (inl e) = subst (λ (w : ℕ). cut w (1 + 2 * n) ≢ 0) (sym e) (λ z. omega arith)
 odd n width (inr (inl e)) = subst (λ (w : ℕ). cut w (1 + 2 * n) ≢ 0) (sym e) (λ z. omega arith)
 odd n width (inr (inr e)) = subst (λ (w : ℕ). cut w (1 + 2 * n) ≢ 0) (sym e) (λ z. omega arith)
 
-first_bit : (ss : List Slot) (width : ℕ) → IsWidth width → (get_or ss 0 no_slot).enabled ≡ true → cut width (bitmap (first_places ss)) ≢ 0
+first_bit : (ss : List Slot) (width : ℕ) → IsPortWidth width → (get_or ss 0 no_slot).enabled ≡ true → cut width (bitmap (first_places ss)) ≢ 0
 unfolding first_places
 first_bit [] width w e = absurd (true≢false (sym e))
 first_bit (s ∷ ss) width w e = rw e (odd (bitmap (take 31 ss)) width w)
 
-pub legacy_reads_more : (b : Block) (width : ℕ) → IsWidth width → b.modern ≡ false → (slot_at b 0).enabled ≡ true → block_read b 0 width ≢ 0
+pub legacy_reads_more : (b : Block) (width : ℕ) → IsPortWidth width → b.modern ≡ false → (slot_at b 0).enabled ≡ true → block_read b 0 width ≢ 0
 legacy_reads_more b width w m e = rw m (first_bit b.slots width w e)
 
 pub modern_reads_zero : (b : Block) (width : ℕ) → b.modern ≡ true → block_read b 0 width ≡ 0

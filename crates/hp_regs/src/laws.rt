@@ -2,7 +2,7 @@
 
 ghost use Rattle.std.specs.Prelude.{◌≡◌, ◌≢◌, ◌≤◌, ℕ, Bool, true, false, Option, Some, length};
 ghost use Rattle.hp_model.specs.Block.{Slot, Block, slot_at, set_slot, is_selected, cut, has_event, controlled, block_read, block_write, ejected_by};
-ghost use Rattle.hp_regs.specs.Ports.{IsWidth};
+ghost use Rattle.hp_model.specs.Access.{IsPortWidth};
 ghost use Rattle.hp_regs.specs.Words.{is_search, starts_register, lowest_bit, steps_up};
 
 /// A register answers at its first offset alone: a read anywhere else is 0, and a write there changes nothing.
@@ -32,7 +32,7 @@ pub fn the_modern_form_is_for_good()
 /// Offset 0 tells the form: it reads other than 0 in the legacy form, where processor 0 is enabled, and 0 in the modern.
 #[tactic(auto, using(crate::proofs::Bitmap::modern_reads_zero))]
 pub fn offset_0_tells_the_form()
-    ensures legacy { (b : Block) (width : ℕ) → IsWidth width → b.modern ≡ false → (slot_at b 0).enabled ≡ true → block_read b 0 width ≢ 0 }
+    ensures legacy { (b : Block) (width : ℕ) → IsPortWidth width → b.modern ≡ false → (slot_at b 0).enabled ≡ true → block_read b 0 width ≢ 0 }
     ensures modern { (b : Block) (width : ℕ) → b.modern ≡ true → block_read b 0 width ≡ 0 }
 {}
 

@@ -3,7 +3,7 @@
 ghost use Rattle.std.specs.Prelude.{◌≡◌, ◌↔◌, ◌<◌, IfOk, IsTrue, length};
 ghost use Rattle.hp_model.specs.Platform.{IsFit};
 ghost use Rattle.hp_model.specs.Block.{is_selected as names_processor, cut as cut_to, read_data, modern_read, block_read, write_control, write_command, write_data, modern_write, block_write, ejected_by, block_start, with_insert, with_removal};
-ghost use Rattle.hp_regs.specs.Ports.{IsWidth};
+ghost use Rattle.hp_model.specs.Access.{IsPortWidth};
 
 use crate::flags::Control;
 use crate::slots::{
@@ -49,7 +49,7 @@ impl Model for Block {
 
 /// The low `width` bytes of a value.
 fn cut(width: u8, value: u32) -> u32
-    requires { IsWidth width }
+    requires { IsPortWidth width }
     ensures { result ≡ cut_to width value }
 {
     match width {
@@ -84,7 +84,7 @@ impl Block {
     /// possible processor (own rules). Reading changes nothing.
     pub fn read(&self, offset: u8, width: u8) -> u32
         requires offset { offset < 12 }
-        requires width { IsWidth width }
+        requires width { IsPortWidth width }
         ensures value { result ≡ block_read self.now offset width }
     {
         if self.modern {
@@ -103,7 +103,7 @@ impl Block {
     /// is to make the processor absent.
     pub fn write(&mut self, offset: u8, width: u8, value: u32) -> Option<u32>
         requires offset { offset < 12 }
-        requires width { IsWidth width }
+        requires width { IsPortWidth width }
         ensures block { self.new ≡ block_write self.old offset width value }
         ensures ejected { result ≡ ejected_by self.old self.new }
     {

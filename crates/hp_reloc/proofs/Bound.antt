@@ -8,8 +8,7 @@ use Rattle.hp_model.specs.Block.{is_in}
 use Rattle.hp_model.specs.Platform.{IsFit, all_distinct, ascends_from, ascends_from_zero, no_id}
 use Rattle.hp_model.specs.Slots.{boot_ids}
 use Rattle.hp_model.proofs.Counts.{in_at}
-use Rattle.hp_model.proofs.FitPlatforms.{apic_few, boot_few, possible_small as id_small}
-use Rattle.hp_reloc.specs.Relocating.{greatest}
+use Rattle.hp_model.proofs.FitPlatforms.{apic_few, boot_few}
 use Rattle.hp_reloc.specs.Roster.{IsSound}
 use Rattle.std.proofs.lemmas.List.{length-map, length-replicate}
 
@@ -61,10 +60,6 @@ in_all xs (k ∷ ks) below =
     let inside : k < length xs = grind (arith, nat_tests, common_steps) in
     let after : list_all (λ k. nat_lt k (length xs)) ks ≡ true = grind (arith, nat_tests, common_steps) in
     rw (in_at xs k no_id inside) (in_all xs ks after)
-
--- possible APIC IDs are at most the greatest
-pub possible_small : (p : Platform) (a : ℕ) → IsFit p → is_in a p.apic ≡ true → a ≤ greatest p.x2apic
-possible_small p a fit among = id_small p a fit among
 
 pub boot_distinct : (p : Platform) → IsFit p → all_distinct (boot_ids p) ≡ true
 boot_distinct p fit = distinct_all p.apic p.boot (grind (arith, nat_tests)) (grind (arith, nat_tests)) (grind (arith, nat_tests))

@@ -1,5 +1,5 @@
 -- What contracts see of an add: what it goes by of the platform, its record, and where the last answer led.
-use Rattle.std.specs.Prelude.{◌≡◌, ◌<◌, ◌≤◌, ℕ, Bool, true, false, Option, Some, None, if◌then◌else◌}
+use Rattle.std.specs.Prelude.{◌≡◌, ◌<◌, ◌≤◌, ℕ, Bool, true, false, Option, Some, None}
 use Rattle.hp_model.specs.declared.accesses.Answer.{Answer}
 use Rattle.hp_model.specs.declared.labels.Label.{Label}
 use Rattle.hp_model.specs.declared.labels.Label.TheVariants as label
@@ -11,6 +11,7 @@ use Rattle.hp_model.specs.Add.{Add, AddNext, AddsAt, Ends}
 use Rattle.hp_model.specs.Fitting.{FitsWant}
 use Rattle.hp_model.specs.Handlers.{Seat, want_at}
 use Rattle.hp_model.specs.Monarch.{Monarch}
+use Rattle.hp_model.specs.Platform.{greatest_id}
 use Rattle.hp_model.specs.SharedBytes.{Layout}
 use Rattle.hp_reloc.specs.declared.rows.Row.{Row}
 use Rattle.hp_reloc.specs.declared.rows.Row.TheVariants as row
@@ -24,7 +25,7 @@ pub record Relocating : Type 0 where
   pub add : Add
   pub next : AddNext
 
--- the add's record after it was led
+-- the add's record after an answer
 abbrev pub add_in : AddNext → Add → Add
 add_in (AddsAt l b) a = b
 add_in (Ends o) a = a
@@ -51,7 +52,7 @@ abbrev pub outcome_of : AddNext → Option Outcome
 outcome_of (AddsAt l a) = None
 outcome_of (Ends o) = Some o
 
--- it is led on
+-- it goes on
 abbrev pub at_next : AddNext → Relocating → Relocating
 at_next d r = record r { add = add_in d r.add; next = d }
 
@@ -88,14 +89,10 @@ is_of_add (Ended (outcome.Added cpu apic slot)) = true
 is_of_add (Ended (outcome.Ejected cpu apic slot)) = false
 is_of_add (Ended (outcome.Refused why)) = true
 
--- an APIC ID has 8 bits, or 32 under x2APIC, and isn't the one of all ones
-abbrev pub greatest : Bool → ℕ
-greatest x2apic = if x2apic then 0xfffffffe else 254
-
 -- addresses and interrupt commands have 32 bits, and there are three attempts
 pub record IsSmall (tseg : ℕ) (x2apic : Bool) (apic slot attempt : ℕ) (standing : Standing) : Type 0 where
   pub below : tseg ≤ 0x80000000
-  pub narrow : apic ≤ greatest x2apic
+  pub narrow : apic ≤ greatest_id x2apic
   pub tile : slot < 512
   pub third : attempt ≤ 3
   pub ends : is_of_add standing ≡ true

@@ -5,12 +5,12 @@ ghost use Rattle.std.specs.Prelude.{◌≡◌, ℕ, ◌≤◌, true, Some};
 ghost use Rattle.hp_model.specs.Block.{is_in};
 ghost use Rattle.hp_model.specs.Boot.{value_in};
 ghost use Rattle.hp_model.specs.Handlers.{next_at, want_at};
-ghost use Rattle.hp_model.specs.Labels.{First, part_of};
+ghost use Rattle.hp_model.specs.declared.labels.Handler.TheVariants.{First};
+ghost use Rattle.hp_model.specs.Labels.{handler_of};
 ghost use Rattle.hp_model.specs.Monarch.{Monarch};
-ghost use Rattle.hp_model.specs.Platform.{IsFit, high_half};
+ghost use Rattle.hp_model.specs.Platform.{IsFit, high_half, greatest_id};
 ghost use Rattle.hp_model.specs.SharedBytes.{Layout};
 ghost use Rattle.hp_reloc.specs.Fits.{FitsFirst};
-ghost use Rattle.hp_reloc.specs.Relocating.{greatest};
 
 use hp_model::{
     Access, Answer, CLOSED, DEFAULT_SMBASE_FIELD, FLAG, GATE, Label, NEW_SMBASE, Platform, Want,
@@ -21,17 +21,17 @@ pub const SMI: u32 = 0x200;
 
 /// The high half of an interrupt command to this APIC ID: bits 31 to 24, or under x2APIC all of it.
 pub fn destination(x2apic: bool, apic: u32) -> u32
-    requires { apic ≤ greatest x2apic }
+    requires { apic ≤ greatest_id x2apic }
     ensures { result ≡ high_half x2apic apic }
 {
     if x2apic { apic } else { apic * 0x1000000 }
 }
 
 /// What the processor of this APIC ID wants at a label of the first handler. `base` is the SMBASE that it has loaded.
-#[tactic(auto, using(crate::proofs::Bound::possible_small))]
+#[tactic(auto, using(hp_model::proofs::FitPlatforms::possible_small))]
 pub fn first_want(p: &Platform, label: Label, apic: u32, base: u32) -> Want
     requires fit { IsFit p.now }
-    requires first { part_of label ≡ First }
+    requires first { handler_of label ≡ First }
     requires possible { is_in apic p.now.apic ≡ true }
     ensures { (y : Layout) (slot : ℕ) (r : Monarch) → y.x2apic ≡ p.now.x2apic →
         want_at y (record { apic = apic; slot = slot; base = base }) r label ≡ Some result }
@@ -41,8 +41,8 @@ pub fn first_want(p: &Platform, label: Label, apic: u32, base: u32) -> Want
 
 /// The same, by whether APIC IDs have 32 bits.
 pub fn first_want_by(x2apic: bool, label: Label, apic: u32, base: u32) -> Want
-    requires first { part_of label ≡ First }
-    requires apic { apic ≤ greatest x2apic }
+    requires first { handler_of label ≡ First }
+    requires apic { apic ≤ greatest_id x2apic }
     ensures { (y : Layout) (slot : ℕ) (r : Monarch) → y.x2apic ≡ x2apic →
         want_at y (record { apic = apic; slot = slot; base = base }) r label ≡ Some result }
 {
@@ -74,7 +74,7 @@ pub fn first_want_by(x2apic: bool, label: Label, apic: u32, base: u32) -> Want
 
 /// Where the answer leads: the next label of the first handler, and the base from there on. Who isn't at the gate stays at F1.
 pub fn first_next(label: Label, apic: u32, base: u32, answer: Answer) -> (Label, u32)
-    requires first { part_of label ≡ First }
+    requires first { handler_of label ≡ First }
     requires fits { FitsFirst label apic base answer }
     ensures { (y : Layout) (slot : ℕ) (r : Monarch) →
         next_at y (record { apic = apic; slot = slot; base = base }) r label (value_in answer) ≡ record { label = result.0; base = result.1; monarch = r } }

@@ -12,9 +12,9 @@ ghost use Rattle.hp_model.specs.Bare.{layout_at};
 ghost use Rattle.hp_model.specs.Boot.{value_in};
 ghost use Rattle.hp_model.specs.Handlers.{Seat, next_at, want_at};
 ghost use Rattle.hp_model.specs.Monarch.{Monarch, after_add};
-ghost use Rattle.hp_model.specs.Platform.{IsFit, high_half, tseg as first_of_tseg};
+ghost use Rattle.hp_model.specs.Platform.{IsFit, high_half, tseg as first_of_tseg, greatest_id};
 ghost use Rattle.hp_model.specs.SharedBytes.{Layout, arrived_byte as arrived_byte_of, gate, release_byte as release_byte_of, tile_in};
-ghost use Rattle.hp_reloc.specs.Relocating.{Fits, IsGoing, IsOfAdd, add_in, at_next, greatest, label_of, outcome_of, step_of};
+ghost use Rattle.hp_reloc.specs.Relocating.{Fits, IsGoing, IsOfAdd, add_in, at_next, label_of, outcome_of, step_of};
 
 use crate::first::{SMI, destination};
 use crate::rows::Row;
@@ -87,7 +87,7 @@ impl Reloc {
     #[tactic(auto, using(hp_model::proofs::FitPlatforms::tseg_below))]
     pub fn new(p: &Platform, cpu: u32, apic: u32, slot: u32) -> Reloc
         requires fit { IsFit p.now }
-        requires apic { apic ≤ greatest p.now.x2apic }
+        requires apic { apic ≤ greatest_id p.now.x2apic }
         requires slot { slot < 512 }
         ensures tseg { result.tseg ≡ first_of_tseg p.now }
         ensures polls { result.polls ≡ p.now.polls }
@@ -111,7 +111,7 @@ impl Reloc {
 
     /// Another add begins, as after `new`.
     pub fn restart(&mut self, cpu: u32, apic: u32, slot: u32)
-        requires apic { apic ≤ greatest self.old.x2apic }
+        requires apic { apic ≤ greatest_id self.old.x2apic }
         requires slot { slot < 512 }
         ensures { self.new ≡ record self.old { add = add_of cpu apic slot; next = AddsAt NB (add_of cpu apic slot) } }
     {

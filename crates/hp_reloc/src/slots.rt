@@ -14,7 +14,7 @@ use std::marker::Model;
 /// The slots of one machine: its APIC IDs, and those that have a slot. A slot stays with its APIC ID for good.
 #[derive(Drop)]
 pub struct Slots {
-    /// The APIC IDs that have a slot, each at its slot's place. There is room for all possible ones.
+    /// The APIC IDs that have a slot, by slot. There is room for all possible ones.
     bound: Vec<u32>,
     /// Of each of them, whether it is a boot processor's or was added, and not ejected since. Room likewise.
     known: Vec<bool>,
@@ -37,26 +37,26 @@ impl Model for Slots {
     ghost invariant = { λ s. IsSound s.bound.items s.known.items s.possible.items (vec_capacity s.bound) (vec_capacity s.known) };
 }
 
-/// The place of an APIC ID among these.
+/// The index of an APIC ID among these: of those bound, its slot.
 #[tactic(auto, using(crate::proofs::Places::place_facts))]
-fn place_among(ids: &[u32], apic: u32) -> Option<u32>
+fn index_among(ids: &[u32], apic: u32) -> Option<u32>
     requires { length ids.now ≤ 512 }
     ensures { result ≡ (if is_in apic ids.now then Some (slot_among ids.now apic) else None) }
 {
-    for (place, id) in ids.iter().enumerate() {
+    for (index, id) in ids.iter().enumerate() {
         if *id == apic {
-            return Some(place as u32);
+            return Some(index as u32);
         }
     }
     None
 }
 
-/// The first place from `from` on where it is true.
+/// The first slot from `from` on that is known.
 #[tactic(auto, using(crate::proofs::Places::true_facts))]
 fn first_known(known: &[bool], from: u32) -> Option<u32>
     requires { length known.now ≤ 512 }
     ensures value { result ≡ first_true from (drop from known.now) }
-    ensures place { IfSome result (λ slot. slot < length known.now) }
+    ensures slot { IfSome result (λ slot. slot < length known.now) }
 {
     for slot in from as usize..known.len() {
         if known[slot] {
@@ -105,7 +105,7 @@ impl Slots {
     pub fn bound(&self, apic: u32) -> Option<u32>
         ensures { result ≡ slot_in self.now.slots apic }
     {
-        place_among(self.bound.as_slice(), apic)
+        index_among(self.bound.as_slice(), apic)
     }
 
     /// Whether this APIC ID is a boot processor's or was added, and not ejected since.
@@ -113,7 +113,7 @@ impl Slots {
     pub fn known(&self, apic: u32) -> bool
         ensures { result ≡ is_known self.now.slots apic }
     {
-        match place_among(self.bound.as_slice(), apic) {
+        match index_among(self.bound.as_slice(), apic) {
             Some(slot) => self.known[slot as usize],
             None => false,
         }
@@ -123,7 +123,7 @@ impl Slots {
     pub fn is_possible(&self, apic: u32) -> bool
         ensures { result ≡ is_in apic self.now.possible }
     {
-        place_among(self.possible.as_slice(), apic).is_some()
+        index_among(self.possible.as_slice(), apic).is_some()
     }
 
     /// The APIC ID of the possible processor in this place; none in a place past the last.
@@ -167,7 +167,7 @@ impl Slots {
         ensures slot { slot_in self.new.slots apic ≡ Some result }
     {
         self.held = Some(apic);
-        if let Some(slot) = place_among(self.bound.as_slice(), apic) {
+        if let Some(slot) = index_among(self.bound.as_slice(), apic) {
             return slot;
         }
         let slot = self.bound.len() as u32;
@@ -182,7 +182,7 @@ impl Slots {
         ensures { self.new ≡ record self.old { slots = completed apic self.old.slots } }
     {
         self.held = None;
-        if let Some(slot) = place_among(self.bound.as_slice(), apic) {
+        if let Some(slot) = index_among(self.bound.as_slice(), apic) {
             self.known[slot as usize] = true;
         }
     }
@@ -192,7 +192,7 @@ impl Slots {
     pub fn forget(&mut self, apic: u32)
         ensures { self.new ≡ record self.old { slots = forgotten apic self.old.slots } }
     {
-        if let Some(slot) = place_among(self.bound.as_slice(), apic) {
+        if let Some(slot) = index_among(self.bound.as_slice(), apic) {
             self.known[slot as usize] = false;
         }
     }

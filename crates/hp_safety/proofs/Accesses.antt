@@ -20,7 +20,9 @@ use Rattle.hp_model.specs.Memory.{Write, byte_at, value_from}
 use Rattle.hp_model.specs.View.{Locks, is_locked}
 use Rattle.hp_model.specs.Cpu.{moved, is_in_smm, address_in, smm_address}
 use Rattle.hp_model.specs.Boot.{is_handed, value_in}
-use Rattle.hp_model.specs.Labels.{Part, First, Relocated, Monarch as Monarchs, part_of, mark_of}
+use Rattle.hp_model.specs.declared.labels.Handler.{Handler}
+use Rattle.hp_model.specs.declared.labels.Handler.TheVariants.{First, Relocated, Monarch as Monarchs}
+use Rattle.hp_model.specs.Labels.{handler_of, mark_of}
 use Rattle.hp_model.specs.SharedBytes.{Layout, layout_of, tile_in, arrived_byte}
 use Rattle.hp_model.specs.Slots.{slot_among}
 use Rattle.hp_model.specs.Monarch.{Monarch, is_that}
@@ -66,14 +68,14 @@ watched_locked p l x sound locks g = elim (or_cases (first_by (tseg p) p.low_mem
 pub monarch_met : (p : Platform) (m : List Write) (s : State) → Invariant p m s → (need_of s.monarch.label ≡ Nothing → ⊥) → MonarchNeeds (facts_of p s.monarch s.writes (apic_of p 0) (at s 0).base) (need_of s.monarch.label)
 monarch_met p m s h busy = by_address (smm_address (at s 0)) refl (h.stand.each 0)
   where
-    by_part : (l : Label) (q : Part) → part_of l ≡ q → runs_at (layout_of p) q 0 (at s 0).smbase ≡ true → is_current s.monarch (part_of l) l ≡ true → Needs (facts_of p s.monarch s.writes (apic_of p 0) (at s 0).base) q (need_of l) → MonarchNeeds (facts_of p s.monarch s.writes (apic_of p 0) (at s 0).base) (need_of s.monarch.label)
-    by_part l First side runs due met = absurd cc
-    by_part l Relocated side runs due met = absurd cc
-    by_part l Monarchs side runs due met = subst (λ x. MonarchNeeds (facts_of p s.monarch s.writes (apic_of p 0) (at s 0).base) (need_of x)) (sym (current_label_is s.monarch l due side)) met
+    by_handler : (l : Label) (q : Handler) → handler_of l ≡ q → runs_at (layout_of p) q 0 (at s 0).smbase ≡ true → is_current s.monarch (handler_of l) l ≡ true → Needs (facts_of p s.monarch s.writes (apic_of p 0) (at s 0).base) q (need_of l) → MonarchNeeds (facts_of p s.monarch s.writes (apic_of p 0) (at s 0).base) (need_of s.monarch.label)
+    by_handler l First side runs due met = absurd cc
+    by_handler l Relocated side runs due met = absurd cc
+    by_handler l Monarchs side runs due met = subst (λ x. MonarchNeeds (facts_of p s.monarch s.writes (apic_of p 0) (at s 0).base) (need_of x)) (sym (current_label_is s.monarch l due side)) met
 
     by_address : (o : Option ℕ) → smm_address (at s 0) ≡ o → IsAtCell p s.monarch s.writes 0 (at s 0).smbase (at s 0).base o → MonarchNeeds (facts_of p s.monarch s.writes (apic_of p 0) (at s 0).base) (need_of s.monarch.label)
     by_address None e stands = absurd (busy (h.rests e))
-    by_address (Some a) e stands = by_part stands.0 (part_of stands.0) refl stands.1.runs stands.1.current stands.1.met
+    by_address (Some a) e stands = by_handler stands.0 (handler_of stands.0) refl stands.1.runs stands.1.current stands.1.met
 
 -- where it looks for an arrived byte
 pub looks_at : (p : Platform) (m : List Write) (s : State) → Invariant p m s → need_of s.monarch.label ≡ Looking → IsSlot (count_of p) s.monarch.add.slot × (is_adding s.monarch ≡ true)
@@ -106,7 +108,7 @@ keeps_outside p m s k a sound h =
     (h.settled (settled_still p s.monarch s.writes t.writes (λ n. left.arrivals s.monarch.add.slot (looked_small p m s sound h n)) (subst (λ r. is_settled p r t.writes ≡ true) does.monarch e)) j))
 
 -- the access of a row, and then where it leads
-current_next : (r : Monarch) (l : Label) (q : Part) → (q ≡ Monarchs → r.label ≡ l) → is_current r q l ≡ true
+current_next : (r : Monarch) (l : Label) (q : Handler) → (q ≡ Monarchs → r.label ≡ l) → is_current r q l ≡ true
 current_next r l First e = refl
 current_next r l Relocated e = refl
 current_next r l Monarchs e = rw (e refl) (same_mark (mark_of l))
@@ -114,12 +116,12 @@ current_next r l Monarchs e = rw (e refl) (same_mark (mark_of l))
     same_mark : (n : ℕ) → (n == n) ≡ true
     same_mark n = grind (arith, nat_tests)
 
-not_zero : (y : Layout) (q : Part) (k b j : ℕ) → q ≡ Monarchs → runs_at y q k b ≡ true → j ≢ k → j ≢ 0
+not_zero : (y : Layout) (q : Handler) (k b j : ℕ) → q ≡ Monarchs → runs_at y q k b ≡ true → j ≢ k → j ≢ 0
 not_zero y First k b j e runs other = absurd cc
 not_zero y Relocated k b j e runs other = absurd cc
 not_zero y Monarchs k b j e runs other = λ z. other (z ∙ sym (eqb-true k 0 (and_parts (k == 0) (b == tile_in y 0) runs).0))
 
-pub is_monarchs : (q : Part) → (q ≡ Monarchs) ⊎ (q ≢ Monarchs)
+pub is_monarchs : (q : Handler) → (q ≡ Monarchs) ⊎ (q ≢ Monarchs)
 is_monarchs First = inr (λ e. cc)
 is_monarchs Relocated = inr (λ e. cc)
 is_monarchs Monarchs = inl refl
@@ -198,7 +200,7 @@ alone p m s k l sound h here arriving j = by_past (is_past (smm_address (at s j)
         let held : r.slots.held ≡ Some r.add.apic = that_is r.slots.held r.add.apic adds.0 in
         let same_id : r.add.apic ≡ apic_of p j = same_Some r.add.apic (apic_of p j) (sym held ∙ up.held) in
         let slot : r.add.slot ≡ slot_among r.slots.bound (apic_of p j) = eqb-true r.add.slot (slot_among r.slots.bound r.add.apic) adds.1 ∙ ap (slot_among r.slots.bound) same_id in
-        let runs : runs_at (layout_of p) Relocated k b ≡ true = subst (λ x. runs_at (layout_of p) (part_of x) k b ≡ true) arriving.first here.cell.runs in
+        let runs : runs_at (layout_of p) Relocated k b ≡ true = subst (λ x. runs_at (layout_of p) (handler_of x) k b ≡ true) arriving.first here.cell.runs in
         let tiled = slot_of p b (and_parts (not (k == 0)) (is_other_tile (layout_of p) b) runs).1 in
         let there = smm_present (at s k) here.address here.is in
         let here_too = smm_present (at s j) up.address up.is in
@@ -225,8 +227,8 @@ keeps_led p m s u k l n sound h here writes stays does leads =
     let to : Cpu = moved (address_of_label b n.label) n.base (at u k) in
     let goes : moved_in_smm b n (at u k) ≡ to = rw (smm_stands (at u k) here.address address) refl in
     let lands : smm_address to ≡ Some (address_of_label b n.label) = rw present refl in
-    let runs : runs_at y (part_of n.label) k b ≡ true = rw leads.side here.cell.runs in
-    let stands : IsAtCell p n.monarch u.writes k b n.base (Some (address_of_label b n.label)) = (n.label, record { runs = runs; current = current_next n.monarch n.label (part_of n.label) (λ e. leads.current (sym leads.side ∙ e)); here = refl; met = leads.met }) in
+    let runs : runs_at y (handler_of n.label) k b ≡ true = rw leads.side here.cell.runs in
+    let stands : IsAtCell p n.monarch u.writes k b n.base (Some (address_of_label b n.label)) = (n.label, record { runs = runs; current = current_next n.monarch n.label (handler_of n.label) (λ e. leads.current (sym leads.side ∙ e)); here = refl; met = leads.met }) in
     let saves : Saves u.writes (at u k).smbase (Some here.address) = subst (Saves u.writes (at u k).smbase) address (each k).saves in
     let sits : CpuParts p n.monarch u.writes k to =
     subst (λ o. CpuPartsBy p n.monarch u.writes k (at u k).present (at u k).smbase n.base o) (sym lands)
@@ -245,8 +247,8 @@ keeps_led p m s u k l n sound h here writes stays does leads =
     gathered p m t (ap is_handed does.stage ∙ h.handed)
     (record { marks = h.locked.marks; registers = does.locks h.locked.registers; kept = λ x g. left_then x m s.writes u.writes (h.locked.kept x g) (writes.cells x (kept_guarded p x g)) })
     (set_all (CpuParts p n.monarch u.writes) u.cpus k (moved_in_smm b n (at u k)) (cpu_parts_absent p n.monarch u.writes k) (subst (CpuParts p n.monarch u.writes k) (sym goes) sits)
-    (λ j other. elim (is_monarchs (part_of l)) [
-      | inl e ↦ cpu_parts_other p s.monarch n.monarch u.writes j (at u j) sound h.holding leads.follows.grows (not_zero y (part_of l) k b j e here.cell.runs other)
+    (λ j other. elim (is_monarchs (handler_of l)) [
+      | inl e ↦ cpu_parts_other p s.monarch n.monarch u.writes j (at u j) sound h.holding leads.follows.grows (not_zero y (handler_of l) k b j e here.cell.runs other)
           (elim leads.follows.holds [ inl was ↦ inl (past_calm (at s j) (at u j) (does.cpus j) (h.settled was j)) | inr holds ↦ inr holds ]) (each j)
       | inr apart ↦ subst (λ r. CpuParts p r u.writes j (at u j)) (sym (leads.others apart)) (each j)
     ]))
@@ -254,7 +256,7 @@ keeps_led p m s u k l n sound h here writes stays does leads =
     leads.gated
     (set_all (λ j c. j ≡ 0 → c.present ≡ true → smm_address c ≡ None → need_of n.monarch.label ≡ Nothing) u.cpus k (moved_in_smm b n (at u k)) (λ i e f. absurd cc)
     (λ i e f. absurd (let g : Some (address_of_label b n.label) ≡ None = sym (ap smm_address goes ∙ lands) ∙ f in cc))
-    (λ j other i e f. ap (λ (r : Monarch). need_of r.label) (leads.others (λ mine. not_zero y (part_of l) k b j mine here.cell.runs other i))
+    (λ j other i e f. ap (λ (r : Monarch). need_of r.label) (leads.others (λ mine. not_zero y (handler_of l) k b j mine here.cell.runs other i))
     ∙ h.rests (sym does.first.address ∙ subst (λ x. smm_address (at u x) ≡ None) i f)) 0 refl first)
     (leads.follows.small, leads.follows.placed)
     leads.follows.holding
@@ -272,7 +274,7 @@ keeps_led p m s u k l n sound h here writes stays does leads =
 
 -- the slot of whoever stands at a row is small
 pub slot_small : (p : Platform) (s : State) (k : ℕ) (l : Label) → Sound p → AtRow p s k l → (seat p s k).slot ≤ 512
-slot_small p s k l sound here = by_part (part_of l) here.cell.runs
+slot_small p s k l sound here = by_handler (handler_of l) here.cell.runs
   where
     b : ℕ
     b = (at s k).smbase
@@ -283,14 +285,14 @@ slot_small p s k l sound here = by_part (part_of l) here.cell.runs
     at_first : (base b : ℕ) → b ≡ base + 0x20000 + 0 → (b - (base + 0x20000 + 0)) / 0x10000 ≤ 512
     at_first base b e = omega (arith, e)
 
-    by_part : (q : Part) → runs_at (layout_of p) q k b ≡ true → slot_at (layout_of p) b ≤ 512
-    by_part First e = at_default (tseg p) b sound.above (eqb-true b 0x30000 (and_parts (not (k == 0)) (b == 0x30000) e).1)
-    by_part Relocated e =
+    by_handler : (q : Handler) → runs_at (layout_of p) q k b ≡ true → slot_at (layout_of p) b ≤ 512
+    by_handler First e = at_default (tseg p) b sound.above (eqb-true b 0x30000 (and_parts (not (k == 0)) (b == 0x30000) e).1)
+    by_handler Relocated e =
         let tiled = (and_parts (not (slot_at (layout_of p) b == 0)) (is_tile (layout_of p) b) (and_parts (not (k == 0)) (is_other_tile (layout_of p) b) e).1).1 in
         let less = ltb-true (slot_at (layout_of p) b) (count_of p) (and_parts (nat_lt (slot_at (layout_of p) b) (count_of p)) (b == tile p (slot_at (layout_of p) b)) tiled).0 in
         let few = sound.few in
         omega (arith, less, few)
-    by_part Monarchs e = at_first (tseg p) b (eqb-true b (tile p 0) (and_parts (k == 0) (b == tile p 0) e).1)
+    by_handler Monarchs e = at_first (tseg p) b (eqb-true b (tile p 0) (and_parts (k == 0) (b == tile p 0) e).1)
 
 -- a row's access, made
 keeps_made : (p : Platform) (m : List Write) (s : State) (k : ℕ) (a : Access) (l : Label) (w : Option Want) → Sound p → Invariant p m s → AtRow p s k l → WritesOf p s.monarch.slots k s w → Spares p k s w → LeadsOn p k s (seat p s k) s.monarch l w → is_that_access w a ≡ true → Invariant p m (row_effect p s k (answer_to true a s) (Some l) (access_effect p k true a s))

@@ -21,7 +21,9 @@ use Rattle.hp_model.specs.Platform.{tile, apic_of}
 use Rattle.hp_model.specs.Memory.{Write}
 use Rattle.hp_model.specs.Cpu.{is_in_smm, smm_address, address_in, is_outside, may_take_smi, may_take_init}
 use Rattle.hp_model.specs.Boot.{Stage, Boots, Refused, Handed, is_handed, value_in}
-use Rattle.hp_model.specs.Labels.{Part, First, Relocated, Monarch as Monarchs, part_of, index_of}
+use Rattle.hp_model.specs.declared.labels.Handler.{Handler}
+use Rattle.hp_model.specs.declared.labels.Handler.TheVariants.{First, Relocated, Monarch as Monarchs}
+use Rattle.hp_model.specs.Labels.{handler_of, index_of}
 use Rattle.hp_model.specs.SharedBytes.{layout_of, gate}
 use Rattle.hp_model.specs.Slots.{slot_among}
 use Rattle.hp_model.specs.Monarch.{Monarch, restarted, is_that}
@@ -129,7 +131,7 @@ module _ (p : Platform) (m : List Write) (s : State) (k : ℕ) (l : Label) (soun
   stands : e.at ≡ Some (address_of_label (at s k).smbase l)
   stands = sym place ∙ (here.is ∙ ap Some here.cell.here)
 
-  none_other : part_of l ≢ Monarchs → AtNone p e
+  none_other : handler_of l ≢ Monarchs → AtNone p e
   none_other other = record {
     n7 = at_other p l N7 e k (at s k).smbase sound here.cell.runs other stands refl;
     c3 = at_other p l C3 e k (at s k).smbase sound here.cell.runs other stands refl;
@@ -137,27 +139,27 @@ module _ (p : Platform) (m : List Write) (s : State) (k : ℕ) (l : Label) (soun
     c6 = at_other p l C6 e k (at s k).smbase sound here.cell.runs other stands refl;
   }
 
-  base : part_of l ≡ Monarchs → (k ≡ 0) × ((at s k).smbase ≡ tile p 0)
+  base : handler_of l ≡ Monarchs → (k ≡ 0) × ((at s k).smbase ≡ tile p 0)
   base mine =
       let parts = and_parts (k == 0) ((at s k).smbase == tile p 0) (subst (λ q. runs_at (layout_of p) q k (at s k).smbase ≡ true) mine here.cell.runs) in
       (eqb-true k 0 parts.0, eqb-true (at s k).smbase (tile p 0) parts.1)
 
-  row_bound : (B : List ℕ) (apic : ℕ) → part_of l ≡ Monarchs → (l ≡ N7 → stored_in e.event ≡ Some apic) → bound_more p B e ≡ bound_after l apic B
+  row_bound : (B : List ℕ) (apic : ℕ) → handler_of l ≡ Monarchs → (l ≡ N7 → stored_in e.event ≡ Some apic) → bound_more p B e ≡ bound_after l apic B
   row_bound B apic mine stored = rw (at_monarch p l N7 e (at s k).smbase (base mine).1 stands refl) (by_seven (index_of l == 19) refl)
     where
       by_seven : (c : Bool) → (index_of l == 19) ≡ c → with_bound (if c then stored_in e.event else None) B ≡ (if c then with_bound (Some apic) B else B)
       by_seven true f = ap (λ o. with_bound o B) (stored (same_index l N7 mine (eqb-true (index_of l) 19 f)))
       by_seven false f = refl
 
-  row_session : (S : Session) (v : ℕ) → part_of l ≡ Monarchs → bounds_session e ≡ false → value_in e.answer ≡ v → session_more p S e ≡ session_after l v S
+  row_session : (S : Session) (v : ℕ) → handler_of l ≡ Monarchs → bounds_session e ≡ false → value_in e.answer ≡ v → session_more p S e ≡ session_after l v S
   row_session S v mine bounds answer =
       let c3 = at_monarch p l C3 e (at s k).smbase (base mine).1 stands refl in
       let c4 = at_monarch p l C4 e (at s k).smbase (base mine).1 stands refl in
       let c6 = at_monarch p l C6 e (at s k).smbase (base mine).1 stands refl in
       rw (bounds, c3, c4, c6, answer) refl
 
-  row_tied : (B : List ℕ) (S : Session) (v : ℕ) (n : Next) → n ≡ next_at (layout_of p) (seat p s k) s.monarch l v → (part_of l ≢ Monarchs → n.monarch ≡ s.monarch) → (l ≡ N7 → stored_in e.event ≡ Some s.monarch.add.apic) → bounds_session e ≡ false → value_in e.answer ≡ v → Tied B S s.monarch → Tied (bound_more p B e) (session_more p S e) n.monarch
-  row_tied B S v n is others stored bounds answer tied = elim (is_monarchs (part_of l)) [
+  row_tied : (B : List ℕ) (S : Session) (v : ℕ) (n : Next) → n ≡ next_at (layout_of p) (seat p s k) s.monarch l v → (handler_of l ≢ Monarchs → n.monarch ≡ s.monarch) → (l ≡ N7 → stored_in e.event ≡ Some s.monarch.add.apic) → bounds_session e ≡ false → value_in e.answer ≡ v → Tied B S s.monarch → Tied (bound_more p B e) (session_more p S e) n.monarch
+  row_tied B S v n is others stored bounds answer tied = elim (is_monarchs (handler_of l)) [
     | inl mine ↦
         let r = s.monarch in
         let label = current_label_is r l here.cell.current mine in
@@ -191,12 +193,12 @@ module _ (p : Platform) (m : List Write) (s : State) (k : ℕ) (l : Label) (soun
   tied_told B S o (Some want.Resume) event answer is leads f tied = absurd cc
 
   tied_rsm : (B : List ℕ) (S : Session) → e.event ≡ Resume k → is_rsm (want_at (layout_of p) (seat p s k) s.monarch l) ≡ true → Tied B S s.monarch → Tied (bound_more p B e) (session_more p S e) s.monarch
-  tied_rsm B S event wanted tied = elim (is_monarchs (part_of l)) [
+  tied_rsm B S event wanted tied = elim (is_monarchs (handler_of l)) [
     | inl mine ↦ first mine (row_returns p (seat p s k) s.monarch s.writes l here.cell.met wanted)
-    | inr other ↦ still p B S s.monarch e (none_other other) (ap bounds event ∙ not_first (part_of l) other here.cell.runs) tied
+    | inr other ↦ still p B S s.monarch e (none_other other) (ap bounds event ∙ not_first (handler_of l) other here.cell.runs) tied
   ]
     where
-      not_first : (q : Part) → q ≢ Monarchs → runs_at (layout_of p) q k (at s k).smbase ≡ true → (k == 0) ≡ false
+      not_first : (q : Handler) → q ≢ Monarchs → runs_at (layout_of p) q k (at s k).smbase ≡ true → (k == 0) ≡ false
       not_first First n runs = off (k == 0) (and_parts (not (k == 0)) ((at s k).smbase == 0x30000) runs).0
         where
           off : (c : Bool) → not c ≡ true → c ≡ false
@@ -209,7 +211,7 @@ module _ (p : Platform) (m : List Write) (s : State) (k : ℕ) (l : Label) (soun
           off false f = refl
       not_first Monarchs n runs = absurd (n refl)
 
-      first : part_of l ≡ Monarchs → Returns l → Tied (bound_more p B e) (session_more p S e) s.monarch
+      first : handler_of l ≡ Monarchs → Returns l → Tied (bound_more p B e) (session_more p S e) s.monarch
       first mine (inl up) = absurd (let both = sym mine ∙ aloft_first l (ap is_aloft up) in cc)
       first mine (inr n) =
           let label = current_label_is s.monarch l here.cell.current mine in

@@ -6,7 +6,9 @@ use Rattle.hp_model.specs.declared.platforms.Platform.{Platform}
 use Rattle.hp_model.specs.declared.labels.Label.{Label}
 use Rattle.hp_model.specs.declared.labels.Label.TheVariants.{F1}
 use Rattle.hp_model.specs.Platform.{tseg, tile}
-use Rattle.hp_model.specs.Labels.{Part, First, Relocated, Monarch, part_of, index_of}
+use Rattle.hp_model.specs.declared.labels.Handler.{Handler}
+use Rattle.hp_model.specs.declared.labels.Handler.TheVariants.{First, Relocated, Monarch}
+use Rattle.hp_model.specs.Labels.{handler_of, index_of}
 use Rattle.hp_model.specs.SharedBytes.{layout_of}
 use Rattle.hp_model.specs.Handlers.{runs_at, address_of_label}
 use Rattle.hp_sealed.specs.Left.{Sound}
@@ -16,23 +18,23 @@ use Rattle.hp_sealed.proofs.Places.{slot_of}
 use Rattle.hp_safety.proofs.Needs.{need_of, is_aloft}
 use Rattle.hp_safety.proofs.Invariant.{is_past}
 
-abbrev is_first : Part → Bool
+abbrev is_first : Handler → Bool
 is_first First = true
 is_first Relocated = false
 is_first Monarch = false
 
 -- at the first handler's labels but for the first of them
-aloft_by : (l : Label) → is_aloft (need_of l) ≡ (is_first (part_of l) && nat_lt 0 (index_of l))
+aloft_by : (l : Label) → is_aloft (need_of l) ≡ (is_first (handler_of l) && nat_lt 0 (index_of l))
 aloft_by F1 = refl
 aloft_by _ = refl
 
-pub aloft_first : (l : Label) → is_aloft (need_of l) ≡ true → part_of l ≡ First
-aloft_first l e = by_part (part_of l) (sym (aloft_by l) ∙ e)
+pub aloft_first : (l : Label) → is_aloft (need_of l) ≡ true → handler_of l ≡ First
+aloft_first l e = by_handler (handler_of l) (sym (aloft_by l) ∙ e)
   where
-    by_part : (q : Part) → (is_first q && nat_lt 0 (index_of l)) ≡ true → q ≡ First
-    by_part First f = refl
-    by_part Relocated f = absurd cc
-    by_part Monarch f = absurd cc
+    by_handler : (q : Handler) → (is_first q && nat_lt 0 (index_of l)) ≡ true → q ≡ First
+    by_handler First f = refl
+    by_handler Relocated f = absurd cc
+    by_handler Monarch f = absurd cc
 
 past_first : (b i : ℕ) → b ≡ 0x30000 → i ≤ 5 → is_past (Some (b + 0x8000 + 4 * i)) ≡ nat_lt 0 i
 past_first b i e small = by_some (nat_lt 0 i) refl
@@ -45,15 +47,15 @@ past_tile : (base b i : ℕ) → 0x800000 ≤ base → base ≤ b → is_past (S
 past_tile base b i above low = grind (arith, nat_tests)
 
 -- whoever is at a label's cell is past the gate where the label is
-pub aloft_past : (p : Platform) (k b : ℕ) (l : Label) → Sound p → runs_at (layout_of p) (part_of l) k b ≡ true → is_past (Some (address_of_label b l)) ≡ is_aloft (need_of l)
-aloft_past p k b l sound runs = by_part (part_of l) refl runs ∙ sym (aloft_by l)
+pub aloft_past : (p : Platform) (k b : ℕ) (l : Label) → Sound p → runs_at (layout_of p) (handler_of l) k b ≡ true → is_past (Some (address_of_label b l)) ≡ is_aloft (need_of l)
+aloft_past p k b l sound runs = by_handler (handler_of l) refl runs ∙ sym (aloft_by l)
   where
-    by_part : (q : Part) → part_of l ≡ q → runs_at (layout_of p) q k b ≡ true → is_past (Some (b + 0x8000 + 4 * index_of l)) ≡ (is_first q && nat_lt 0 (index_of l))
-    by_part First side e = past_first b (index_of l) (eqb-true b 0x30000 (and_parts (not (k == 0)) (b == 0x30000) e).1) (index_first l side)
-    by_part Relocated side e =
+    by_handler : (q : Handler) → handler_of l ≡ q → runs_at (layout_of p) q k b ≡ true → is_past (Some (b + 0x8000 + 4 * index_of l)) ≡ (is_first q && nat_lt 0 (index_of l))
+    by_handler First side e = past_first b (index_of l) (eqb-true b 0x30000 (and_parts (not (k == 0)) (b == 0x30000) e).1) (index_first l side)
+    by_handler Relocated side e =
         let t = slot_of p b (and_parts (not (k == 0)) (is_other_tile (layout_of p) b) e).1 in
         let is = t.is in
         past_tile (tseg p) b (index_of l) sound.above (omega (arith, is))
-    by_part Monarch side e =
+    by_handler Monarch side e =
         let is = eqb-true b (tile p 0) (and_parts (k == 0) (b == tile p 0) e).1 in
         past_tile (tseg p) b (index_of l) sound.above (omega (arith, is))

@@ -4,13 +4,17 @@ use Rattle.std.proofs.Common.{ℕ, ◌≡◌, ◌+◌, ◌-◌, ◌==◌, Bool, 
 use Rattle.hp_model.specs.declared.outcomes.Outcome.{Outcome}
 use Rattle.hp_model.specs.declared.labels.Label.{Label}
 use Rattle.hp_model.specs.declared.labels.Label.TheVariants.{F1, F2, F3, F4, F5, F6, R1, R2, R3, R4, R5, R6, S0, S1, S2, S3, S4, C1, C2, C3, C4, C5, C6, NB, N0, N1, N2, N3, N4, N5, N6, N7, N8a, N8b, N9, N10, N11, E0, E1, E2, E3, E4a, E4b, E4c, E4d, E4e, E4f, E4g, E4h, T, E5, E6, E7}
-use Rattle.hp_model.specs.Labels.{Monarch as Monarchs, part_of, index_of}
+use Rattle.hp_model.specs.declared.labels.Handler.TheVariants.{Monarch as Monarchs}
+use Rattle.hp_model.specs.Labels.{handler_of, index_of}
 use Rattle.hp_model.specs.SharedBytes.{Layout}
 use Rattle.hp_model.specs.Slots.{known_from}
-use Rattle.hp_model.specs.Collection.{Report, Collection, CollectsAt, CollectEnds, next_processor, found, judged, reported, collection_start}
+use Rattle.hp_model.specs.declared.reports.Report.{Report}
+use Rattle.hp_model.specs.Collection.{Collection, CollectsAt, CollectEnds, next_processor, found, judged, reported, collection_start}
 use Rattle.hp_model.specs.Add.{Add, AddsAt, Ends, failed, looks, is_last_look, saw_flag, saw_pair, shut, saw_arrival}
 use Rattle.hp_model.specs.Eject.{Eject, EjectsAt, awaits, saw_parked, handed_to_block, saw_status}
-use Rattle.hp_model.specs.Monarch.{Monarch, at_label, first_slot, next_slot, look_at, looked, noted, commanded, Decision, ToTell, ToAdd, ToEject, decision, facts_of as facts_by, took, answered, taken_up, next_report, after_collection, after_add, after_eject, after_tell}
+use Rattle.hp_model.specs.declared.reports.Decision.{Decision}
+use Rattle.hp_model.specs.declared.reports.Decision.TheVariants.{Tell as ToTell, Add as ToAdd, Eject as ToEject}
+use Rattle.hp_model.specs.Monarch.{Monarch, at_label, first_slot, next_slot, look_at, looked, noted, commanded, decision, facts_of as facts_by, took, answered, taken_up, next_report, after_collection, after_add, after_eject, after_tell}
 use Rattle.hp_model.specs.Handlers.{Seat, next_at}
 use Rattle.hp_model.specs.Step.{is_after_broadcast}
 use Rattle.hp_sealed.proofs.Left.{pick}
@@ -150,8 +154,8 @@ calls_handed late r = pick (λ l. IsAt Called (at_label l r)) late E4f E4c refl 
 abbrev pub stage_after_row : Label → Call → Call
 stage_after_row l x = if index_of l == 2 then Called else if index_of l == 35 then Past else x
 
-pub row_calls : (y : Layout) (q : Seat) (r : Monarch) (v : ℕ) (f : Facts) (l : Label) → part_of l ≡ Monarchs → (part_of l ≡ Monarchs → r.label ≡ l) → Needs f (part_of l) (need_of l) → stage_of (next_at y q r l v).monarch.label ≡ stage_after_row l (stage_of l)
-row_calls y q r v f l mine is met = row_of_each (λ l. part_of l ≡ Monarchs → (part_of l ≡ Monarchs → r.label ≡ l) → stage_of (next_at y q r l v).monarch.label ≡ stage_after_row l (stage_of l)) (record {
+pub row_calls : (y : Layout) (q : Seat) (r : Monarch) (v : ℕ) (f : Facts) (l : Label) → handler_of l ≡ Monarchs → (handler_of l ≡ Monarchs → r.label ≡ l) → Needs f (handler_of l) (need_of l) → stage_of (next_at y q r l v).monarch.label ≡ stage_after_row l (stage_of l)
+row_calls y q r v f l mine is met = row_of_each (λ l. handler_of l ≡ Monarchs → (handler_of l ≡ Monarchs → r.label ≡ l) → stage_of (next_at y q r l v).monarch.label ≡ stage_after_row l (stage_of l)) (record {
   f1 = λ g e. absurd cc;
   f2 = λ g e. absurd cc;
   f3 = λ g e. absurd cc;

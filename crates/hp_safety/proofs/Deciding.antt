@@ -6,13 +6,17 @@ use Rattle.hp_model.specs.declared.outcomes.Outcome.TheVariants as outcome
 use Rattle.hp_model.specs.declared.outcomes.Refusal.TheVariants.{NotAtGate, NotCheckedIn, NotParked, StillPending}
 use Rattle.hp_model.specs.declared.labels.Label.{Label}
 use Rattle.hp_model.specs.declared.labels.Label.TheVariants.{S1, S2, S3, C1, C3, C4, C5, C6, NB, N0, N1, N2, N3, N4, N5, N6, N7, N8a, N8b, N9, N10, N11, E0, E1, E2, E3, E4a, E4b, E4c, E4d, E4e, E4f, E4g, E4h, T, E5, E6, E7}
-use Rattle.hp_model.specs.Labels.{Monarch as Monarchs, part_of, index_of}
+use Rattle.hp_model.specs.declared.labels.Handler.TheVariants.{Monarch as Monarchs}
+use Rattle.hp_model.specs.Labels.{handler_of, index_of}
 use Rattle.hp_model.specs.SharedBytes.{Layout}
 use Rattle.hp_model.specs.Slots.{known_from}
-use Rattle.hp_model.specs.Collection.{Report, Collection, CollectsAt, CollectEnds, next_processor, found, judged, reported, collection_start}
+use Rattle.hp_model.specs.declared.reports.Report.{Report}
+use Rattle.hp_model.specs.Collection.{Collection, CollectsAt, CollectEnds, next_processor, found, judged, reported, collection_start}
 use Rattle.hp_model.specs.Add.{AddsAt, Ends, failed, looks, is_last_look, saw_flag, saw_pair, shut, saw_arrival}
 use Rattle.hp_model.specs.Eject.{EjectsAt, EjectEnds, awaits, saw_parked, handed_to_block, saw_status}
-use Rattle.hp_model.specs.Monarch.{Monarch, at_label, first_slot, next_slot, look_at, looked, noted, commanded, Decision, ToTell, ToAdd, ToEject, decision, facts_of as facts_by, took, answered, taken_up, next_report, after_collection, after_add, after_eject}
+use Rattle.hp_model.specs.declared.reports.Decision.{Decision}
+use Rattle.hp_model.specs.declared.reports.Decision.TheVariants.{Tell as ToTell, Add as ToAdd, Eject as ToEject}
+use Rattle.hp_model.specs.Monarch.{Monarch, at_label, first_slot, next_slot, look_at, looked, noted, commanded, decision, facts_of as facts_by, took, answered, taken_up, next_report, after_collection, after_add, after_eject}
 use Rattle.hp_model.specs.Handlers.{Seat, next_at}
 use Rattle.hp_model.specs.Outcomes.{ends_add, ends_eject}
 use Rattle.hp_sealed.proofs.Left.{pick}
@@ -124,10 +128,10 @@ abbrev RowAt : Decision → Option Report → Monarch → Monarch → Bool → T
 RowAt c o r n true = Unit {0}
 RowAt c o r n false = Decided c o n
 
-pub row_decision : (c : Decision) (o : Option Report) (y : Layout) (q : Seat) (r : Monarch) (v : ℕ) (f : Facts) (l : Label) → part_of l ≡ Monarchs → (part_of l ≡ Monarchs → r.label ≡ l) → Needs f (part_of l) (need_of l) → DecisionAt c o r (turn_of l) → takes_up l ≡ false → Decided c o (next_at y q r l v).monarch
+pub row_decision : (c : Decision) (o : Option Report) (y : Layout) (q : Seat) (r : Monarch) (v : ℕ) (f : Facts) (l : Label) → handler_of l ≡ Monarchs → (handler_of l ≡ Monarchs → r.label ≡ l) → Needs f (handler_of l) (need_of l) → DecisionAt c o r (turn_of l) → takes_up l ≡ false → Decided c o (next_at y q r l v).monarch
 row_decision c o y q r v f l mine is met h not =
     subst (RowAt c o r (next_at y q r l v).monarch) not
-    (row_of_each (λ l. part_of l ≡ Monarchs → (part_of l ≡ Monarchs → r.label ≡ l) → DecisionAt c o r (turn_of l) → RowAt c o r (next_at y q r l v).monarch (takes_up l)) (record {
+    (row_of_each (λ l. handler_of l ≡ Monarchs → (handler_of l ≡ Monarchs → r.label ≡ l) → DecisionAt c o r (turn_of l) → RowAt c o r (next_at y q r l v).monarch (takes_up l)) (record {
       f1 = λ g e h. absurd cc;
       f2 = λ g e h. absurd cc;
       f3 = λ g e h. absurd cc;

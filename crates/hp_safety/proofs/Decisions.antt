@@ -1,7 +1,9 @@
 -- The decision on the report that is being answered is the one by which the record acts.
 use Rattle.std.proofs.Common.{ℕ, ◌≡◌, true, Option, Some}
-use Rattle.hp_model.specs.Collection.{Report}
-use Rattle.hp_model.specs.Monarch.{Monarch, Decision, ToAdd, ToEject}
+use Rattle.hp_model.specs.declared.reports.Report.{Report}
+use Rattle.hp_model.specs.declared.reports.Decision.{Decision}
+use Rattle.hp_model.specs.declared.reports.Decision.TheVariants.{Add as ToAdd, Eject as ToEject}
+use Rattle.hp_model.specs.Monarch.{Monarch}
 use Rattle.hp_model.specs.Outcomes.{answers_by}
 use Rattle.hp_safety.proofs.Tallies.{Turn, Waiting, Collecting, Beginning, Running, Parting, Telling, Ending, Over, turn_of}
 

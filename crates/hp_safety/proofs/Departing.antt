@@ -20,7 +20,8 @@ use Rattle.hp_model.specs.Interrupts.{decoded, smi_raised}
 use Rattle.hp_model.specs.Ich9.{raises_smi}
 use Rattle.hp_model.specs.FwCfg.{selected, advanced, with_high, has_broadcast}
 use Rattle.hp_model.specs.Boot.{Stage, Boots, Refused, Handed, is_handed, boot_access, value_in}
-use Rattle.hp_model.specs.Labels.{Monarch as Monarchs, part_of, index_of, mark_of, same_label}
+use Rattle.hp_model.specs.declared.labels.Handler.TheVariants.{Monarch as Monarchs}
+use Rattle.hp_model.specs.Labels.{handler_of, index_of, mark_of, same_label}
 use Rattle.hp_model.specs.SharedBytes.{layout_of}
 use Rattle.hp_model.specs.SaveArea.{saved_smbase, saved_rip}
 use Rattle.hp_model.specs.Monarch.{Monarch, restarted}
@@ -186,7 +187,7 @@ departs_row p m s k l e a (Some (want.Do b)) sound h here place is f = by_label 
     by_label : (c : Bool) → same_label l E4b ≡ c → Departs p s e (row_effect p s k (answer_to true a s) (Some l) (access_effect p k true a s))
     by_label true same =
         let label : l ≡ E4b = label_same l E4b (eqb-true (mark_of l) (mark_of E4b) same) in
-        let mine : part_of l ≡ Monarchs = ap part_of label in
+        let mine : handler_of l ≡ Monarchs = ap handler_of label in
         let base = eqb-true (at s k).smbase (tile p 0) (and_parts (k == 0) ((at s k).smbase == tile p 0) (subst (λ q. runs_at (layout_of p) q k (at s k).smbase ≡ true) mine here.cell.runs)).1 in
         let there : is_at p E4b e ≡ true = at_monarch p l E4b e (at s k).smbase base (sym place ∙ (here.is ∙ ap Some here.cell.here)) refl ∙ ap (λ x. index_of x == 30) label in
         inr (rw there refl)

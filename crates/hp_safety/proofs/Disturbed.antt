@@ -19,7 +19,8 @@ use Rattle.hp_model.specs.declared.entries.Entry.{Entry}
 use Rattle.hp_model.specs.Platform.{tile, apic_of, is_late}
 use Rattle.hp_model.specs.Cpu.{is_running, is_unlatched, is_in_smm, address_in, smm_address}
 use Rattle.hp_model.specs.Boot.{value_in}
-use Rattle.hp_model.specs.Labels.{Monarch as Monarchs, part_of, index_of, same_label}
+use Rattle.hp_model.specs.declared.labels.Handler.TheVariants.{Monarch as Monarchs}
+use Rattle.hp_model.specs.Labels.{handler_of, index_of, same_label}
 use Rattle.hp_model.specs.SharedBytes.{layout_of}
 use Rattle.hp_model.specs.Monarch.{Monarch}
 use Rattle.hp_model.specs.Handlers.{want_at, next_at, address_of_label}
@@ -142,7 +143,7 @@ flag_others p s e (Resume k) event place may out = never (is_outside e.at) (s.di
 flag_others p s e (Tell o) event place may out = never (is_outside e.at) (s.disturbed || is_after_broadcast s.monarch.label) s.disturbed
 
 -- a row of the monarch's, of which S2 begins anew
-mark_same : (l : Label) → part_of l ≡ Monarchs → same_label l S2 ≡ (index_of l == 2)
+mark_same : (l : Label) → handler_of l ≡ Monarchs → same_label l S2 ≡ (index_of l == 2)
 mark_same l mine = rw mine (plain (index_of l))
   where
     plain : (i : ℕ) → (0x53000021 + i == 0x53000023) ≡ (i == 2)
@@ -155,7 +156,7 @@ mark_same l mine = rw mine (plain (index_of l))
 smm_mode : (c : Cpu) (x : ℕ) → smm_address c ≡ Some x → is_in_smm c.mode ≡ true
 smm_mode c x is = (and_parts c.present (is_in_smm c.mode) (smm_stands c x is)).1
 
-flag_row : (s : State) (l : Label) (x : ℕ) (w : Option Want) (v : Event) → part_of l ≡ Monarchs → s.monarch.label ≡ l → smm_address (at s 0) ≡ Some x → IsWanted w v → (index_of l == 2) ≡ false → is_disturbed_by s v ≡ s.disturbed
+flag_row : (s : State) (l : Label) (x : ℕ) (w : Option Want) (v : Event) → handler_of l ≡ Monarchs → s.monarch.label ≡ l → smm_address (at s 0) ≡ Some x → IsWanted w v → (index_of l == 2) ≡ false → is_disturbed_by s v ≡ s.disturbed
 flag_row s l x None v mine here there is not = absurd is
 flag_row s l x (Some (want.Do a)) v mine here there is not =
     ap (is_disturbed_by s) is ∙ rw (smm_mode (at s 0) x there, here, mark_same l mine, not) refl

@@ -1,7 +1,7 @@
 -- A fact of each row, one field a label.
 use Rattle.hp_model.specs.declared.labels.Label.{Label}
 use Rattle.hp_model.specs.declared.labels.Label.TheVariants.{F1, F2, F3, F4, F5, F6, R1, R2, R3, R4, R5, R6, S0, S1, S2, S3, S4, C1, C2, C3, C4, C5, C6, NB, N0, N1, N2, N3, N4, N5, N6, N7, N8a, N8b, N9, N10, N11, E0, E1, E2, E3, E4a, E4b, E4c, E4d, E4e, E4f, E4g, E4h, T, E5, E6, E7}
-use Rattle.hp_model.specs.Labels.{part_of}
+use Rattle.hp_model.specs.Labels.{handler_of}
 use Rattle.hp_safety.proofs.Needs.{need_of, Facts, Needs}
 
 pub record EachRow (P : Label → Type 0) : Type 0 where
@@ -59,7 +59,7 @@ pub record EachRow (P : Label → Type 0) : Type 0 where
   pub e6 : P E6
   pub e7 : P E7
 
-pub row_of_each : (P : Label → Type 0) → EachRow P → (f : Facts) (l : Label) → Needs f (part_of l) (need_of l) → P l
+pub row_of_each : (P : Label → Type 0) → EachRow P → (f : Facts) (l : Label) → Needs f (handler_of l) (need_of l) → P l
 row_of_each P h f F1 is = h.f1
 row_of_each P h f F2 is = h.f2
 row_of_each P h f F3 is = h.f3

@@ -19,7 +19,9 @@ use Rattle.hp_model.specs.Ich9.{with_event, processor_event}
 use Rattle.hp_model.specs.Cpu.{smm_address, inserted, take_init, resumed, is_in_smm, is_outside, may_take_init, address_in}
 use Rattle.hp_model.specs.Boot.{Stage, Boots, Refused, Handed, is_handed, stage_after}
 use Rattle.hp_model.specs.SaveArea.{smbase_field, saved_smbase, saved_rip}
-use Rattle.hp_model.specs.Labels.{Part, First, Relocated, Monarch as Monarchs, part_of}
+use Rattle.hp_model.specs.declared.labels.Handler.{Handler}
+use Rattle.hp_model.specs.declared.labels.Handler.TheVariants.{First, Relocated, Monarch as Monarchs}
+use Rattle.hp_model.specs.Labels.{handler_of}
 use Rattle.hp_model.specs.SharedBytes.{layout_of, default_smbase_field}
 use Rattle.hp_model.specs.Slots.{slot_among}
 use Rattle.hp_model.specs.Monarch.{Monarch}
@@ -100,7 +102,7 @@ read_back l ws c e = rw e refl
 
 -- rows of RSM: the first handler's is past the gate, and the others need nothing
 abbrev pub Returns : Label → Type 0
-Returns l = (need_of l ≡ Saved) ⊎ ((part_of l ≢ First) × (need_of l ≡ Nothing) × (tie_of l ≡ Free))
+Returns l = (need_of l ≡ Saved) ⊎ ((handler_of l ≢ First) × (need_of l ≡ Nothing) × (tie_of l ≡ Free))
 
 pub row_returns : (p : Platform) (q : Seat) (r : Monarch) (ws : List Write) (l : Label) → Met p r ws q.apic q.base l → is_rsm (want_at (layout_of p) q r l) ≡ true → Returns l
 row_returns p q r ws l met is = row_of_each (λ l. is_rsm (want_at (layout_of p) q r l) ≡ true → Returns l) (record { f1 = λ e. absurd cc; f2 = λ e. absurd cc; f3 = λ e. absurd cc; f4 = λ e. absurd cc; f5 = λ e. absurd cc; f6 = λ e. inl refl; r1 = λ e. absurd cc; r2 = λ e. absurd cc; r3 = λ e. absurd cc; r4 = λ e. absurd cc; r5 = λ e. inr (λ f. cc, refl, refl); r6 = λ e. absurd cc; s0 = λ e. absurd cc; s1 = λ e. absurd cc; s2 = λ e. absurd cc; s3 = λ e. absurd cc; s4 = λ e. absurd cc; c1 = λ e. absurd cc; c2 = λ e. absurd cc; c3 = λ e. absurd cc; c4 = λ e. absurd cc; c5 = λ e. absurd cc; c6 = λ e. absurd cc; nb = λ e. absurd cc; n0 = λ e. absurd cc; n1 = λ e. absurd cc; n2 = λ e. absurd cc; n3 = λ e. absurd cc; n4 = λ e. absurd cc; n5 = λ e. absurd cc; n6 = λ e. absurd cc; n7 = λ e. absurd cc; n8a = λ e. absurd cc; n8b = λ e. absurd cc; n9 = λ e. absurd cc; n10 = λ e. absurd cc; n11 = λ e. absurd cc; e0 = λ e. absurd cc; e1 = λ e. absurd cc; e2 = λ e. absurd cc; e3 = λ e. absurd cc; e4a = λ e. absurd cc; e4b = λ e. absurd cc; e4c = λ e. absurd cc; e4d = λ e. absurd cc; e4e = λ e. absurd cc; e4f = λ e. absurd cc; e4g = λ e. absurd cc; e4h = λ e. absurd cc; t = λ e. absurd cc; e5 = λ e. absurd cc; e6 = λ e. absurd cc; e7 = λ e. inr (λ f. cc, refl, refl) }) (facts_of p r ws q.apic q.base) l met is
@@ -110,13 +112,13 @@ pub record Reads (p : Platform) (s : State) (k v : ℕ) : Type 0 where
   pub based : is_based p k v ≡ true
   pub slotted : IsAtSlot p s.monarch.slots.bound (apic_of p k) v
 
-pub reads_tile : (p : Platform) (m : List Write) (s : State) (k : ℕ) (l : Label) → Sound p → Invariant p m s → AtRow p s k l → part_of l ≢ First → value_from (byte_at s.writes) ((at s k).smbase + smbase_field) 4 ≡ (at s k).smbase
-reads_tile p m s k l sound h here other = elim (subst (Saves s.writes (at s k).smbase) here.is (h.slots.saved k)) [ inl e ↦ absurd (not_default (part_of l) other here.cell.runs e) | inr e ↦ e ]
+pub reads_tile : (p : Platform) (m : List Write) (s : State) (k : ℕ) (l : Label) → Sound p → Invariant p m s → AtRow p s k l → handler_of l ≢ First → value_from (byte_at s.writes) ((at s k).smbase + smbase_field) 4 ≡ (at s k).smbase
+reads_tile p m s k l sound h here other = elim (subst (Saves s.writes (at s k).smbase) here.is (h.slots.saved k)) [ inl e ↦ absurd (not_default (handler_of l) other here.cell.runs e) | inr e ↦ e ]
   where
     far : (base b slot : ℕ) → 0x800000 ≤ base → b ≡ base + 0x20000 + slot * 0x10000 → b ≡ 0x30000 → ⊥
     far base b slot above e f = omega (arith, above, e, f)
 
-    not_default : (q : Part) → q ≢ First → runs_at (layout_of p) q k (at s k).smbase ≡ true → (at s k).smbase ≡ 0x30000 → ⊥
+    not_default : (q : Handler) → q ≢ First → runs_at (layout_of p) q k (at s k).smbase ≡ true → (at s k).smbase ≡ 0x30000 → ⊥
     not_default First n runs e = n refl
     not_default Relocated n runs e = let t = slot_of p (at s k).smbase (and_parts (not (k == 0)) (is_other_tile (layout_of p) (at s k).smbase) runs).1 in far (tseg p) (at s k).smbase t.slot sound.above t.is e
     not_default Monarchs n runs e = far (tseg p) (at s k).smbase 0 sound.above (eqb-true (at s k).smbase (tile p 0) (and_parts (k == 0) ((at s k).smbase == tile p 0) runs).1) e
@@ -126,7 +128,7 @@ reads_first p m s k l sound h here is =
     let r = s.monarch in
     let b = (at s k).smbase in
     let f = facts_of p r s.writes (apic_of p k) (at s k).base in
-    let side : part_of l ≡ First = aloft_first l (ap is_aloft is) in
+    let side : handler_of l ≡ First = aloft_first l (ap is_aloft is) in
     let runs : (not (k == 0) && (b == 0x30000)) ≡ true = subst (λ q. runs_at (layout_of p) q k b ≡ true) side here.cell.runs in
     let parts = and_parts (not (k == 0)) (b == 0x30000) runs in
     let met : FirstNeeds f Saved = subst (FirstNeeds f) is (subst (λ q. Needs f q (need_of l)) side here.cell.met) in
@@ -185,18 +187,18 @@ keeps_rsm p m s k l sound h here wanted =
     none_if true o = refl
     none_if false o = refl
 
-    monarchs : (q : Part) → runs_at (layout_of p) q 0 (at s k).smbase ≡ true → q ≡ Monarchs
+    monarchs : (q : Handler) → runs_at (layout_of p) q 0 (at s k).smbase ≡ true → q ≡ Monarchs
     monarchs First runs = absurd cc
     monarchs Relocated runs = absurd cc
     monarchs Monarchs runs = refl
 
     resting : k ≡ 0 → Returns l → need_of s.monarch.label ≡ Nothing
     resting z returns =
-        let side = monarchs (part_of l) (subst (λ i. runs_at (layout_of p) (part_of l) i (at s k).smbase ≡ true) z here.cell.runs) in
+        let side = monarchs (handler_of l) (subst (λ i. runs_at (layout_of p) (handler_of l) i (at s k).smbase ≡ true) z here.cell.runs) in
         let label = current_label_is s.monarch l here.cell.current side in
         ap need_of label ∙ free side returns
       where
-        free : part_of l ≡ Monarchs → Returns l → need_of l ≡ Nothing
+        free : handler_of l ≡ Monarchs → Returns l → need_of l ≡ Nothing
         free side (inl e) = absurd (let both = sym side ∙ aloft_first l (ap is_aloft e) in cc)
         free side (inr n) = n.1
 

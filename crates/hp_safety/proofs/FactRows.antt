@@ -9,13 +9,17 @@ use Rattle.hp_model.specs.declared.outcomes.Refusal.TheVariants.{NotAtGate, NotC
 use Rattle.hp_model.specs.declared.labels.Label.{Label}
 use Rattle.hp_model.specs.declared.labels.Label.TheVariants.{S1, S2, S3, S4, C1, C4, C5, N0, N8a, N8b, N9, N10, N11, E3, E4a, E4c, E4f, E4h, E5, E6, E7}
 use Rattle.hp_model.specs.Block.{is_in}
-use Rattle.hp_model.specs.Labels.{Monarch as Monarchs, part_of, index_of}
+use Rattle.hp_model.specs.declared.labels.Handler.TheVariants.{Monarch as Monarchs}
+use Rattle.hp_model.specs.Labels.{handler_of, index_of}
 use Rattle.hp_model.specs.SharedBytes.{Layout}
 use Rattle.hp_model.specs.Slots.{Slots, first_true, known_from, is_known, slot_among, bind}
-use Rattle.hp_model.specs.Collection.{Report, Collection, CollectsAt, CollectEnds, next_processor, found, judged, reported, collection_start}
+use Rattle.hp_model.specs.declared.reports.Report.{Report}
+use Rattle.hp_model.specs.Collection.{Collection, CollectsAt, CollectEnds, next_processor, found, judged, reported, collection_start}
 use Rattle.hp_model.specs.Add.{Add, AddsAt, Ends, failed, looks, is_last_look, saw_flag, saw_pair, shut, saw_arrival}
 use Rattle.hp_model.specs.Eject.{EjectsAt, awaits, saw_parked, handed_to_block, saw_status}
-use Rattle.hp_model.specs.Monarch.{Monarch, at_label, first_slot, next_slot, look_at, looked, noted, commanded, Decision, ToTell, ToAdd, ToEject, decision, facts_of as facts_by, at_tell, took, answered, taken_up, next_report, after_collection, after_add, after_eject, after_tell}
+use Rattle.hp_model.specs.declared.reports.Decision.{Decision}
+use Rattle.hp_model.specs.declared.reports.Decision.TheVariants.{Tell as ToTell, Add as ToAdd, Eject as ToEject}
+use Rattle.hp_model.specs.Monarch.{Monarch, at_label, first_slot, next_slot, look_at, looked, noted, commanded, decision, facts_of as facts_by, at_tell, took, answered, taken_up, next_report, after_collection, after_add, after_eject, after_tell}
 use Rattle.hp_model.specs.Handlers.{Seat, next_at}
 use Rattle.hp_sealed.specs.Sealed.{Placed}
 use Rattle.hp_sealed.proofs.Left.{pick, pick_by}
@@ -218,8 +222,8 @@ module _ (p : Platform) where
       else if (index_of l == 21) || (index_of l == 24) then noted r.add.slot v r
       else r
 
-  pub row_facts : (y : Layout) (q : Seat) (r : Monarch) (v : ℕ) (f : Facts) (l : Label) → Placed p r.slots → part_of l ≡ Monarchs → (part_of l ≡ Monarchs → r.label ≡ l) → (r.label ≡ S3 → r.slot < length r.slots.bound) → Needs f (part_of l) (need_of l) → SameFacts (noted_at l v r) (next_at y q r l v).monarch
-  row_facts y q r v f l placed mine is seen met = row_of_each (λ l. part_of l ≡ Monarchs → (part_of l ≡ Monarchs → r.label ≡ l) → SameFacts (noted_at l v r) (next_at y q r l v).monarch) (record {
+  pub row_facts : (y : Layout) (q : Seat) (r : Monarch) (v : ℕ) (f : Facts) (l : Label) → Placed p r.slots → handler_of l ≡ Monarchs → (handler_of l ≡ Monarchs → r.label ≡ l) → (r.label ≡ S3 → r.slot < length r.slots.bound) → Needs f (handler_of l) (need_of l) → SameFacts (noted_at l v r) (next_at y q r l v).monarch
+  row_facts y q r v f l placed mine is seen met = row_of_each (λ l. handler_of l ≡ Monarchs → (handler_of l ≡ Monarchs → r.label ≡ l) → SameFacts (noted_at l v r) (next_at y q r l v).monarch) (record {
     f1 = λ g e. absurd cc;
     f2 = λ g e. absurd cc;
     f3 = λ g e. absurd cc;

@@ -18,7 +18,7 @@ use Rattle.hp_model.specs.Boot.{boot_access, value_in}
 use Rattle.hp_model.specs.Labels.{index_of, cell_of}
 use Rattle.hp_model.specs.SharedBytes.{layout_of}
 use Rattle.hp_model.specs.Slots.{boot_ids}
-use Rattle.hp_model.specs.Collection.{Report}
+use Rattle.hp_model.specs.declared.reports.Report.{Report}
 use Rattle.hp_model.specs.Monarch.{Monarch, monarch_start, with_features, restarted, after_tell}
 use Rattle.hp_model.specs.Handlers.{Seat, want_at, next_at, address_of_label}
 use Rattle.hp_model.specs.State.{State, at, start}

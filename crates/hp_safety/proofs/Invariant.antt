@@ -11,7 +11,7 @@ use Rattle.hp_model.specs.Memory.{Write, byte_at, value_from}
 use Rattle.hp_model.specs.Cpu.{smm_address}
 use Rattle.hp_model.specs.Block.{is_in}
 use Rattle.hp_model.specs.Boot.{is_handed}
-use Rattle.hp_model.specs.Labels.{part_of, mark_of}
+use Rattle.hp_model.specs.Labels.{handler_of, mark_of}
 use Rattle.hp_model.specs.SharedBytes.{layout_of, gate, closed, new_smbase, default_smbase_field, arrived_byte}
 use Rattle.hp_model.specs.SaveArea.{smbase_field}
 use Rattle.hp_model.specs.Slots.{Slots, slot_among}
@@ -43,12 +43,12 @@ facts_of p r ws apic base = record { count = count_of p; held = is_that r.slots.
 
 -- what the label needs of whoever stands there, with this APIC ID and this base loaded
 abbrev pub Met : Platform → Monarch → List Write → ℕ → ℕ → Label → Type 0
-Met p r ws apic base l = Needs (facts_of p r ws apic base) (part_of l) (need_of l)
+Met p r ws apic base l = Needs (facts_of p r ws apic base) (handler_of l) (need_of l)
 
 -- address a is the cell of a label of the handler that runs at SMBASE b on processor k, whose row is due, and has what it needs
 pub record AtCell (p : Platform) (r : Monarch) (ws : List Write) (k b base a : ℕ) (l : Label) : Type 0 where
-  pub runs : runs_at (layout_of p) (part_of l) k b ≡ true
-  pub current : is_current r (part_of l) l ≡ true
+  pub runs : runs_at (layout_of p) (handler_of l) k b ≡ true
+  pub current : is_current r (handler_of l) l ≡ true
   pub here : a ≡ address_of_label b l
   pub met : Met p r ws (apic_of p k) base l
 
@@ -64,7 +64,7 @@ Saves ws b (Some a) = (b ≡ 0x30000) ⊎ (value_from (byte_at ws) (b + smbase_f
 
 -- memory m holds each handler's marks, the lock registers are fixed, and no write since m has covered a byte that is kept
 pub record IsLocked (p : Platform) (m : List Write) (s : State) : Type 0 where
-  pub marks : (l : Label) (k b : ℕ) → runs_at (layout_of p) (part_of l) k b ≡ true → value_from (byte_at m) (address_of_label b l) 4 ≡ mark_of l
+  pub marks : (l : Label) (k b : ℕ) → runs_at (layout_of p) (handler_of l) k b ≡ true → value_from (byte_at m) (address_of_label b l) 4 ≡ mark_of l
   pub registers : Locked p s.locks
   pub kept : (x : ℕ) → is_kept p x ≡ true → IsLeft x m s.writes
 

@@ -12,7 +12,9 @@ use Rattle.hp_model.specs.View.{Locks, is_hole, loaded}
 use Rattle.hp_model.specs.Cpu.{absent, address_in, smm_address}
 use Rattle.hp_model.specs.Block.{Block, is_in}
 use Rattle.hp_model.specs.Boot.{Stage, is_handed}
-use Rattle.hp_model.specs.Labels.{Part, First, Relocated, Monarch as Monarchs, part_of, index_of, mark_of}
+use Rattle.hp_model.specs.declared.labels.Handler.{Handler}
+use Rattle.hp_model.specs.declared.labels.Handler.TheVariants.{First, Relocated, Monarch as Monarchs}
+use Rattle.hp_model.specs.Labels.{handler_of, index_of, mark_of}
 use Rattle.hp_model.specs.SharedBytes.{Layout, layout_of, tile_in}
 use Rattle.hp_model.specs.FwCfg.{FwCfg}
 use Rattle.hp_model.specs.Ich9.{Ich9}
@@ -44,7 +46,7 @@ smm_present c a e = by_presence c.present (address_in c.mode) e
     by_presence false o e = absurd cc
 
 -- what a label needs is still there where what memory holds is as good as it was
-needs_kept : (f : Facts) (ready returns : Bool) (q : Part) (n : Need) → (f.ready ≡ true → ready ≡ true) → (f.returns ≡ true → returns ≡ true) → Needs f q n → Needs (record f { ready = ready; returns = returns }) q n
+needs_kept : (f : Facts) (ready returns : Bool) (q : Handler) (n : Need) → (f.ready ≡ true → ready ≡ true) → (f.returns ≡ true → returns ≡ true) → Needs f q n → Needs (record f { ready = ready; returns = returns }) q n
 needs_kept f ready returns First Ejecting more also h = h
 needs_kept f ready returns First Nothing more also h = h
 needs_kept f ready returns First Passing more also h = (h.0, more h.1)
@@ -75,7 +77,7 @@ stands_kept p r ws vs k b base (Some a) more also h = (
     runs = h.1.runs;
     current = h.1.current;
     here = h.1.here;
-    met = needs_kept (facts_of p r ws (apic_of p k) base) (is_ready p r.slots vs) (may_return p r.slots vs) (part_of h.0) (need_of h.0) more also h.1.met;
+    met = needs_kept (facts_of p r ws (apic_of p k) base) (is_ready p r.slots vs) (may_return p r.slots vs) (handler_of h.0) (need_of h.0) more also h.1.met;
   },
 )
 
@@ -185,13 +187,13 @@ abbrev pub Carries : Slots → Slots → Option ℕ → Type 0
 Carries s t o = (is_past o ≡ false) ⊎ Holds s t
 
 -- the monarch's record is of no matter to the others but for its slots
-current_other : (y : Layout) (r t : Monarch) (k b : ℕ) (l : Label) (q : Part) → k ≢ 0 → runs_at y q k b ≡ true → is_current r q l ≡ true → is_current t q l ≡ true
+current_other : (y : Layout) (r t : Monarch) (k b : ℕ) (l : Label) (q : Handler) → k ≢ 0 → runs_at y q k b ≡ true → is_current r q l ≡ true → is_current t q l ≡ true
 current_other y r t k b l First other runs due = refl
 current_other y r t k b l Relocated other runs due = refl
 current_other y r t k b l Monarchs other runs due = absurd (other (eqb-true k 0 (and_parts (k == 0) (b == tile_in y 0) runs).0))
 
-met_other : (p : Platform) (r t : Monarch) (ws : List Write) (k b base : ℕ) (l : Label) → Sound p → Holding p r.slots → Grows r.slots t.slots → k ≢ 0 → runs_at (layout_of p) (part_of l) k b ≡ true → Carries r.slots t.slots (Some (address_of_label b l)) → Needs (facts_of p r ws (apic_of p k) base) (part_of l) (need_of l) → Needs (facts_of p t ws (apic_of p k) base) (part_of l) (need_of l)
-met_other p r t ws k b base l sound holding grows other runs carries h = by_part (part_of l) runs h
+met_other : (p : Platform) (r t : Monarch) (ws : List Write) (k b base : ℕ) (l : Label) → Sound p → Holding p r.slots → Grows r.slots t.slots → k ≢ 0 → runs_at (layout_of p) (handler_of l) k b ≡ true → Carries r.slots t.slots (Some (address_of_label b l)) → Needs (facts_of p r ws (apic_of p k) base) (handler_of l) (need_of l) → Needs (facts_of p t ws (apic_of p k) base) (handler_of l) (need_of l)
+met_other p r t ws k b base l sound holding grows other runs carries h = by_handler (handler_of l) runs h
   where
     same : Holds r.slots t.slots → is_that r.slots.held (apic_of p k) ≡ true → (is_that t.slots.held (apic_of p k) ≡ true) × (is_ready p t.slots ws ≡ is_ready p r.slots ws) × ((base == held_tile p t.slots) ≡ (base == held_tile p r.slots)) × (may_return p t.slots ws ≡ may_return p r.slots ws)
     same holds e =
@@ -199,13 +201,13 @@ met_other p r t ws k b base l sound holding grows other runs carries h = by_part
         let tiles = same_tile_held p r.slots t.slots (apic_of p k) holding grows holds is in
         (is_that-is t.slots.held (apic_of p k) (holds (apic_of p k) is), rw tiles refl, rw tiles refl, rw tiles refl)
 
-    by_part : (q : Part) → runs_at (layout_of p) q k b ≡ true → Needs (facts_of p r ws (apic_of p k) base) q (need_of l) → Needs (facts_of p t ws (apic_of p k) base) q (need_of l)
-    by_part First on f = elim carries [
+    by_handler : (q : Handler) → runs_at (layout_of p) q k b ≡ true → Needs (facts_of p r ws (apic_of p k) base) q (need_of l) → Needs (facts_of p t ws (apic_of p k) base) q (need_of l)
+    by_handler First on f = elim carries [
       | inl calm ↦ first_calm (facts_of p r ws (apic_of p k) base) (facts_of p t ws (apic_of p k) base) (need_of l) (sym (aloft_past p k b l sound runs) ∙ calm) f
       | inr holds ↦ first_carried (facts_of p r ws (apic_of p k) base) (facts_of p t ws (apic_of p k) base) (need_of l) (same holds) f
     ]
-    by_part Relocated on f = f
-    by_part Monarchs on f = absurd (other (eqb-true k 0 (and_parts (k == 0) (b == tile_in (layout_of p) 0) on).0))
+    by_handler Relocated on f = f
+    by_handler Monarchs on f = absurd (other (eqb-true k 0 (and_parts (k == 0) (b == tile_in (layout_of p) 0) on).0))
 
 stands_other : (p : Platform) (r t : Monarch) (ws : List Write) (k b base : ℕ) (o : Option ℕ) → Sound p → Holding p r.slots → Grows r.slots t.slots → k ≢ 0 → Carries r.slots t.slots o → IsAtCell p r ws k b base o → IsAtCell p t ws k b base o
 stands_other p r t ws k b base None sound holding grows other carries h = tt
@@ -213,7 +215,7 @@ stands_other p r t ws k b base (Some a) sound holding grows other carries h = (
   h.0,
   record {
     runs = h.1.runs;
-    current = current_other (layout_of p) r t k b h.0 (part_of h.0) other h.1.runs h.1.current;
+    current = current_other (layout_of p) r t k b h.0 (handler_of h.0) other h.1.runs h.1.current;
     here = h.1.here;
     met = met_other p r t ws k b base h.0 sound holding grows other h.1.runs (subst (λ x. Carries r.slots t.slots (Some x)) h.1.here carries) h.1.met;
   },
@@ -244,9 +246,9 @@ pub row_here : (p : Platform) (m : List Write) (s : State) (k a : ℕ) (l : Labe
 unfolding label_at mark_at label_of_mark
 row_here p m s k a l sound h is cell =
     let b = (at s k).smbase in
-    let base : Base p b = base_based p k b sound (runs_based p (part_of l) k b cell.runs) in
+    let base : Base p b = base_based p k b sound (runs_based p (handler_of l) k b cell.runs) in
     let value : value_from (byte_at s.writes) (address_of_label b l) 4 ≡ mark_of l =
-    value_left 4 (address_of_label b l) m s.writes (λ i small. h.locked.kept (address_of_label b l + i) (kept_cell p l (part_of l) k b i sound refl cell.runs small)) ∙ h.locked.marks l k b cell.runs in
+    value_left 4 (address_of_label b l) m s.writes (λ i small. h.locked.kept (address_of_label b l + i) (kept_cell p l (handler_of l) k b i sound refl cell.runs small)) ∙ h.locked.marks l k b cell.runs in
     let small = index_small l in
     let reach : is_hole s.locks true (b + (0x8000 + 4 * index_of l)) 4 ≡ false = reach_base p s.locks 4 b (0x8000 + 4 * index_of l) h.locked.registers base (omega (arith, small)) in
     let place : b + (0x8000 + 4 * index_of l) ≡ address_of_label b l = omega arith in
@@ -277,11 +279,11 @@ row_stands p m s k l sound h e = by_address (smm_address (at s k)) refl (h.stand
         record { address = a; is = is; cell = subst (AtCell p s.monarch s.writes k (at s k).smbase (at s k).base a) same stands.1 }
 
 -- at the monarch's rows it is processor 0
-pub row_first : (p : Platform) (s : State) (k : ℕ) (l : Label) → AtRow p s k l → part_of l ≡ Monarchs → k ≡ 0
+pub row_first : (p : Platform) (s : State) (k : ℕ) (l : Label) → AtRow p s k l → handler_of l ≡ Monarchs → k ≡ 0
 row_first p s k l here mine = eqb-true k 0 (and_parts (k == 0) ((at s k).smbase == tile_in (layout_of p) 0) (subst (λ q. runs_at (layout_of p) q k (at s k).smbase ≡ true) mine here.cell.runs)).0
 
 -- the monarch's label is the one whose row is due
-pub current_label_is : (r : Monarch) (l : Label) → is_current r (part_of l) l ≡ true → part_of l ≡ Monarchs → r.label ≡ l
+pub current_label_is : (r : Monarch) (l : Label) → is_current r (handler_of l) l ≡ true → handler_of l ≡ Monarchs → r.label ≡ l
 current_label_is r l due is = by_mark (subst (λ q. is_current r q l ≡ true) is due)
   where
     by_mark : (mark_of l == mark_of r.label) ≡ true → r.label ≡ l

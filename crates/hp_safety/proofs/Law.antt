@@ -10,7 +10,7 @@ use Rattle.hp_model.specs.declared.processors.Mode.TheVariants.{Wait, Running, H
 use Rattle.hp_model.specs.Platform.{IsFit, apic_of}
 use Rattle.hp_model.specs.Memory.{Write}
 use Rattle.hp_model.specs.Cpu.{is_in_smm, smm_address}
-use Rattle.hp_model.specs.Labels.{part_of}
+use Rattle.hp_model.specs.Labels.{handler_of}
 use Rattle.hp_model.specs.SharedBytes.{layout_of}
 use Rattle.hp_model.specs.Monarch.{Monarch}
 use Rattle.hp_model.specs.Handlers.{Seat, want_at}
@@ -50,7 +50,7 @@ kept_here p s k a fit good is =
     let h = stands_handed p s k a good is in
     let c = stands_there p s k a h is in
     record {
-      kept = λ i small. subst (λ y. is_kept p (y + i) ≡ true) (sym c.1.here) (kept_cell p c.0 (part_of c.0) k (at s k).smbase i fit refl c.1.runs small);
+      kept = λ i small. subst (λ y. is_kept p (y + i) ≡ true) (sym c.1.here) (kept_cell p c.0 (handler_of c.0) k (at s k).smbase i fit refl c.1.runs small);
       handed = h;
     }
 

@@ -12,13 +12,18 @@ use Rattle.hp_model.specs.declared.labels.Label.{Label}
 use Rattle.hp_model.specs.declared.labels.Label.TheVariants.{S3, S4, C1, C4, C5, N0, N8a, N8b, N9, N10, N11, E0, E2, E3, E4a, E4c, E4f, E4h, E5}
 use Rattle.hp_model.specs.Platform.{count_of}
 use Rattle.hp_model.specs.Memory.{Write, byte_at, value_from}
-use Rattle.hp_model.specs.Labels.{Monarch as Monarchs, part_of}
+use Rattle.hp_model.specs.declared.labels.Handler.TheVariants.{Monarch as Monarchs}
+use Rattle.hp_model.specs.Labels.{handler_of}
 use Rattle.hp_model.specs.SharedBytes.{layout_of, gate, arrived_byte}
 use Rattle.hp_model.specs.Slots.{Slots, first_true, known_from, is_known, slot_among, bind}
-use Rattle.hp_model.specs.Collection.{Report, Collection, CollectsAt, CollectEnds, next_processor, found, judged, reported, collection_start}
+use Rattle.hp_model.specs.declared.reports.Report.{Report}
+use Rattle.hp_model.specs.Collection.{Collection, CollectsAt, CollectEnds, next_processor, found, judged, reported, collection_start}
 use Rattle.hp_model.specs.Add.{Add, AddsAt, Ends, failed, looks, is_last_look, saw_flag, saw_pair, shut as shut_by, saw_arrival}
 use Rattle.hp_model.specs.Eject.{Eject, EjectsAt, EjectEnds, eject_of, awaits, saw_parked, handed_to_block, saw_status}
-use Rattle.hp_model.specs.Monarch.{Monarch, at_label, first_slot, next_slot, look_at, looked, commanded, Decision, ToTell, ToAdd, ToEject, refuses, is_that, is_own, Facts, held_decision, insert_decision, eject_decision, decision, facts_of as facts_by, at_tell, adds, took, answered, taken_up, next_report, after_collection, after_add, after_eject, after_tell}
+use Rattle.hp_model.specs.declared.reports.Facts.{Facts}
+use Rattle.hp_model.specs.declared.reports.Decision.{Decision}
+use Rattle.hp_model.specs.declared.reports.Decision.TheVariants.{Tell as ToTell, Add as ToAdd, Eject as ToEject}
+use Rattle.hp_model.specs.Monarch.{Monarch, at_label, first_slot, next_slot, look_at, looked, commanded, refuses, is_that, is_own, held_decision, insert_decision, eject_decision, decision, facts_of as facts_by, at_tell, adds, took, answered, taken_up, next_report, after_collection, after_add, after_eject, after_tell}
 use Rattle.hp_sealed.specs.Left.{Sound}
 use Rattle.hp_sealed.specs.Sealed.{Placed}
 use Rattle.hp_sealed.proofs.Left.{pick, pick_by}
@@ -37,7 +42,7 @@ pub record Follows (p : Platform) (was : Bool) (before : Slots) (slot : ℕ) (s 
 
 -- the record stands at such a label
 pub record Arrives (p : Platform) (was : Bool) (before : Slots) (ws : List Write) (apic base : ℕ) (r : Monarch) : Type 0 where
-  pub side : part_of r.label ≡ Monarchs
+  pub side : handler_of r.label ≡ Monarchs
   pub met : MonarchNeeds (facts_of p r ws apic base) (need_of r.label)
   pub gated : IsGated p r ws
   pub settled : is_settled p r ws ≡ true → was ≡ true
@@ -168,33 +173,33 @@ module _ (p : Platform) (ws : List Write) (sound : Sound p) (was : Bool) (before
       (pick (λ x. Arrives p was before ws apic base (after_add x r)) (is_last_look a) (AddsAt N9 (record a { seen = false })) (looks N8a (a.polls - 1) a)
       (to N9 (record a { seen = false }) refl (λ x y. refl) refl (slot, adds, ready)) (to N8a (record a { polls = a.polls - 1 }) refl (λ x y. refl) refl (slot, adds, ready)))
     where
-      to : (l : Label) (b : Add) → part_of l ≡ Monarchs → ((x y : Bool) → settles x y (need_of l) ≡ false) → is_open (need_of l) ≡ true → MonarchNeeds (facts_of p (after_add (AddsAt l b) r) ws apic base) (need_of l) → Arrives p was before ws apic base (after_add (AddsAt l b) r)
+      to : (l : Label) (b : Add) → handler_of l ≡ Monarchs → ((x y : Bool) → settles x y (need_of l) ≡ false) → is_open (need_of l) ≡ true → MonarchNeeds (facts_of p (after_add (AddsAt l b) r) ws apic base) (need_of l) → Arrives p was before ws apic base (after_add (AddsAt l b) r)
       to l b side calm may met = record { side = side; met = met; gated = reopened p ws r (after_add (AddsAt l b) r) may refl gated; settled = λ e. absurd (let f = sym (calm _ _) ∙ e in cc); follows = h }
 
   -- while it is closed
   module _ (shut : IsShut ws) where
     -- labels that need nothing
-    arrives_at : (l : Label) (r : Monarch) → r.label ≡ l → part_of l ≡ Monarchs → need_of l ≡ Nothing → Follows p was before r.slot r.slots → Arrives p was before ws apic base r
+    arrives_at : (l : Label) (r : Monarch) → r.label ≡ l → handler_of l ≡ Monarchs → need_of l ≡ Nothing → Follows p was before r.slot r.slots → Arrives p was before ws apic base r
     arrives_at l r is mine free h =
         let none : need_of r.label ≡ Nothing = ap need_of is ∙ free in
         record {
-          side = subst (λ m. part_of m ≡ Monarchs) (sym is) mine;
+          side = subst (λ m. handler_of m ≡ Monarchs) (sym is) mine;
           met = subst (MonarchNeeds (facts_of p r ws apic base)) (sym none) tt;
           gated = inl shut;
           settled = λ e. absurd (let f : false ≡ true = subst (λ n. settles (value_from (byte_at ws) (arrived_byte (layout_of p) r.add.slot) 1 == 1) (is_added r.outcome) n ≡ true) none e in cc);
           follows = h;
         }
 
-    pub arrives_label : (l : Label) (r : Monarch) → part_of l ≡ Monarchs → need_of l ≡ Nothing → Follows p was before r.slot r.slots → Arrives p was before ws apic base (at_label l r)
+    pub arrives_label : (l : Label) (r : Monarch) → handler_of l ≡ Monarchs → need_of l ≡ Nothing → Follows p was before r.slot r.slots → Arrives p was before ws apic base (at_label l r)
     arrives_label l r mine free h = arrives_at l (at_label l r) refl mine free h
 
     -- slot after slot
-    pub arrives_first : (l m : Label) (r : Monarch) → part_of l ≡ Monarchs → need_of l ≡ Nothing → part_of m ≡ Monarchs → need_of m ≡ Nothing → Follows p was before r.slot r.slots → Arrives p was before ws apic base (first_slot l m r)
+    pub arrives_first : (l m : Label) (r : Monarch) → handler_of l ≡ Monarchs → need_of l ≡ Nothing → handler_of m ≡ Monarchs → need_of m ≡ Nothing → Follows p was before r.slot r.slots → Arrives p was before ws apic base (first_slot l m r)
     arrives_first l m r mine free ours rests h =
         pick (Arrives p was before ws apic base) (nat_lt 1 (length r.slots.bound)) (record r { label = l; slot = 1 }) (at_label m r)
         (arrives_at l (record r { label = l; slot = 1 }) refl mine free (follows_slot r.slot 1 r.slots (omega arith) h)) (arrives_label m r ours rests h)
 
-    pub arrives_next : (l m : Label) (r : Monarch) → part_of l ≡ Monarchs → need_of l ≡ Nothing → part_of m ≡ Monarchs → need_of m ≡ Nothing → Follows p was before r.slot r.slots → Arrives p was before ws apic base (next_slot l m r)
+    pub arrives_next : (l m : Label) (r : Monarch) → handler_of l ≡ Monarchs → need_of l ≡ Nothing → handler_of m ≡ Monarchs → need_of m ≡ Nothing → Follows p was before r.slot r.slots → Arrives p was before ws apic base (next_slot l m r)
     arrives_next l m r mine free ours rests h =
         pick_by (Arrives p was before ws apic base) (nat_lt (r.slot + 1) (length r.slots.bound)) (record r { label = l; slot = r.slot + 1 }) (at_label m r)
         (λ e. arrives_at l (record r { label = l; slot = r.slot + 1 }) refl mine free (follows_slot r.slot (r.slot + 1) r.slots (within (r.slot + 1) (length r.slots.bound) e (bound_small r.slots h.placed)) h))
@@ -262,7 +267,7 @@ module _ (p : Platform) (ws : List Write) (sound : Sound p) (was : Bool) (before
         same_place a n = grind (arith, nat_tests)
 
     -- an eject is of a slot that a processor may get
-    pub arrives_ejecting : (l : Label) (j : Eject) (r : Monarch) → part_of l ≡ Monarchs → need_of l ≡ Ejecting → nat_lt j.slot (count_of p) ≡ true → Follows p was before r.slot r.slots → Arrives p was before ws apic base (after_eject (EjectsAt l j) r)
+    pub arrives_ejecting : (l : Label) (j : Eject) (r : Monarch) → handler_of l ≡ Monarchs → need_of l ≡ Ejecting → nat_lt j.slot (count_of p) ≡ true → Follows p was before r.slot r.slots → Arrives p was before ws apic base (after_eject (EjectsAt l j) r)
     arrives_ejecting l j r mine is small h =
         let t = after_eject (EjectsAt l j) r in
         record {
@@ -321,7 +326,7 @@ module _ (p : Platform) (ws : List Write) (sound : Sound p) (was : Bool) (before
     arrives_told o r added h = arrives_report (after_tell o r) (follows_told o r added h)
 
     -- the collection
-    collects : (l : Label) (c : Collection) (r : Monarch) → part_of l ≡ Monarchs → need_of l ≡ Nothing → Follows p was before r.slot r.slots → Arrives p was before ws apic base (after_collection p.apic (CollectsAt l c) r)
+    collects : (l : Label) (c : Collection) (r : Monarch) → handler_of l ≡ Monarchs → need_of l ≡ Nothing → Follows p was before r.slot r.slots → Arrives p was before ws apic base (after_collection p.apic (CollectsAt l c) r)
     collects l c r mine free h = arrives_at l (record r { label = l; collection = c }) refl mine free h
 
     collects_all : (c : Collection) (r : Monarch) → Follows p was before r.slot r.slots → Arrives p was before ws apic base (after_collection p.apic (CollectEnds c) r)
@@ -346,7 +351,7 @@ module _ (p : Platform) (ws : List Write) (sound : Sound p) (was : Bool) (before
     arrives_reported v c r h = arrives_processor (record c { reports = c.reports ++ record { cpu = c.cpu; status = c.status; apic = v } ∷ [] }) r h
 
     -- an add: its slot stays
-    pub arrives_adding : (l : Label) (a : Add) (r : Monarch) → part_of l ≡ Monarchs → ((x y : Bool) → settles x y (need_of l) ≡ false) → MonarchNeeds (facts_of p (after_add (AddsAt l a) r) ws apic base) (need_of l) → Follows p was before r.slot r.slots → Arrives p was before ws apic base (after_add (AddsAt l a) r)
+    pub arrives_adding : (l : Label) (a : Add) (r : Monarch) → handler_of l ≡ Monarchs → ((x y : Bool) → settles x y (need_of l) ≡ false) → MonarchNeeds (facts_of p (after_add (AddsAt l a) r) ws apic base) (need_of l) → Follows p was before r.slot r.slots → Arrives p was before ws apic base (after_add (AddsAt l a) r)
     arrives_adding l a r mine calm met h = record { side = mine; met = met; gated = inl shut; settled = λ e. absurd (let f = sym (calm _ _) ∙ e in cc); follows = h }
 
     pub arrives_looking : (a : Add) (r : Monarch) → IsSlot (count_of p) a.slot → is_adding (record r { add = a }) ≡ true → ((value_from (byte_at ws) (arrived_byte (layout_of p) a.slot) 1 == 1) ≡ true → was ≡ true) → Follows p was before r.slot r.slots → Arrives p was before ws apic base (after_add (AddsAt N11 a) r)

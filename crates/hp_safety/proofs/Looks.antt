@@ -10,7 +10,8 @@ use Rattle.hp_model.specs.declared.entries.Entry.{Entry}
 use Rattle.hp_model.specs.Platform.{tseg}
 use Rattle.hp_model.specs.Memory.{Write}
 use Rattle.hp_model.specs.Boot.{value_in}
-use Rattle.hp_model.specs.Labels.{Monarch as Monarchs, part_of, index_of}
+use Rattle.hp_model.specs.declared.labels.Handler.TheVariants.{Monarch as Monarchs}
+use Rattle.hp_model.specs.Labels.{handler_of, index_of}
 use Rattle.hp_model.specs.SharedBytes.{layout_of, arrived_byte}
 use Rattle.hp_model.specs.Monarch.{Monarch}
 use Rattle.hp_model.specs.Handlers.{Seat, want_at}
@@ -53,9 +54,9 @@ not_flag base k above = not_same (base + k == 0x3000c) (grind (arith, nat_tests)
 not_parked : (base k slot : ℕ) → k ≤ 512 → ((base + k == base + 0x3000 + slot) && true) ≡ false
 not_parked base k slot small = not_same (base + k == base + 0x3000 + slot) (grind (arith, nat_tests))
 
-pub row_loads : (p : Platform) (q : Seat) (r : Monarch) (ws : List Write) (apic base k : ℕ) (v : Event) (l : Label) → Sound p → k ≤ 512 → part_of l ≡ Monarchs → Met p r ws apic base l → IsWanted (want_at (layout_of p) q r l) v → makes_load p k v ≡ loads_at l r k
+pub row_loads : (p : Platform) (q : Seat) (r : Monarch) (ws : List Write) (apic base k : ℕ) (v : Event) (l : Label) → Sound p → k ≤ 512 → handler_of l ≡ Monarchs → Met p r ws apic base l → IsWanted (want_at (layout_of p) q r l) v → makes_load p k v ≡ loads_at l r k
 unfolding same_access
-row_loads p q r ws apic base k v l sound small mine met is = row_of_each (λ l. part_of l ≡ Monarchs → IsWanted (want_at (layout_of p) q r l) v → makes_load p k v ≡ loads_at l r k) (record {
+row_loads p q r ws apic base k v l sound small mine met is = row_of_each (λ l. handler_of l ≡ Monarchs → IsWanted (want_at (layout_of p) q r l) v → makes_load p k v ≡ loads_at l r k) (record {
   f1 = λ g w. absurd cc;
   f2 = λ g w. absurd cc;
   f3 = λ g w. absurd cc;

@@ -16,7 +16,9 @@ use Rattle.hp_model.specs.Platform.{tile, apic_of}
 use Rattle.hp_model.specs.Memory.{Write}
 use Rattle.hp_model.specs.Cpu.{is_in_smm, smm_address, may_take_smi}
 use Rattle.hp_model.specs.Boot.{Stage, Boots, Refused, Handed, is_handed, value_in}
-use Rattle.hp_model.specs.Labels.{Part, First, Relocated, Monarch as Monarchs, part_of}
+use Rattle.hp_model.specs.declared.labels.Handler.{Handler}
+use Rattle.hp_model.specs.declared.labels.Handler.TheVariants.{First, Relocated, Monarch as Monarchs}
+use Rattle.hp_model.specs.Labels.{handler_of}
 use Rattle.hp_model.specs.SharedBytes.{layout_of}
 use Rattle.hp_model.specs.Monarch.{Monarch, restarted}
 use Rattle.hp_model.specs.Handlers.{Seat, want_at, wanted_at, next_at, runs_at, address_of_label}
@@ -45,7 +47,7 @@ use Rattle.hp_safety.proofs.Marked.{at_none, at_other}
 
 -- at none of the monarch's labels
 abbrev pub IsElsewhere : Platform → Entry → Type 0
-IsElsewhere p e = (m : Label) → part_of m ≡ Monarchs → is_at p m e ≡ false
+IsElsewhere p e = (m : Label) → handler_of m ≡ Monarchs → is_at p m e ≡ false
 
 -- the event is what a row wants of processor 0, but for RSM
 abbrev pub IsWanted : Option Want → Event → Type 0
@@ -65,7 +67,7 @@ pub record IsOthers (p : Platform) (s : State) (e : Entry) (r : Monarch) : Type 
 -- a row of the monarch's
 pub record IsRow (p : Platform) (s : State) (e : Entry) (r : Monarch) : Type 0 where
   pub label : Label
-  pub side : part_of label ≡ Monarchs
+  pub side : handler_of label ≡ Monarchs
   pub here : s.monarch.label ≡ label
   pub place : e.at ≡ Some (address_of_label (tile p 0) label)
   pub wanted : IsWanted (want_at (layout_of p) (seat p s 0) s.monarch label) e.event
@@ -95,21 +97,21 @@ others_outside : (p : Platform) (s : State) (e : Entry) (r : Monarch) → e.at �
 others_outside p s e r place bound told out same = inl (record { elsewhere = λ m mine. at_none p m e place; bounds = bound; told = told; out = out; same = same })
 
 -- at E7 alone the monarch returns
-seven : (p : Platform) (q : Seat) (r : Monarch) (ws : List Write) (l : Label) → Met p r ws q.apic q.base l → part_of l ≡ Monarchs → is_rsm (want_at (layout_of p) q r l) ≡ true → l ≡ E7
-seven p q r ws l met mine is = row_of_each (λ l. part_of l ≡ Monarchs → is_rsm (want_at (layout_of p) q r l) ≡ true → l ≡ E7) (record { f1 = λ e f. absurd cc; f2 = λ e f. absurd cc; f3 = λ e f. absurd cc; f4 = λ e f. absurd cc; f5 = λ e f. absurd cc; f6 = λ e f. absurd cc; r1 = λ e f. absurd cc; r2 = λ e f. absurd cc; r3 = λ e f. absurd cc; r4 = λ e f. absurd cc; r5 = λ e f. absurd cc; r6 = λ e f. absurd cc; s0 = λ e f. absurd cc; s1 = λ e f. absurd cc; s2 = λ e f. absurd cc; s3 = λ e f. absurd cc; s4 = λ e f. absurd cc; c1 = λ e f. absurd cc; c2 = λ e f. absurd cc; c3 = λ e f. absurd cc; c4 = λ e f. absurd cc; c5 = λ e f. absurd cc; c6 = λ e f. absurd cc; nb = λ e f. absurd cc; n0 = λ e f. absurd cc; n1 = λ e f. absurd cc; n2 = λ e f. absurd cc; n3 = λ e f. absurd cc; n4 = λ e f. absurd cc; n5 = λ e f. absurd cc; n6 = λ e f. absurd cc; n7 = λ e f. absurd cc; n8a = λ e f. absurd cc; n8b = λ e f. absurd cc; n9 = λ e f. absurd cc; n10 = λ e f. absurd cc; n11 = λ e f. absurd cc; e0 = λ e f. absurd cc; e1 = λ e f. absurd cc; e2 = λ e f. absurd cc; e3 = λ e f. absurd cc; e4a = λ e f. absurd cc; e4b = λ e f. absurd cc; e4c = λ e f. absurd cc; e4d = λ e f. absurd cc; e4e = λ e f. absurd cc; e4f = λ e f. absurd cc; e4g = λ e f. absurd cc; e4h = λ e f. absurd cc; t = λ e f. absurd cc; e5 = λ e f. absurd cc; e6 = λ e f. absurd cc; e7 = λ e f. refl }) (facts_of p r ws q.apic q.base) l met mine is
+seven : (p : Platform) (q : Seat) (r : Monarch) (ws : List Write) (l : Label) → Met p r ws q.apic q.base l → handler_of l ≡ Monarchs → is_rsm (want_at (layout_of p) q r l) ≡ true → l ≡ E7
+seven p q r ws l met mine is = row_of_each (λ l. handler_of l ≡ Monarchs → is_rsm (want_at (layout_of p) q r l) ≡ true → l ≡ E7) (record { f1 = λ e f. absurd cc; f2 = λ e f. absurd cc; f3 = λ e f. absurd cc; f4 = λ e f. absurd cc; f5 = λ e f. absurd cc; f6 = λ e f. absurd cc; r1 = λ e f. absurd cc; r2 = λ e f. absurd cc; r3 = λ e f. absurd cc; r4 = λ e f. absurd cc; r5 = λ e f. absurd cc; r6 = λ e f. absurd cc; s0 = λ e f. absurd cc; s1 = λ e f. absurd cc; s2 = λ e f. absurd cc; s3 = λ e f. absurd cc; s4 = λ e f. absurd cc; c1 = λ e f. absurd cc; c2 = λ e f. absurd cc; c3 = λ e f. absurd cc; c4 = λ e f. absurd cc; c5 = λ e f. absurd cc; c6 = λ e f. absurd cc; nb = λ e f. absurd cc; n0 = λ e f. absurd cc; n1 = λ e f. absurd cc; n2 = λ e f. absurd cc; n3 = λ e f. absurd cc; n4 = λ e f. absurd cc; n5 = λ e f. absurd cc; n6 = λ e f. absurd cc; n7 = λ e f. absurd cc; n8a = λ e f. absurd cc; n8b = λ e f. absurd cc; n9 = λ e f. absurd cc; n10 = λ e f. absurd cc; n11 = λ e f. absurd cc; e0 = λ e f. absurd cc; e1 = λ e f. absurd cc; e2 = λ e f. absurd cc; e3 = λ e f. absurd cc; e4a = λ e f. absurd cc; e4b = λ e f. absurd cc; e4c = λ e f. absurd cc; e4d = λ e f. absurd cc; e4e = λ e f. absurd cc; e4f = λ e f. absurd cc; e4g = λ e f. absurd cc; e4h = λ e f. absurd cc; t = λ e f. absurd cc; e5 = λ e f. absurd cc; e6 = λ e f. absurd cc; e7 = λ e f. refl }) (facts_of p r ws q.apic q.base) l met mine is
 
 module _ (p : Platform) (m : List Write) (s : State) (k : ℕ) (l : Label) (sound : Sound p) (h : Invariant p m s) (here : AtRow p s k l) (e : Entry) (place : smm_address (at s k) ≡ e.at) where
   stands : e.at ≡ Some (address_of_label (at s k).smbase l)
   stands = sym place ∙ (here.is ∙ ap Some here.cell.here)
 
-  away : part_of l ≢ Monarchs → IsElsewhere p e
+  away : handler_of l ≢ Monarchs → IsElsewhere p e
   away other = λ m mine. at_other p l m e k (at s k).smbase sound here.cell.runs other stands mine
 
-  at_tile : part_of l ≡ Monarchs → e.at ≡ Some (address_of_label (tile p 0) l)
+  at_tile : handler_of l ≡ Monarchs → e.at ≡ Some (address_of_label (tile p 0) l)
   at_tile mine = stands ∙ ap (λ b. Some (address_of_label b l)) (eqb-true (at s k).smbase (tile p 0) (and_parts (k == 0) ((at s k).smbase == tile p 0) (subst (λ q. runs_at (layout_of p) q k (at s k).smbase ≡ true) mine here.cell.runs)).1)
 
   -- of processor 0
-  row_of : (v : ℕ) (r : Monarch) → part_of l ≡ Monarchs → IsWanted (want_at (layout_of p) (seat p s k) s.monarch l) e.event → value_in e.answer ≡ v → r ≡ (next_at (layout_of p) (seat p s k) s.monarch l v).monarch → MonarchStep p s e r
+  row_of : (v : ℕ) (r : Monarch) → handler_of l ≡ Monarchs → IsWanted (want_at (layout_of p) (seat p s k) s.monarch l) e.event → value_in e.answer ≡ v → r ≡ (next_at (layout_of p) (seat p s k) s.monarch l v).monarch → MonarchStep p s e r
   row_of v r mine wanted answer next =
       let z = row_first p s k l here mine in
       inr (inl (record {
@@ -122,7 +124,7 @@ module _ (p : Platform) (m : List Write) (s : State) (k : ℕ) (l : Label) (soun
         next = next ∙ (ap (λ x. (next_at (layout_of p) (seat p s k) s.monarch l x).monarch) (sym answer) ∙ ap (λ i. (next_at (layout_of p) (seat p s i) s.monarch l (value_in e.answer)).monarch) z);
       }))
 
-  not_zero : (q : Part) → q ≢ Monarchs → runs_at (layout_of p) q k (at s k).smbase ≡ true → k ≡ 0 → ⊥
+  not_zero : (q : Handler) → q ≢ Monarchs → runs_at (layout_of p) q k (at s k).smbase ≡ true → k ≡ 0 → ⊥
   not_zero First n runs z = absurd (let f : (not (0 == 0) && ((at s k).smbase == 0x30000)) ≡ true = subst (λ i. (not (i == 0) && ((at s k).smbase == 0x30000)) ≡ true) z runs in cc)
   not_zero Relocated n runs z = absurd (let f : runs_at (layout_of p) Relocated 0 (at s k).smbase ≡ true = subst (λ i. runs_at (layout_of p) Relocated i (at s k).smbase ≡ true) z runs in cc)
   not_zero Monarchs n runs z = absurd (n refl)
@@ -131,7 +133,7 @@ module _ (p : Platform) (m : List Write) (s : State) (k : ℕ) (l : Label) (soun
   steps_made a None event answer is leads f = absurd cc
   steps_made a (Some (want.Do b)) event answer is leads f =
       let same = same_access-equal a b f in
-      elim (is_monarchs (part_of l)) [
+      elim (is_monarchs (handler_of l)) [
         | inl mine ↦
             let z = row_first p s k l here mine in
             row_of (value_in (answer_to true a s)) (next_at (layout_of p) (seat p s k) s.monarch l (value_in (answer_to true a s))).monarch mine
@@ -140,7 +142,7 @@ module _ (p : Platform) (m : List Write) (s : State) (k : ℕ) (l : Label) (soun
           elsewhere = away other;
           bounds = ap bounds event;
           told = ap outcome_in event;
-          out = λ f. absurd (not_zero (part_of l) other here.cell.runs (eqb-true k 0 (sym (ap (is_access_of 0) event) ∙ f)));
+          out = λ f. absurd (not_zero (handler_of l) other here.cell.runs (eqb-true k 0 (sym (ap (is_access_of 0) event) ∙ f)));
           same = subst (λ c. (next_at (layout_of p) (seat p s k) s.monarch l (value_in (answer_to true c s))).monarch ≡ s.monarch) (sym same) (leads.others other);
         })
       ]
@@ -151,28 +153,28 @@ module _ (p : Platform) (m : List Write) (s : State) (k : ℕ) (l : Label) (soun
   steps_told o None z event answer is f = absurd cc
   steps_told o (Some (want.Do a)) z event answer is f = absurd cc
   steps_told o (Some (want.Tell t)) z event answer is f =
-      row_of 0 (next_at (layout_of p) (seat p s k) s.monarch l 0).monarch (first_runs (part_of l) here.cell.runs) (subst (λ w. IsWanted w e.event) (sym is) (event ∙ ap Tell (same_outcome-equal o t f))) (ap value_in answer) refl
+      row_of 0 (next_at (layout_of p) (seat p s k) s.monarch l 0).monarch (first_runs (handler_of l) here.cell.runs) (subst (λ w. IsWanted w e.event) (sym is) (event ∙ ap Tell (same_outcome-equal o t f))) (ap value_in answer) refl
     where
-      first_runs : (q : Part) → runs_at (layout_of p) q k (at s k).smbase ≡ true → q ≡ Monarchs
+      first_runs : (q : Handler) → runs_at (layout_of p) q k (at s k).smbase ≡ true → q ≡ Monarchs
       first_runs First runs = absurd (let f : (not (0 == 0) && ((at s k).smbase == 0x30000)) ≡ true = subst (λ i. (not (i == 0) && ((at s k).smbase == 0x30000)) ≡ true) z runs in cc)
       first_runs Relocated runs = absurd (let f : runs_at (layout_of p) Relocated 0 (at s k).smbase ≡ true = subst (λ i. runs_at (layout_of p) Relocated i (at s k).smbase ≡ true) z runs in cc)
       first_runs Monarchs runs = refl
   steps_told o (Some want.Resume) z event answer is f = absurd cc
 
   steps_rsm : e.event ≡ Resume k → is_rsm (want_at (layout_of p) (seat p s k) s.monarch l) ≡ true → MonarchStep p s e s.monarch
-  steps_rsm event wanted = elim (is_monarchs (part_of l)) [
+  steps_rsm event wanted = elim (is_monarchs (handler_of l)) [
     | inl mine ↦
         let z = row_first p s k l here mine in
         let is = seven p (seat p s k) s.monarch s.writes l here.cell.met mine wanted in
         inr (inr (inr (record { event = event ∙ ap Resume z; here = current_label_is s.monarch l here.cell.current mine ∙ is; place = at_tile mine ∙ ap (λ x. Some (address_of_label (tile p 0) x)) is; same = refl })))
-    | inr other ↦ inl (record { elsewhere = away other; bounds = ap bounds event ∙ not_first (part_of l) other here.cell.runs; told = ap outcome_in event; out = λ f. absurd (let both = sym (ap (is_access_of 0) event) ∙ f in cc); same = refl })
+    | inr other ↦ inl (record { elsewhere = away other; bounds = ap bounds event ∙ not_first (handler_of l) other here.cell.runs; told = ap outcome_in event; out = λ f. absurd (let both = sym (ap (is_access_of 0) event) ∙ f in cc); same = refl })
   ]
     where
       off : (c : Bool) → not c ≡ true → c ≡ false
       off true f = absurd cc
       off false f = refl
 
-      not_first : (q : Part) → q ≢ Monarchs → runs_at (layout_of p) q k (at s k).smbase ≡ true → (k == 0) ≡ false
+      not_first : (q : Handler) → q ≢ Monarchs → runs_at (layout_of p) q k (at s k).smbase ≡ true → (k == 0) ≡ false
       not_first First n runs = off (k == 0) (and_parts (not (k == 0)) ((at s k).smbase == 0x30000) runs).0
       not_first Relocated n runs = off (k == 0) (and_parts (not (k == 0)) _ runs).0
       not_first Monarchs n runs = absurd (n refl)

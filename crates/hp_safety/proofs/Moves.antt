@@ -20,7 +20,8 @@ use Rattle.hp_model.specs.Memory.{Write, byte_at, value_from, touched}
 use Rattle.hp_model.specs.View.{loaded}
 use Rattle.hp_model.specs.Cpu.{cpu_at, moved, inserted, take_smi, take_init, resumed, may_take_smi, is_outside, is_in_smm, smm_address}
 use Rattle.hp_model.specs.Boot.{Stage, Boots, Refused, Handed, is_handed, value_in}
-use Rattle.hp_model.specs.Labels.{First, Monarch as Monarchs, part_of, cell_of}
+use Rattle.hp_model.specs.declared.labels.Handler.TheVariants.{First, Monarch as Monarchs}
+use Rattle.hp_model.specs.Labels.{handler_of, cell_of}
 use Rattle.hp_model.specs.SharedBytes.{layout_of, gate, closed}
 use Rattle.hp_model.specs.SaveArea.{smbase_field, saved, saved_smbase, saved_rip}
 use Rattle.hp_model.specs.Monarch.{restarted}
@@ -68,7 +69,7 @@ calm_none c d (inl s) f = s.address ∙ f
 calm_none c d (inr g) f = ap smm_address g
 
 -- a row, where its answer has led it on
-moves_led : (p : Platform) (m : List Write) (s u : State) (e : Event) (k : ℕ) (l : Label) (n : Next) → Sound p → Invariant p m s → AtRow p s k l → Stays (at s k) (at u k) → ((j : ℕ) → Calm (at s j) (at u j)) → part_of n.label ≡ part_of l → (is_aloft (need_of n.label) ≡ true → (is_aloft (need_of l) ≡ true) ⊎ Passes p s e k) → IsShut u.writes ⊎ (((i : ℕ) → i < 8 → IsLeft (gate + i) s.writes u.writes) ⊎ Opens p s e u) → Moves p s e (with_next k (at s k).smbase n u)
+moves_led : (p : Platform) (m : List Write) (s u : State) (e : Event) (k : ℕ) (l : Label) (n : Next) → Sound p → Invariant p m s → AtRow p s k l → Stays (at s k) (at u k) → ((j : ℕ) → Calm (at s j) (at u j)) → handler_of n.label ≡ handler_of l → (is_aloft (need_of n.label) ≡ true → (is_aloft (need_of l) ≡ true) ⊎ Passes p s e k) → IsShut u.writes ⊎ (((i : ℕ) → i < 8 → IsLeft (gate + i) s.writes u.writes) ⊎ Opens p s e u) → Moves p s e (with_next k (at s k).smbase n u)
 moves_led p m s u e k l n sound h here stays calm side climbs gates =
     let b = (at s k).smbase in
     let t = with_next k b n u in
@@ -77,7 +78,7 @@ moves_led p m s u e k l n sound h here stays calm side climbs gates =
     let to : Cpu = moved (address_of_label b n.label) n.base (at u k) in
     let goes : moved_in_smm b n (at u k) ≡ to = rw (smm_stands (at u k) here.address address) refl in
     let lands : smm_address to ≡ Some (address_of_label b n.label) = rw present refl in
-    let runs : runs_at (layout_of p) (part_of n.label) k b ≡ true = rw side here.cell.runs in
+    let runs : runs_at (layout_of p) (handler_of n.label) k b ≡ true = rw side here.cell.runs in
     record {
       comes = λ j f. inl (set_all (λ i c. c.present ≡ true → (at s i).present ≡ true) u.cpus k (moved_in_smm b n (at u k)) (λ g. absurd cc) (λ g. sym stays.present ∙ present) (λ i other g. (calm_stays (at s i) (at u i) (calm i) g).present) j f);
       changes = λ j f g. inl (set_all (λ i c. c.present ≡ true → c.smbase ≡ (at s i).smbase) u.cpus k (moved_in_smm b n (at u k)) (λ g. absurd cc) (λ g. ap (λ (c : Cpu). c.smbase) goes ∙ stays.smbase) (λ i other g. (calm_stays (at s i) (at u i) (calm i) g).smbase) j g);
@@ -92,15 +93,15 @@ moves_led p m s u e k l n sound h here stays calm side climbs gates =
     }
 
 -- a row's access, made: at F1 the gate may be passed, at N7 it is opened
-row_place : (p : Platform) (s : State) (k : ℕ) (l m : Label) → AtRow p s k l → l ≡ m → part_of m ≡ First → smm_address (at s k) ≡ Some (cell_of p m 0)
+row_place : (p : Platform) (s : State) (k : ℕ) (l m : Label) → AtRow p s k l → l ≡ m → handler_of m ≡ First → smm_address (at s k) ≡ Some (cell_of p m 0)
 row_place p s k l m here is first =
-    let runs : runs_at (layout_of p) First k (at s k).smbase ≡ true = subst (λ q. runs_at (layout_of p) q k (at s k).smbase ≡ true) (ap part_of is ∙ first) here.cell.runs in
+    let runs : runs_at (layout_of p) First k (at s k).smbase ≡ true = subst (λ q. runs_at (layout_of p) q k (at s k).smbase ≡ true) (ap handler_of is ∙ first) here.cell.runs in
     let base : (at s k).smbase ≡ 0x30000 = eqb-true (at s k).smbase 0x30000 (and_parts (not (k == 0)) ((at s k).smbase == 0x30000) runs).1 in
     here.is ∙ ap Some (here.cell.here ∙ (ap (address_of_label (at s k).smbase) is ∙ rw (base, first) refl))
 
-monarch_place : (p : Platform) (s : State) (k : ℕ) (l m : Label) → AtRow p s k l → l ≡ m → part_of m ≡ Monarchs → (k ≡ 0) × (smm_address (at s k) ≡ Some (cell_of p m 0))
+monarch_place : (p : Platform) (s : State) (k : ℕ) (l m : Label) → AtRow p s k l → l ≡ m → handler_of m ≡ Monarchs → (k ≡ 0) × (smm_address (at s k) ≡ Some (cell_of p m 0))
 monarch_place p s k l m here is mine =
-    let runs : runs_at (layout_of p) Monarchs k (at s k).smbase ≡ true = subst (λ q. runs_at (layout_of p) q k (at s k).smbase ≡ true) (ap part_of is ∙ mine) here.cell.runs in
+    let runs : runs_at (layout_of p) Monarchs k (at s k).smbase ≡ true = subst (λ q. runs_at (layout_of p) q k (at s k).smbase ≡ true) (ap handler_of is ∙ mine) here.cell.runs in
     let parts = and_parts (k == 0) ((at s k).smbase == tile p 0) runs in
     let base = eqb-true (at s k).smbase (tile p 0) parts.1 in
     (eqb-true k 0 parts.0, here.is ∙ ap Some (here.cell.here ∙ (ap (address_of_label (at s k).smbase) is ∙ rw (base, mine) refl)))
@@ -145,7 +146,7 @@ module _ (p : Platform) (m : List Write) (s : State) (k : ℕ) (l : Label) (soun
       record {
         event = rw (there.0, store) refl;
         place = subst (λ i. smm_address (at s i) ≡ Some (cell_of p N7 0)) there.0 there.1;
-        label = current_label_is s.monarch l here.cell.current (ap part_of seven) ∙ seven;
+        label = current_label_is s.monarch l here.cell.current (ap handler_of seven) ∙ seven;
         value = value;
         written = written;
       }

@@ -2,7 +2,8 @@
 use Rattle.std.specs.Prelude.{ℕ, ◌≡◌, ◌<◌, ◌≤◌, Bool, true, false}
 use Rattle.hp_model.specs.declared.labels.Label.{Label}
 use Rattle.hp_model.specs.declared.labels.Label.TheVariants.{F1, F2, F3, F4, F5, F6, R1, R2, R3, R4, R5, R6, S0, S1, S2, S3, S4, C1, C2, C3, C4, C5, C6, NB, N0, N1, N2, N3, N4, N5, N6, N7, N8a, N8b, N9, N10, N11, E0, E1, E2, E3, E4a, E4b, E4c, E4d, E4e, E4f, E4g, E4h, T, E5, E6, E7}
-use Rattle.hp_model.specs.Labels.{Part, First, Relocated, Monarch}
+use Rattle.hp_model.specs.declared.labels.Handler.{Handler}
+use Rattle.hp_model.specs.declared.labels.Handler.TheVariants.{First, Relocated, Monarch}
 
 pub data Need : Type 0 where
   Nothing : Need
@@ -149,7 +150,7 @@ MonarchNeeds f Open = IsSlot f.count f.slot × (f.adds ≡ true) × (f.ready ≡
 MonarchNeeds f Looking = IsSlot f.count f.slot × (f.adds ≡ true)
 MonarchNeeds f Telling = Unit {0}
 
-abbrev pub Needs : Facts → Part → Need → Type 0
+abbrev pub Needs : Facts → Handler → Need → Type 0
 Needs f First n = FirstNeeds f n
 Needs f Relocated n = Unit {0}
 Needs f Monarch n = MonarchNeeds f n

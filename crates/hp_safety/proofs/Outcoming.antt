@@ -15,11 +15,13 @@ use Rattle.hp_model.specs.declared.entries.Entry.{Entry}
 use Rattle.hp_model.specs.Platform.{tile, count_of, apic_of}
 use Rattle.hp_model.specs.Cpu.{smm_address}
 use Rattle.hp_model.specs.Boot.{value_in}
-use Rattle.hp_model.specs.Labels.{Monarch as Monarchs, part_of, index_of}
+use Rattle.hp_model.specs.declared.labels.Handler.TheVariants.{Monarch as Monarchs}
+use Rattle.hp_model.specs.Labels.{handler_of, index_of}
 use Rattle.hp_model.specs.SharedBytes.{layout_of}
 use Rattle.hp_model.specs.Slots.{is_known as known_in, slot_among}
-use Rattle.hp_model.specs.Collection.{Report}
-use Rattle.hp_model.specs.Monarch.{Monarch, Decision, decision, facts_of as facts_by, next_report, after_tell}
+use Rattle.hp_model.specs.declared.reports.Report.{Report}
+use Rattle.hp_model.specs.declared.reports.Decision.{Decision}
+use Rattle.hp_model.specs.Monarch.{Monarch, decision, facts_of as facts_by, next_report, after_tell}
 use Rattle.hp_model.specs.Handlers.{want_at, next_at}
 use Rattle.hp_model.specs.State.{State, at}
 use Rattle.hp_model.specs.Firmware.{seat}
@@ -116,7 +118,7 @@ module _ (p : Platform) (past : List Transition) (s t : State) (e : Entry) (fit 
         let none : is_at p N7 e ≡ false = at_monarch p w.label N7 e (tile p 0) refl w.place refl ∙ (ap (λ y. index_of y == 19) is ∙ not) in
         bound_step p es e ∙ rw none refl
 
-    at_label : (m : Label) → part_of m ≡ Monarchs → is_at p m e ≡ (index_of w.label == index_of m)
+    at_label : (m : Label) → handler_of m ≡ Monarchs → is_at p m e ≡ (index_of w.label == index_of m)
     at_label m mine = at_monarch p w.label m e (tile p 0) refl w.place mine
 
     says : outcome_in e.event ≡ (if index_of w.label == 34 then Some r.outcome else None)

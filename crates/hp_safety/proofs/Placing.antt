@@ -9,7 +9,7 @@ use Rattle.hp_model.specs.declared.platforms.Platform.{Platform}
 use Rattle.hp_model.specs.Platform.{all_distinct, count_of, apic_of}
 use Rattle.hp_model.specs.Block.{is_in}
 use Rattle.hp_model.specs.Slots.{Slots, slot_among, bind, completed, forgotten}
-use Rattle.hp_model.specs.Collection.{Report}
+use Rattle.hp_model.specs.declared.reports.Report.{Report}
 use Rattle.hp_model.specs.Monarch.{is_that, is_own}
 use Rattle.hp_model.proofs.Counts.{pigeons, place_below}
 use Rattle.hp_sealed.specs.Left.{Sound}

@@ -12,7 +12,8 @@ use Rattle.hp_model.specs.Platform.{tseg, tile}
 use Rattle.hp_model.specs.Memory.{Write, byte_at, value_from}
 use Rattle.hp_model.specs.View.{loaded, stored, swapped}
 use Rattle.hp_model.specs.Boot.{value_in}
-use Rattle.hp_model.specs.Labels.{Monarch as Monarchs, part_of}
+use Rattle.hp_model.specs.declared.labels.Handler.TheVariants.{Monarch as Monarchs}
+use Rattle.hp_model.specs.Labels.{handler_of}
 use Rattle.hp_model.specs.SharedBytes.{layout_of, gate, closed, new_smbase, default_smbase_field, flag, arrived_byte, release_byte, map_byte, parked_byte, session_byte}
 use Rattle.hp_model.specs.Slots.{known_from, slot_among}
 use Rattle.hp_model.specs.Collection.{found, judged, reported}
@@ -44,16 +45,16 @@ pub record Arriving (r : Monarch) (q : Seat) (l : Label) : Type 0 where
 
 -- to a label of the same handler that is due, and has what it needs in memory ws; only the monarch's rows change its record
 pub record Leads (p : Platform) (was : Bool) (ws : List Write) (r : Monarch) (q : Seat) (l : Label) (n : Next) : Type 0 where
-  pub side : part_of n.label ≡ part_of l
-  pub current : part_of l ≡ Monarchs → n.monarch.label ≡ n.label
-  pub others : part_of l ≢ Monarchs → n.monarch ≡ r
+  pub side : handler_of n.label ≡ handler_of l
+  pub current : handler_of l ≡ Monarchs → n.monarch.label ≡ n.label
+  pub others : handler_of l ≢ Monarchs → n.monarch ≡ r
   pub met : Met p n.monarch ws q.apic n.base n.label
   pub gated : IsGated p n.monarch ws
   pub follows : Follows p was r.slots n.monarch.slot n.monarch.slots
   pub settled : is_settled p n.monarch ws ≡ true → (was ≡ true) ⊎ Arriving r q l
   pub climbs : is_aloft (need_of n.label) ≡ true → (is_aloft (need_of l) ≡ true) ⊎ ((l ≡ F1) × (is_open (need_of r.label) ≡ true))
 
-mine : (p : Platform) (was : Bool) (ws : List Write) (r t : Monarch) (l : Label) (q : Seat) → part_of l ≡ Monarchs → Arrives p was r.slots ws q.apic q.base t → Leads p was ws r q l (by_record q t)
+mine : (p : Platform) (was : Bool) (ws : List Write) (r t : Monarch) (l : Label) (q : Seat) → handler_of l ≡ Monarchs → Arrives p was r.slots ws q.apic q.base t → Leads p was ws r q l (by_record q t)
 mine p was ws r t l q is h = record {
   side = h.side ∙ sym is;
   current = λ e. refl;
@@ -65,7 +66,7 @@ mine p was ws r t l q is h = record {
   climbs = λ e. absurd (let both = sym (aloft_first t.label e) ∙ h.side in cc);
 }
 
-theirs : (p : Platform) (was : Bool) (ws : List Write) (r : Monarch) (l m : Label) (q : Seat) (base : ℕ) → part_of m ≡ part_of l → (part_of l ≡ Monarchs → ⊥) → Met p r ws q.apic base m → IsGated p r ws → Follows p was r.slots r.slot r.slots → (is_settled p r ws ≡ true → (was ≡ true) ⊎ Arriving r q l) → (is_aloft (need_of m) ≡ true → is_aloft (need_of l) ≡ true) → Leads p was ws r q l (record { label = m; base = base; monarch = r })
+theirs : (p : Platform) (was : Bool) (ws : List Write) (r : Monarch) (l m : Label) (q : Seat) (base : ℕ) → handler_of m ≡ handler_of l → (handler_of l ≡ Monarchs → ⊥) → Met p r ws q.apic base m → IsGated p r ws → Follows p was r.slots r.slot r.slots → (is_settled p r ws ≡ true → (was ≡ true) ⊎ Arriving r q l) → (is_aloft (need_of m) ≡ true → is_aloft (need_of l) ≡ true) → Leads p was ws r q l (record { label = m; base = base; monarch = r })
 theirs p was ws r l m q base same not met gated follows settled climbs = record { side = same; current = λ e. absurd (not e); others = λ e. refl; met = met; gated = gated; follows = follows; settled = settled; climbs = λ e. inl (climbs e) }
 
 abbrev pub LeadsOn : Platform → ℕ → State → Seat → Monarch → Label → Option Want → Type 0
@@ -184,7 +185,7 @@ module _ (p : Platform) (k : ℕ) (s : State) (q : Seat) (r : Monarch) (sound : 
   reads_arrived : r.add.slot ≤ 512 → loaded s.locks true (byte_at s.writes) (tseg p + r.add.slot) 1 ≡ value_from (byte_at s.writes) (tseg p + r.add.slot) 1
   reads_arrived small = let reach = reach_arrived p s.locks r.add.slot sound locks small in rw reach refl
 
-  pub row_leads : q.apic ≤ 0xffffffff → q.slot ≤ 512 → (l : Label) → (part_of l ≡ Monarchs → r.label ≡ l) → Met p r s.writes q.apic q.base l → LeadsOn p k s q r l (want_at (layout_of p) q r l)
+  pub row_leads : q.apic ≤ 0xffffffff → q.slot ≤ 512 → (l : Label) → (handler_of l ≡ Monarchs → r.label ≡ l) → Met p r s.writes q.apic q.base l → LeadsOn p k s q r l (want_at (layout_of p) q r l)
   row_leads apic small l is met =
       let y = layout_of p in
       let w = is_settled p r s.writes in
@@ -192,8 +193,8 @@ module _ (p : Platform) (k : ℕ) (s : State) (q : Seat) (r : Monarch) (sound : 
       let slot = recorded.0 in
       let shared = λ (a v : ℕ) (low : tseg p + 0x1000 ≤ a) (high : a < tseg p + 0x5000). leaves_shared p s.locks s.writes a v sound low high in
       let byte = λ (a : ℕ). loaded s.locks true (byte_at s.writes) a 1 in
-      let next = λ (l m : Label) (side : part_of m ≡ part_of l) (other : part_of l ≡ Monarchs → ⊥) (met : Met p r s.writes q.apic q.base m) (climbs : is_aloft (need_of m) ≡ true → is_aloft (need_of l) ≡ true). theirs p w s.writes r l m q q.base side other met gated follow (λ f. inl f) climbs in
-      row_of_each (λ l. (part_of l ≡ Monarchs → r.label ≡ l) → Met p r s.writes q.apic q.base l → LeadsOn p k s q r l (want_at y q r l)) (record {
+      let next = λ (l m : Label) (side : handler_of m ≡ handler_of l) (other : handler_of l ≡ Monarchs → ⊥) (met : Met p r s.writes q.apic q.base m) (climbs : is_aloft (need_of m) ≡ true → is_aloft (need_of l) ≡ true). theirs p w s.writes r l m q q.base side other met gated follow (λ f. inl f) climbs in
+      row_of_each (λ l. (handler_of l ≡ Monarchs → r.label ≡ l) → Met p r s.writes q.apic q.base l → LeadsOn p k s q r l (want_at y q r l)) (record {
         f1 = λ e m. passes apic;
         f2 = λ e m. theirs p w s.writes r F2 F3 q (loaded s.locks true (byte_at s.writes) new_smbase 4) refl (λ g. cc) (m.0, loads_ready m.1) gated follow (λ f. inl f) (λ f. f);
         f3 = λ e m. let tile_is = eqb-true q.base (held_tile p r.slots) m.1 in

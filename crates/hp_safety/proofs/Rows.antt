@@ -11,7 +11,8 @@ use Rattle.hp_model.specs.Platform.{tseg, tile, count_of, apic_of, high_half}
 use Rattle.hp_model.specs.Memory.{Write, byte_at, value_from}
 use Rattle.hp_model.specs.View.{loaded, stored}
 use Rattle.hp_model.specs.Interrupts.{decoded}
-use Rattle.hp_model.specs.Labels.{Monarch as Monarchs, part_of}
+use Rattle.hp_model.specs.declared.labels.Handler.TheVariants.{Monarch as Monarchs}
+use Rattle.hp_model.specs.Labels.{handler_of}
 use Rattle.hp_model.specs.SharedBytes.{layout_of, gate, closed, release_byte, map_byte, parked_byte, session_byte}
 use Rattle.hp_model.specs.Slots.{Slots, slot_among}
 use Rattle.hp_model.specs.Monarch.{Monarch, is_that}
@@ -160,11 +161,11 @@ module _ (p : Platform) (k : ℕ) (s : State) (q : Seat) (r : Monarch) where
         e7 = λ m. tt;
       }) (facts_of p r s.writes q.apic q.base) l met met
 
-  pub row_spares : (l : Label) → (part_of l ≡ Monarchs → k ≡ 0) → Met p r s.writes q.apic q.base l → Spares p k s (want_at (layout_of p) q r l)
+  pub row_spares : (l : Label) → (handler_of l ≡ Monarchs → k ≡ 0) → Met p r s.writes q.apic q.base l → Spares p k s (want_at (layout_of p) q r l)
   row_spares l first met =
       let same : Stays (at s k) (at s k) = stays_same (at s k) in
       let sends = λ (high low : ℕ). stays_sent (decoded p.x2apic high low) (apic_of p k) p.apic s.cpus k in
-      row_of_each (λ l. (part_of l ≡ Monarchs → k ≡ 0) → Spares p k s (want_at (layout_of p) q r l)) (record {
+      row_of_each (λ l. (handler_of l ≡ Monarchs → k ≡ 0) → Spares p k s (want_at (layout_of p) q r l)) (record {
         f1 = λ z. same;
         f2 = λ z. same;
         f3 = λ z. same;

@@ -6,7 +6,7 @@ use Rattle.hp_model.specs.declared.entries.Entry.{Entry}
 use Rattle.hp_model.specs.declared.entries.Event.{Event}
 use Rattle.hp_model.specs.Platform.{apic_of}
 use Rattle.hp_model.specs.Memory.{Write}
-use Rattle.hp_model.specs.Labels.{part_of}
+use Rattle.hp_model.specs.Labels.{handler_of}
 use Rattle.hp_model.specs.Monarch.{Monarch}
 use Rattle.hp_model.specs.State.{State, at}
 use Rattle.hp_model.specs.Step.{After, step}
@@ -40,7 +40,7 @@ pub rebase : (p : Platform) (m : List Write) (s : State) → Sound p → Invaria
 rebase p m s fit h = record {
   handed = h.handed;
   locked = record {
-    marks = λ l k b runs. value_left 4 _ m s.writes (λ i small. h.locked.kept _ (kept_cell p l (part_of l) k b i fit refl runs small)) ∙ h.locked.marks l k b runs;
+    marks = λ l k b runs. value_left 4 _ m s.writes (λ i small. h.locked.kept _ (kept_cell p l (handler_of l) k b i fit refl runs small)) ∙ h.locked.marks l k b runs;
     registers = h.locked.registers;
     kept = λ x e. left_same x s.writes;
   };

@@ -6,13 +6,18 @@ use Rattle.hp_model.specs.declared.outcomes.Outcome.TheVariants as outcome
 use Rattle.hp_model.specs.declared.outcomes.Refusal.TheVariants.{Foreign, Disabled, Both, AlreadyKnown, GateHeld, NoUnplug, NotKnown, NotArrived, NotAtGate, NotCheckedIn, NotParked, StillPending}
 use Rattle.hp_model.specs.declared.labels.Label.{Label}
 use Rattle.hp_model.specs.declared.labels.Label.TheVariants.{F1, R1, R2, R3, R4, R5, R6, S0, S1, S2, S3, S4, C1, C2, C3, C4, C5, C6, NB, N0, N8a, N8b, N9, N10, N11, E3, E4a, E4c, E4f, E4h, E5, E6, E7}
-use Rattle.hp_model.specs.Labels.{Monarch as Monarchs, part_of}
+use Rattle.hp_model.specs.declared.labels.Handler.TheVariants.{Monarch as Monarchs}
+use Rattle.hp_model.specs.Labels.{handler_of}
 use Rattle.hp_model.specs.SharedBytes.{Layout}
 use Rattle.hp_model.specs.Slots.{known_from}
-use Rattle.hp_model.specs.Collection.{Report, Collection, CollectsAt, CollectEnds, next_processor, found, judged, reported, collection_start}
+use Rattle.hp_model.specs.declared.reports.Report.{Report}
+use Rattle.hp_model.specs.Collection.{Collection, CollectsAt, CollectEnds, next_processor, found, judged, reported, collection_start}
 use Rattle.hp_model.specs.Add.{AddsAt, Ends, failed, looks, is_last_look, saw_flag, saw_pair, shut, saw_arrival}
 use Rattle.hp_model.specs.Eject.{EjectsAt, EjectEnds, awaits, saw_parked, handed_to_block, saw_status}
-use Rattle.hp_model.specs.Monarch.{Monarch, at_label, first_slot, next_slot, look_at, looked, noted, commanded, Decision, ToTell, ToAdd, ToEject, refuses, Facts as Tests, held_decision, insert_decision, eject_decision, decision, facts_of as facts_by, at_tell, took, answered, taken_up, next_report, after_collection, after_add, after_eject, after_tell}
+use Rattle.hp_model.specs.declared.reports.Facts.{Facts as Tests}
+use Rattle.hp_model.specs.declared.reports.Decision.{Decision}
+use Rattle.hp_model.specs.declared.reports.Decision.TheVariants.{Tell as ToTell, Add as ToAdd, Eject as ToEject}
+use Rattle.hp_model.specs.Monarch.{Monarch, at_label, first_slot, next_slot, look_at, looked, noted, commanded, refuses, held_decision, insert_decision, eject_decision, decision, facts_of as facts_by, at_tell, took, answered, taken_up, next_report, after_collection, after_add, after_eject, after_tell}
 use Rattle.hp_model.specs.Account.{told_held}
 use Rattle.hp_model.specs.Handlers.{Seat, next_at}
 use Rattle.hp_sealed.proofs.Left.{pick}
@@ -229,10 +234,10 @@ tally_told_on ids (outcome.Ejected cpu apic slot) A r h = tally_said ids (outcom
 tally_told_on ids (outcome.Refused why) A r h = tally_said ids (outcome.Refused why) A r (after_tell (outcome.Refused why) r) h.report refl refl h.left h.is
 
 -- each row
-pub row_tally : (A : Tally) (y : Layout) (q : Seat) (r : Monarch) (v : ℕ) (f : Facts) (l : Label) → part_of l ≡ Monarchs → (part_of l ≡ Monarchs → r.label ≡ l) → Needs f (part_of l) (need_of l) → TallyAt A r (turn_of l)
+pub row_tally : (A : Tally) (y : Layout) (q : Seat) (r : Monarch) (v : ℕ) (f : Facts) (l : Label) → handler_of l ≡ Monarchs → (handler_of l ≡ Monarchs → r.label ≡ l) → Needs f (handler_of l) (need_of l) → TallyAt A r (turn_of l)
     → Tallied (tally_after l (record { cpu = r.collection.cpu; status = r.collection.status; apic = v }) r.outcome A) (next_at y q r l v).monarch
 row_tally A y q r v f l mine is met tally =
-    row_of_each (λ l. part_of l ≡ Monarchs → (part_of l ≡ Monarchs → r.label ≡ l) → TallyAt A r (turn_of l) → Tallied (tally_after l (record { cpu = r.collection.cpu; status = r.collection.status; apic = v }) r.outcome A) (next_at y q r l v).monarch)
+    row_of_each (λ l. handler_of l ≡ Monarchs → (handler_of l ≡ Monarchs → r.label ≡ l) → TallyAt A r (turn_of l) → Tallied (tally_after l (record { cpu = r.collection.cpu; status = r.collection.status; apic = v }) r.outcome A) (next_at y q r l v).monarch)
     (record {
       f1 = λ g e h. absurd cc;
       f2 = λ g e h. absurd cc;

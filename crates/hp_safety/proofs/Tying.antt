@@ -12,13 +12,17 @@ use Rattle.hp_model.specs.declared.outcomes.Refusal.TheVariants.{NotAtGate, NotC
 use Rattle.hp_model.specs.declared.labels.Label.{Label}
 use Rattle.hp_model.specs.declared.labels.Label.TheVariants.{S1, S2, S3, C1, C4, C5, N0, N7, N8a, N8b, N9, N10, N11, E3, E4a, E4c, E4f, E4h, E5, E6, E7}
 use Rattle.hp_model.specs.Block.{is_in}
-use Rattle.hp_model.specs.Labels.{Monarch as Monarchs, part_of, index_of}
+use Rattle.hp_model.specs.declared.labels.Handler.TheVariants.{Monarch as Monarchs}
+use Rattle.hp_model.specs.Labels.{handler_of, index_of}
 use Rattle.hp_model.specs.SharedBytes.{Layout}
 use Rattle.hp_model.specs.Slots.{Slots, known_from}
-use Rattle.hp_model.specs.Collection.{Report, Collection, CollectsAt, CollectEnds, next_processor, found, judged, reported, collection_start}
+use Rattle.hp_model.specs.declared.reports.Report.{Report}
+use Rattle.hp_model.specs.Collection.{Collection, CollectsAt, CollectEnds, next_processor, found, judged, reported, collection_start}
 use Rattle.hp_model.specs.Add.{Add, AddsAt, Ends, failed, looks, is_last_look, saw_flag, saw_pair, shut, saw_arrival}
 use Rattle.hp_model.specs.Eject.{Eject, EjectsAt, awaits, saw_parked, handed_to_block, saw_status}
-use Rattle.hp_model.specs.Monarch.{Monarch, at_label, first_slot, next_slot, look_at, looked, noted, commanded, Decision, ToTell, ToAdd, ToEject, decision, facts_of as facts_by, adds, took, answered, taken_up, next_report, after_collection, after_add, after_eject, after_tell}
+use Rattle.hp_model.specs.declared.reports.Decision.{Decision}
+use Rattle.hp_model.specs.declared.reports.Decision.TheVariants.{Tell as ToTell, Add as ToAdd, Eject as ToEject}
+use Rattle.hp_model.specs.Monarch.{Monarch, at_label, first_slot, next_slot, look_at, looked, noted, commanded, decision, facts_of as facts_by, adds, took, answered, taken_up, next_report, after_collection, after_add, after_eject, after_tell}
 use Rattle.hp_model.specs.Handlers.{Seat, next_at}
 use Rattle.hp_model.specs.Account.{with_bound}
 use Rattle.hp_model.specs.Smbases.{is_insert_of}
@@ -227,9 +231,9 @@ session_after l v s =
       reports = reports_at (index_of l == 10) (record { cpu = s.cpu; status = s.status; apic = v }) s.reports;
     }
 
-pub row_ties : (B : List ℕ) (S : Session) (y : Layout) (q : Seat) (r : Monarch) (v : ℕ) (f : Facts) (l : Label) → part_of l ≡ Monarchs → (part_of l ≡ Monarchs → r.label ≡ l) → ((is_adding r ≡ true) → is_in r.add.apic r.slots.bound ≡ true) → f.adds ≡ is_adding r → Needs f (part_of l) (need_of l) → TiedAt B S r (tie_of l) → Tied (bound_after l r.add.apic B) (session_after l v S) (next_at y q r l v).monarch
+pub row_ties : (B : List ℕ) (S : Session) (y : Layout) (q : Seat) (r : Monarch) (v : ℕ) (f : Facts) (l : Label) → handler_of l ≡ Monarchs → (handler_of l ≡ Monarchs → r.label ≡ l) → ((is_adding r ≡ true) → is_in r.add.apic r.slots.bound ≡ true) → f.adds ≡ is_adding r → Needs f (handler_of l) (need_of l) → TiedAt B S r (tie_of l) → Tied (bound_after l r.add.apic B) (session_after l v S) (next_at y q r l v).monarch
 row_ties B S y q r v f l mine is held adds_is met tied =
-    row_of_each (λ l. part_of l ≡ Monarchs → (part_of l ≡ Monarchs → r.label ≡ l) → Needs f (part_of l) (need_of l) → TiedAt B S r (tie_of l) → Tied (bound_after l r.add.apic B) (session_after l v S) (next_at y q r l v).monarch)
+    row_of_each (λ l. handler_of l ≡ Monarchs → (handler_of l ≡ Monarchs → r.label ≡ l) → Needs f (handler_of l) (need_of l) → TiedAt B S r (tie_of l) → Tied (bound_after l r.add.apic B) (session_after l v S) (next_at y q r l v).monarch)
     (record {
       f1 = λ g e m h. absurd cc;
       f2 = λ g e m h. absurd cc;
@@ -286,5 +290,5 @@ row_ties B S y q r v f l mine is held adds_is met tied =
       e7 = λ g e m h. subst (λ x. TiedAt B S r (tie_of x)) (sym (e refl)) h;
     }) f l met mine is met tied
   where
-    own : Needs f (part_of N7) (need_of N7) → is_in r.add.apic r.slots.bound ≡ true
+    own : Needs f (handler_of N7) (need_of N7) → is_in r.add.apic r.slots.bound ≡ true
     own m = held (sym adds_is ∙ m.1)

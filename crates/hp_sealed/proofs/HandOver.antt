@@ -20,7 +20,8 @@ use Rattle.hp_sealed.specs.HandOver.{WasSealed}
 use Rattle.hp_sealed.proofs.Left.{left_same, left_then}
 use Rattle.hp_sealed.proofs.Starts.{sound, starts}
 use Rattle.hp_sealed.proofs.Goes.{stepped, boot_goes, boot_leaves, refused_goes}
-use Rattle.hp_sealed.proofs.Runs.{made, run_more, run_rest, first_step, run_keeps}
+use Rattle.hp_model.proofs.Scheduled.{run_from-more}
+use Rattle.hp_sealed.proofs.Runs.{made, run_rest, first_step, run_keeps}
 
 -- not handed over yet
 abbrev pub IsBefore : Platform → State → Type 0
@@ -148,7 +149,7 @@ module _ (p : Platform) (fits : IsFit p) where
   untouched_more es s t e x h is on = λ before since u split here locked. elim (snoc_parts es before since e split) [
     | inl none ↦
         let whole : es ++ e ∷ [] ≡ before = split ∙ (ap (λ ys. before ++ ys) none ∙ append-nil before) in
-        let same : t ≡ u = same_Some t u (sym (run_more p (start p) s t es e is on) ∙ (ap (run_from p (start p)) whole ∙ here)) in
+        let same : t ≡ u = same_Some t u (sym (run_from-more p es e (start p) s t is on) ∙ (ap (run_from p (start p)) whole ∙ here)) in
         ap (λ (v : State). touched v.writes x) same
     | inr some ↦
         let leaves = run_leaves es before some.0 s u (before_unhanded p s h) is some.1 here in
@@ -170,7 +171,7 @@ module _ (p : Platform) (fits : IsFit p) where
         split = refl;
         before = is;
         boots = before_unhanded p s h;
-        after = run_more p (start p) s t es e is on;
+        after = run_from-more p es e (start p) s t is on;
         sealed = z;
         untouched = λ x. untouched_more es s t e x h is on;
       },

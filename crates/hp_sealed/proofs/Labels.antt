@@ -3,11 +3,12 @@ use Rattle.std.proofs.Common.{◌≡◌, ◌==◌, true, refl}
 use Rattle.std.specs.List.{list_any}
 use Rattle.hp_model.specs.declared.labels.Label.{Label}
 use Rattle.hp_model.specs.declared.labels.Label.TheVariants.{F1, F2, F3, F4, F5, F6, R1, R2, R3, R4, R5, R6}
-use Rattle.hp_model.specs.Labels.{Relocated, Monarch, part_of, mark_of}
+use Rattle.hp_model.specs.declared.labels.Handler.TheVariants.{Relocated, Monarch}
+use Rattle.hp_model.specs.Labels.{handler_of, mark_of}
 use Rattle.hp_model.specs.Image.{relocated_labels, monarch_labels}
 
 -- each label of a tile's handler is in the list whose marks the image holds
-pub among_relocated : (l : Label) → part_of l ≡ Relocated → list_any (λ m. mark_of m == mark_of l) relocated_labels ≡ true
+pub among_relocated : (l : Label) → handler_of l ≡ Relocated → list_any (λ m. mark_of m == mark_of l) relocated_labels ≡ true
 among_relocated R1 e = refl
 among_relocated R2 e = refl
 among_relocated R3 e = refl
@@ -16,7 +17,7 @@ among_relocated R5 e = refl
 among_relocated R6 e = refl
 among_relocated _ e = absurd cc
 
-pub among_monarch : (l : Label) → part_of l ≡ Monarch → list_any (λ m. mark_of m == mark_of l) monarch_labels ≡ true
+pub among_monarch : (l : Label) → handler_of l ≡ Monarch → list_any (λ m. mark_of m == mark_of l) monarch_labels ≡ true
 among_monarch F1 e = absurd cc
 among_monarch F2 e = absurd cc
 among_monarch F3 e = absurd cc

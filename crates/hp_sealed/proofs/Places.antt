@@ -8,7 +8,9 @@ use Rattle.hp_model.specs.declared.labels.Label.{Label}
 use Rattle.hp_model.specs.Platform.{tseg, tile, count_of}
 use Rattle.hp_model.specs.View.{Locks, tseg_size, is_locked}
 use Rattle.hp_model.specs.Boot.{tseg_enabled}
-use Rattle.hp_model.specs.Labels.{Part, First, Relocated, Monarch, part_of, index_of}
+use Rattle.hp_model.specs.declared.labels.Handler.{Handler}
+use Rattle.hp_model.specs.declared.labels.Handler.TheVariants.{First, Relocated, Monarch}
+use Rattle.hp_model.specs.Labels.{handler_of, index_of}
 use Rattle.hp_model.specs.SharedBytes.{layout_of}
 use Rattle.hp_model.specs.Handlers.{slot_at, is_tile, runs_at, address_of_label}
 use Rattle.hp_sealed.specs.Left.{Sound, Locked, is_gate, is_guarded, guarded_by, is_kept}
@@ -121,7 +123,7 @@ base_based p k b sound e = elim (split (k == 0) (b == tile p 0) ((b == 0x30000) 
     split false x y e = inr e
 
 -- a handler runs at such an SMBASE
-pub base_runs : (p : Platform) (q : Part) (k b : ℕ) → Sound p → runs_at (layout_of p) q k b ≡ true → Base p b
+pub base_runs : (p : Platform) (q : Handler) (k b : ℕ) → Sound p → runs_at (layout_of p) q k b ≡ true → Base p b
 base_runs p First k b sound e = subst (Base p) (sym (eqb-true b 0x30000 (and_parts (not (k == 0)) (b == 0x30000) e).1)) (base_default p sound)
 base_runs p Relocated k b sound e = base_other p b sound (and_parts (not (k == 0)) (is_other_tile (layout_of p) b) e).1
 base_runs p Monarch k b sound e = base_tile p 0 b sound (let s = sound.some in omega (arith, s)) (eqb-true b (tile p 0) (and_parts (k == 0) (b == tile p 0) e).1)
@@ -143,7 +145,7 @@ cell_tile p l b i sound h low small =
     subst (λ x. is_kept p x ≡ true) place (kept_tile p b (0x8000 + 4 * index_of l + i) sound h low (omega (arith, o, small)))
 
 -- each byte of a cell of a handler that runs at this SMBASE is kept
-pub kept_cell : (p : Platform) (l : Label) (q : Part) (k b i : ℕ) → Sound p → part_of l ≡ q → runs_at (layout_of p) q k b ≡ true → i < 4 → is_kept p (address_of_label b l + i) ≡ true
+pub kept_cell : (p : Platform) (l : Label) (q : Handler) (k b i : ℕ) → Sound p → handler_of l ≡ q → runs_at (layout_of p) q k b ≡ true → i < 4 → is_kept p (address_of_label b l + i) ≡ true
 kept_cell p l First k b i sound side e small =
     let base : b ≡ 0x30000 = eqb-true b 0x30000 (and_parts (not (k == 0)) (b == 0x30000) e).1 in
     let off = index_first l side in
@@ -166,7 +168,7 @@ guarded_field p b i h low small = field_tile (tseg p) p.low_memory b i low h.roo
     field_tile base top b i low room small = grind (arith, nat_tests)
 
 -- where a handler runs, its processor may have its SMBASE
-pub runs_based : (p : Platform) (q : Part) (k b : ℕ) → runs_at (layout_of p) q k b ≡ true → is_based p k b ≡ true
+pub runs_based : (p : Platform) (q : Handler) (k b : ℕ) → runs_at (layout_of p) q k b ≡ true → is_based p k b ≡ true
 runs_based p First k b e = by_first (k == 0) (b == tile p 0) (b == 0x30000) (is_other_tile (layout_of p) b) e
   where
     by_first : (z t d i : Bool) → (not z && d) ≡ true → cond z t (d || i) ≡ true

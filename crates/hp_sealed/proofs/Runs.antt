@@ -10,6 +10,7 @@ use Rattle.hp_model.specs.declared.entries.Entry.{Entry}
 use Rattle.hp_model.specs.State.{State, start}
 use Rattle.hp_model.specs.Step.{After, step}
 use Rattle.hp_model.specs.Runs.{same_answer, same_address, address_of, accept, run_on, run_from, run}
+use Rattle.hp_model.proofs.Scheduled.{run_from-more}
 
 -- an entry's step, and its address
 pub record Made (p : Platform) (s : State) (e : Entry) (t : State) : Type 0 where
@@ -46,16 +47,6 @@ made p s e t is = on (step p s e.event) refl is
         let g = parts (same_answer a.answer e.answer) (same_address (address_of s e.event) e.at) a.state f in
         record { after = a; step = is; state = g.2; place = same_places (address_of s e.event) e.at g.1; answer = same_answers a.answer e.answer g.0 }
 
--- a run of one entry more
-pub run_more : (p : Platform) (s t u : State) (es : List Entry) (e : Entry) → run_from p s es ≡ Some t → run_on p t e ≡ Some u → run_from p s (es ++ e ∷ []) ≡ Some u
-unfolding run_from
-run_more p s t u [] e is on = let same = same_Some s t is in rw (same, on) refl
-run_more p s t u (x ∷ es) e is on = next (run_on p s x) is (λ v f. run_more p v t u es e f on)
-  where
-    next : (o : Option State) → option_and_then (λ v. run_from p v es) o ≡ Some t → ((v : State) → run_from p v es ≡ Some t → run_from p v (es ++ e ∷ []) ≡ Some u) → option_and_then (λ v. run_from p v (es ++ e ∷ [])) o ≡ Some u
-    next None f more = absurd cc
-    next (Some v) f more = more v f
-
 -- a run of a list in two parts
 pub run_parts : (p : Platform) (s t : State) (es fs : List Entry) → run_from p s (es ++ fs) ≡ Some t → (u : State) × (run_from p s es ≡ Some u) × (run_from p u fs ≡ Some t)
 unfolding run_from
@@ -89,7 +80,7 @@ module _ (p : Platform) (P : List Entry → State → Type 0) (kept : (es : List
   keeps_from done [] s t h here is = subst (λ xs. P xs t) (sym (append-nil done)) (subst (P done) (same_Some s t is) h)
   keeps_from done (e ∷ es) s t h here is =
       on (run_on p s e) refl is
-      (λ u f g. subst (λ xs. P xs t) (append_assoc done (e ∷ []) es) (keeps_from (done ++ e ∷ []) es u t (kept done s u e h here f) (run_more p (start p) s u done e here f) g))
+      (λ u f g. subst (λ xs. P xs t) (append_assoc done (e ∷ []) es) (keeps_from (done ++ e ∷ []) es u t (kept done s u e h here f) (run_from-more p done e (start p) s u here f) g))
     where
       on : (o : Option State) → run_on p s e ≡ o → option_and_then (λ u. run_from p u es) o ≡ Some t → ((u : State) → run_on p s e ≡ Some u → run_from p u es ≡ Some t → P (done ++ e ∷ es) t) → P (done ++ e ∷ es) t
       on None f g more = absurd cc

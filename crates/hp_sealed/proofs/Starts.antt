@@ -85,8 +85,8 @@ sound p e =
       few = few;
       most = low.2;
       boots = let n = length_ascends 0 (count_of p) list.rest list.ascends list.low some in let i : length p.boot ≡ suc (length list.rest) = ap length list.is in omega (arith, n, i, few);
-      ids = λ k. ids_small (greatest_id p) p.apic k (greatest_small p.x2apic) (and_parts (list_all (λ x. nat_le x (greatest_id p)) p.apic) (all_distinct p.apic) f.ids).0;
-      distinct = (and_parts (list_all (λ x. nat_le x (greatest_id p)) p.apic) (all_distinct p.apic) f.ids).1;
+      ids = λ k. ids_small (greatest_id p.x2apic) p.apic k (greatest_small p.x2apic) (and_parts (list_all (λ x. nat_le x (greatest_id p.x2apic)) p.apic) (all_distinct p.apic) f.ids).0;
+      distinct = (and_parts (list_all (λ x. nat_le x (greatest_id p.x2apic)) p.apic) (all_distinct p.apic) f.ids).1;
       features = features_low p.features f.features;
     }
   where

@@ -7,7 +7,7 @@ use Rattle.hp_model.specs.Platform.{tile, count_of, all_distinct, apic_of}
 use Rattle.hp_model.specs.Memory.{Write, byte_at, value_from}
 use Rattle.hp_model.specs.Cpu.{smm_address}
 use Rattle.hp_model.specs.Block.{is_in}
-use Rattle.hp_model.specs.Labels.{part_of, mark_of}
+use Rattle.hp_model.specs.Labels.{handler_of, mark_of}
 use Rattle.hp_model.specs.SharedBytes.{Layout, layout_of, gate, closed}
 use Rattle.hp_model.specs.Slots.{Slots, boot_ids, slot_among}
 use Rattle.hp_model.specs.Monarch.{Monarch, monarch_start, with_features, is_that}
@@ -51,7 +51,7 @@ pub record IsOutside (p : Platform) (s : State) : Type 0 where
 
 -- wherever a handler runs, each of its cells holds its label's mark, and the gate is closed
 pub record Holds (p : Platform) (ws : List Write) : Type 0 where
-  pub cells : (l : Label) (k smbase : ℕ) → runs_at (layout_of p) (part_of l) k smbase ≡ true → value_from (byte_at ws) (address_of_label smbase l) 4 ≡ mark_of l
+  pub cells : (l : Label) (k smbase : ℕ) → runs_at (layout_of p) (handler_of l) k smbase ≡ true → value_from (byte_at ws) (address_of_label smbase l) 4 ≡ mark_of l
   pub gate : value_from (byte_at ws) gate 8 ≡ closed
 
 -- handed over with SMRAM locked, the handlers in it, the gate closed, everybody outside, and all features of the platform agreed on

@@ -24,7 +24,7 @@ use Rattle.hp_model.specs.Firmware.{mark_at, label_at}
 use Rattle.hp_model.specs.Step.{After, step}
 use Rattle.hp_model.specs.Visible.{IsAlike}
 use Rattle.hp_secrecy.specs.Shielded.{is_base, IsShielded, AreTwins, AreLocked}
-use Rattle.hp_secrecy.specs.Worked.{two, entering, arrives, entered, arrived, handed_over, stored_outside, state_in, answer_in, state_after}
+use Rattle.hp_secrecy.specs.Worked.{two, entering, arrives, entered, arrived, handed_over, stored_outside, state_in, answer_in, after_events}
 use Rattle.hp_secrecy.proofs.Steps.{inside_alike}
 
 pub goes_entered : is_some entered ≡ true
@@ -70,7 +70,7 @@ unfolding boot_cpus cpus_start first_places bytes_of value_from is_hole hit_each
 locked_entered x e = tseg_byte (nat_le 0x30000 x && nat_lt x 0x50000) x e
 
 -- the store is made inside
-stored_alike : (o : Option State) → is_some (state_after two o (arrives ∷ [])) ≡ true → is_handed (state_in o).stage ≡ true → AreLocked (state_in o).locks 0x7f00001 1 → IsAlike (state_in (state_after two o (arrives ∷ []))) (state_in o)
+stored_alike : (o : Option State) → is_some (after_events two o (arrives ∷ [])) ≡ true → is_handed (state_in o).stage ≡ true → AreLocked (state_in o).locks 0x7f00001 1 → IsAlike (state_in (after_events two o (arrives ∷ []))) (state_in o)
 stored_alike None goes handed locked = absurd cc
 stored_alike (Some s) goes handed locked = by_step (step two s arrives) refl goes
   where

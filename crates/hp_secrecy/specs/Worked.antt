@@ -12,9 +12,9 @@ use Rattle.hp_model.specs.State.{State, start}
 use Rattle.hp_model.specs.Step.{step}
 
 -- the state that these events lead to; none where one is no step
-abbrev pub state_after : Platform → Option State → List Event → Option State
-state_after p s [] = s
-state_after p s (e ∷ es) = state_after p (option_map (λ a. a.state) (option_and_then (λ t. step p t e) s)) es
+abbrev pub after_events : Platform → Option State → List Event → Option State
+after_events p s [] = s
+after_events p s (e ∷ es) = after_events p (option_map (λ a. a.state) (option_and_then (λ t. step p t e) s)) es
 
 -- two boot processors, TSEG at 7f00000
 abbrev pub two : Platform
@@ -29,17 +29,17 @@ abbrev pub arrives : Event
 arrives = Do 1 (Store 0x7f00001 1 1)
 
 unfoldable pub entered : Option State
-entered = state_after two (Some (start two)) entering
+entered = after_events two (Some (start two)) entering
 
 unfoldable pub arrived : Option State
-arrived = state_after two entered (arrives ∷ [])
+arrived = after_events two entered (arrives ∷ [])
 
 -- and the boot alone, and with a store to memory that isn't locked
 unfoldable pub handed_over : Option State
-handed_over = state_after two (Some (start two)) (map (Do 0) (boot_accesses 1 7))
+handed_over = after_events two (Some (start two)) (map (Do 0) (boot_accesses 1 7))
 
 unfoldable pub stored_outside : Option State
-stored_outside = state_after two handed_over (Do 0 (Store 0x2000 1 1) ∷ [])
+stored_outside = after_events two handed_over (Do 0 (Store 0x2000 1 1) ∷ [])
 
 abbrev pub state_in : Option State → State
 state_in o = unwrap_or o (start two)

@@ -2,12 +2,11 @@
 
 ghost use Rattle.std.specs.Prelude.{◌≡◌};
 ghost use Rattle.hp_model.specs.Platform.{IsFit};
-ghost use Rattle.hp_reloc.specs.Relocating.{greatest};
 
 use crate::answers::{answers, takes};
 use crate::seats::Seat;
 use hp_boot::{Boot, BootStage};
-use hp_model::{Answer, Entry, Event, NoMemory, Platform, Want};
+use hp_model::{Answer, Entry, Event, NoMemory, Platform, Want, greatest_id};
 use hp_smm::{Handlers, SmmCpu};
 use std::alloc::{AllocError, Global};
 use std::marker::Model;
@@ -45,17 +44,11 @@ impl Model for Firmware {
     ghost invariant = { λ f. f.handlers.layout.x2apic ≡ f.x2apic };
 }
 
-fn greatest_apic_id(x2apic: bool) -> u32
-    ensures { result ≡ greatest x2apic }
-{
-    if x2apic { 0xfffffffe } else { 254 }
-}
-
 /// What a processor in SMM wants; nothing where it has no row.
 fn want_of(handlers: &Handlers, x2apic: bool, smm_cpu: &SmmCpu) -> Option<Want>
     requires { handlers.now.layout.x2apic ≡ x2apic }
 {
-    if smm_cpu.apic > greatest_apic_id(x2apic) {
+    if smm_cpu.apic > greatest_id(x2apic) {
         return None;
     }
     let (_label, want) = handlers.row(smm_cpu)?;
@@ -67,7 +60,7 @@ fn feed_handlers(handlers: &mut Handlers, x2apic: bool, seat: &mut Seat, answer:
     requires { handlers.old.layout.x2apic ≡ x2apic }
     ensures { handlers.new.layout ≡ handlers.old.layout }
 {
-    if seat.smm_cpu.apic > greatest_apic_id(x2apic) {
+    if seat.smm_cpu.apic > greatest_id(x2apic) {
         return false;
     }
     let Some((label, want)) = handlers.row(&seat.smm_cpu) else {

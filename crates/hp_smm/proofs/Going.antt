@@ -8,11 +8,12 @@ use Rattle.hp_monarch.specs.Session.{Fits, Session}
 use Rattle.hp_model.specs.declared.labels.Label.{Label}
 use Rattle.hp_model.specs.declared.labels.Label.TheVariants.{F1, F2, F3, F4, F5, F6, R1, R2, R3, R4, R5, R6}
 use Rattle.hp_model.specs.Handlers.{Seat, by_record, next_at, want_at}
-use Rattle.hp_model.specs.Labels.{Monarch as Monarchs, part_of}
+use Rattle.hp_model.specs.declared.labels.Handler.TheVariants.{Monarch as Monarchs}
+use Rattle.hp_model.specs.Labels.{handler_of}
 use Rattle.hp_model.specs.Monarch.{Monarch}
 use Rattle.hp_model.specs.SharedBytes.{Layout}
 
-pub wants_same : (y : Layout) (x z : Seat) (r : Monarch) (l : Label) → part_of l ≡ Monarchs → want_at y x r l ≡ want_at y z r l
+pub wants_same : (y : Layout) (x z : Seat) (r : Monarch) (l : Label) → handler_of l ≡ Monarchs → want_at y x r l ≡ want_at y z r l
 wants_same y x z r F1 e = absurd cc
 wants_same y x z r F3 e = absurd cc
 wants_same y x z r F5 e = absurd cc
@@ -23,7 +24,7 @@ wants_same y x z r R4 e = absurd cc
 wants_same y x z r R6 e = absurd cc
 wants_same y x z r _ e = refl
 
-pub goes_on : (y : Layout) (x : Seat) (r : Monarch) (l : Label) (v : ℕ) → part_of l ≡ Monarchs → next_at y x r l v ≡ by_record x (next_at y x r l v).monarch
+pub goes_on : (y : Layout) (x : Seat) (r : Monarch) (l : Label) (v : ℕ) → handler_of l ≡ Monarchs → next_at y x r l v ≡ by_record x (next_at y x r l v).monarch
 goes_on y x r F1 v e = absurd cc
 goes_on y x r F2 v e = absurd cc
 goes_on y x r F3 v e = absurd cc
@@ -39,13 +40,13 @@ goes_on y x r R6 v e = absurd cc
 goes_on y x r _ v e = refl
 
 -- an answer that fits what one who looks sees fits what all see
-pub fits_all : (h : Session) (z : Seat) (l : Label) (answer : Answer) → l ≡ h.monarch.label → part_of l ≡ Monarchs →
+pub fits_all : (h : Session) (z : Seat) (l : Label) (answer : Answer) → l ≡ h.monarch.label → handler_of l ≡ Monarchs →
     FitsWant (want_at h.layout z h.monarch l) answer → Fits h answer
 fits_all h z l answer e p f x =
     subst (λ (w : Option Want). FitsWant w answer) (wants_same h.layout z x h.monarch l p ∙ ap (λ (k : Label). want_at h.layout x h.monarch k) e) f
 
 -- where the monarch goes on
-pub next_is : (h n : Session) (z : Seat) (l : Label) (v : ℕ) (after : Label) → l ≡ h.monarch.label → part_of l ≡ Monarchs →
+pub next_is : (h n : Session) (z : Seat) (l : Label) (v : ℕ) (after : Label) → l ≡ h.monarch.label → handler_of l ≡ Monarchs →
     n ≡ record h { monarch = (next_at h.layout z h.monarch h.monarch.label v).monarch } → after ≡ n.monarch.label →
     next_at h.layout z h.monarch l v ≡ record { label = after; base = z.base; monarch = n.monarch }
 next_is h n z l v after e p fed at =

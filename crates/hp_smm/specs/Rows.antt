@@ -1,12 +1,18 @@
 -- The row of who stands in SMM, what it wants, and where the answer leads: the rules, over what is known of a processor.
-use Rattle.std.specs.Prelude.{Option}
+use Rattle.std.specs.Prelude.{◌≤◌, Option}
 use Rattle.hp_model.specs.declared.accesses.Answer.{Answer}
 use Rattle.hp_model.specs.declared.accesses.Want.{Want}
 use Rattle.hp_model.specs.declared.labels.Label.{Label}
 use Rattle.hp_model.specs.Boot.{value_in}
 use Rattle.hp_model.specs.Handlers.{Next, Seat, next_at, label_of_mark, seat_of, wanted_at}
+use Rattle.hp_model.specs.SharedBytes.{Layout}
 use Rattle.hp_monarch.specs.Session.{Session}
 use Rattle.hp_smm.specs.declared.handlers.SmmCpu.{SmmCpu}
+
+-- TSEG begins below 2 GiB, and no more processors are possible than there may be tiles
+pub record IsLow (y : Layout) : Type 0 where
+  pub tseg : y.tseg ≤ 0x80000000
+  pub count : y.count ≤ 512
 
 -- the label whose row is due
 abbrev pub row_for : Session → SmmCpu → Option Label

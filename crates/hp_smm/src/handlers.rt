@@ -1,20 +1,18 @@
 //! All SMI handlers of a machine.
 
-ghost use Rattle.std.specs.Prelude.{◌≡◌, ◌≤◌, ◌==◌, Some, option_map, IfOk, IfSome, IsTrue, if◌then◌else◌};
+ghost use Rattle.std.specs.Prelude.{◌≡◌, ◌≤◌, ◌==◌, Some, option_map, IfOk, IfSome, if◌then◌else◌};
 ghost use Rattle.hp_model.specs.Boot.{value_in};
 ghost use Rattle.hp_model.specs.Handlers.{address_of_label, is_current as is_current_at, is_tile as is_tile_at, next_at, runs_at, slot_at as slot_of, want_at};
-ghost use Rattle.hp_model.specs.Labels.{part_of};
+ghost use Rattle.hp_model.specs.Labels.{handler_of};
 ghost use Rattle.hp_model.specs.Monarch.{monarch_start, restarted, with_features};
-ghost use Rattle.hp_model.specs.Platform.{IsFit};
+ghost use Rattle.hp_model.specs.Platform.{IsFit, greatest_id};
 ghost use Rattle.hp_model.specs.SharedBytes.{layout_of, tile_in};
-ghost use Rattle.hp_image.specs.Handlers.{part_named};
 ghost use Rattle.hp_model.specs.Fitting.{FitsWant};
-ghost use Rattle.hp_reloc.specs.Relocating.{greatest};
 ghost use Rattle.hp_smm.specs.Rows.{next_for, row_for, seat_for};
 
 use crate::relocated::{relocated_next, relocated_want};
-use hp_image::{Handler, label_of, mark, position_of};
-use hp_model::{Answer, Label, NoMemory, Platform, Want};
+use hp_image::{label_of, mark, position_of};
+use hp_model::{Answer, Handler, Label, NoMemory, Platform, Want, tile_at};
 use hp_monarch::Monarch;
 use hp_reloc::{first_next, first_want_by};
 use std::alloc::Global;
@@ -45,7 +43,12 @@ impl Model for Handlers {
 
     ghost Value = { Session };
 
+    ghost use Rattle.hp_smm.specs.Rows.{IsLow};
+
     ghost view = { λ h. h.monarch };
+
+    // so a row is due at SMBASEs alone that leave room for the handler
+    ghost invariant = { λ h. IsLow h.monarch.layout };
 }
 
 /// The instruction address of a label, in the handler that runs at this SMBASE.
@@ -58,6 +61,7 @@ fn address(smbase: u32, label: Label) -> u32
 
 impl Handlers {
     /// No session has begun. Later calls take no memory.
+    #[tactic(auto, using(crate::proofs::Due::fits_low))]
     pub fn new(alloc: Global, p: &Platform) -> Result<Handlers, NoMemory>
         requires { IsFit p.now }
         ensures layout { IfOk result (λ h. h.layout ≡ layout_of p.now) }
@@ -86,10 +90,9 @@ impl Handlers {
 
     /// The first address of the tile of slot 0.
     fn first_tile(&self) -> u32
-        ensures value { result ≡ tile_in self.now.layout 0 }
-        ensures below { result ≤ 0x80020000 }
+        ensures { result ≡ tile_in self.now.layout 0 }
     {
-        self.monarch.tseg() + 0x20000
+        tile_at(self.monarch.tseg(), 0)
     }
 
     /// The slot of the tile where this SMBASE lies, if it is one of a possible slot.
@@ -102,17 +105,15 @@ impl Handlers {
 
     /// Whether this SMBASE is the tile of a possible slot.
     fn is_tile(&self, smbase: u32) -> bool
-        ensures value { result ≡ is_tile_at self.now.layout smbase }
-        ensures below { IsTrue result → smbase ≤ 0x90000000 }
+        ensures { result ≡ is_tile_at self.now.layout smbase }
     {
         let slot = self.slot_at(smbase);
-        slot < self.monarch.count() && smbase == self.first_tile() + slot * 0x10000
+        slot < self.monarch.count() && smbase == tile_at(self.monarch.tseg(), slot)
     }
 
     /// Whether this handler runs where the processor stands: processor 0 runs the monarch alone.
     fn runs(&self, handler: Handler, me: &SmmCpu) -> bool
-        ensures value { result ≡ runs_at self.now.layout (part_named handler) me.now.cpu me.now.smbase }
-        ensures below { IsTrue result → me.now.smbase ≤ 0x90000000 }
+        ensures { result ≡ runs_at self.now.layout handler me.now.cpu me.now.smbase }
     {
         match handler {
             Handler::First => me.cpu != 0 && me.smbase == 0x30000,
@@ -125,7 +126,7 @@ impl Handlers {
 
     /// Whether it is this label's turn: the monarch's is the one where its record stands.
     fn is_current(&self, label: Label) -> bool
-        ensures { result ≡ is_current_at self.now.monarch (part_of label) label }
+        ensures { result ≡ is_current_at self.now.monarch (handler_of label) label }
     {
         match position_of(label).handler {
             Handler::Monarch => mark(label) == mark(self.monarch.label()),
@@ -136,8 +137,7 @@ impl Handlers {
     /// The label whose row is due where the processor stands.
     #[tactic(auto, unfolding(hp_model::specs::Handlers::label_of_mark))]
     fn label_at(&self, me: &SmmCpu) -> Option<Label>
-        ensures value { result ≡ row_for self.now me.now }
-        ensures below { IfSome result (λ label. me.now.smbase ≤ 0x90000000) }
+        ensures { result ≡ row_for self.now me.now }
     {
         match label_of(me.mark) {
             Some(label) if self.runs(position_of(label).handler, me) && self.is_current(label) => {
@@ -149,7 +149,7 @@ impl Handlers {
 
     /// What is wanted at a label whose row is due.
     fn want_at(&self, me: &SmmCpu, label: Label) -> Want
-        requires apic { me.now.apic ≤ greatest self.now.layout.x2apic }
+        requires apic { me.now.apic ≤ greatest_id self.now.layout.x2apic }
         requires row { row_for self.now me.now ≡ Some label }
         ensures { want_at self.now.layout (seat_for self.now me.now) self.now.monarch label ≡ Some result }
     {
@@ -164,10 +164,9 @@ impl Handlers {
 
     /// The row that is due where the processor stands: its label, and what it wants. `None` where no handler's row is due.
     pub fn row(&self, me: &SmmCpu) -> Option<(Label, Want)>
-        requires { me.now.apic ≤ greatest self.now.layout.x2apic }
+        requires { me.now.apic ≤ greatest_id self.now.layout.x2apic }
         ensures label { row_for self.now me.now ≡ option_map (λ row. row.0) result }
         ensures want { IfSome result (λ row. want_at self.now.layout (seat_for self.now me.now) self.now.monarch row.0 ≡ Some row.1) }
-        ensures smbase { IfSome result (λ row. me.now.smbase ≤ 0x90000000) }
     {
         match self.label_at(me) {
             Some(label) => Some((label, self.want_at(me, label))),
@@ -196,7 +195,6 @@ impl Handlers {
     /// it goes on, and its base from there on.
     pub fn feed(&mut self, me: &SmmCpu, label: Label, answer: Answer) -> (u32, u32)
         requires row { row_for self.old me.now ≡ Some label }
-        requires smbase { me.now.smbase ≤ 0x90000000 }
         requires fits { FitsWant (want_at self.old.layout (seat_for self.old me.now) self.old.monarch label) answer }
         ensures address { result.0 ≡ address_of_label me.now.smbase (next_for self.old me.now label answer).label }
         ensures base { result.1 ≡ (next_for self.old me.now label answer).base }

@@ -4,7 +4,8 @@
 ghost use Rattle.std.specs.Prelude.{◌≡◌, ◌≤◌, Some};
 ghost use Rattle.hp_model.specs.Boot.{value_in};
 ghost use Rattle.hp_model.specs.Handlers.{Seat, next_at, stays, want_at};
-ghost use Rattle.hp_model.specs.Labels.{Relocated, part_of};
+ghost use Rattle.hp_model.specs.declared.labels.Handler.TheVariants.{Relocated};
+ghost use Rattle.hp_model.specs.Labels.{handler_of};
 ghost use Rattle.hp_model.specs.Monarch.{Monarch};
 ghost use Rattle.hp_model.specs.SharedBytes.{Layout};
 
@@ -12,7 +13,7 @@ use hp_model::{Access, Answer, Label, Want, arrived_byte, map_byte, parked_byte,
 
 /// What the processor of this slot wants at a label of the relocated handler.
 pub fn relocated_want(label: Label, tseg: u32, slot: u32) -> Want
-    requires relocated { part_of label ≡ Relocated }
+    requires relocated { handler_of label ≡ Relocated }
     requires tseg { tseg ≤ 0x80000000 }
     requires slot { slot ≤ 0xffff }
     ensures { (y : Layout) (x : Seat) (r : Monarch) → y.tseg ≡ tseg → x.slot ≡ slot → want_at y x r label ≡ Some result }
@@ -31,7 +32,7 @@ pub fn relocated_want(label: Label, tseg: u32, slot: u32) -> Want
 
 /// The label where the answer leads.
 pub fn relocated_next(label: Label, answer: Answer) -> Label
-    requires { part_of label ≡ Relocated }
+    requires { handler_of label ≡ Relocated }
     ensures { (y : Layout) (x : Seat) (r : Monarch) → next_at y x r label (value_in answer) ≡ stays result x r }
 {
     match label {

@@ -1,10 +1,6 @@
 -- The bytes of an access, one by one.
-use Rattle.std.specs.Prelude.{◌≡◌, ◌⊎◌, ℕ, zero, suc, Bool, true, false, ◌||◌, ◌+◌, ◌<◌, ◌≤◌}
+use Rattle.std.specs.Prelude.{◌≡◌, ℕ, zero, suc, Bool, true, false, ◌||◌, ◌+◌, ◌<◌, ◌≤◌}
 use Rattle.hp_model.specs.View.{Locks, is_hidden}
-
--- an access to memory has 1, 2, 4 or 8 bytes
-abbrev pub IsWidth : ℕ → Type 0
-IsWidth width = (width ≡ 1) ⊎ ((width ≡ 2) ⊎ ((width ≡ 4) ⊎ (width ≡ 8)))
 
 -- some byte of the access is out of reach
 pub record HidesSome (l : Locks) (in_smm : Bool) (addr width : ℕ) : Type 0 where

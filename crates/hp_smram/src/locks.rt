@@ -5,7 +5,8 @@ ghost use Rattle.hp_model.specs.View.{lock_write, lock_read, is_hole, is_locked}
 ghost use Rattle.hp_model.specs.Spans.{in_some_span};
 ghost use Rattle.hp_smram.specs.Memory.{IsMemorySize, locks_of};
 ghost use Rattle.hp_smram.specs.Spans.{locked_spans, spans_in, is_in_some};
-ghost use Rattle.hp_smram.specs.Reach.{IsWidth, HidesSome, has_byte};
+ghost use Rattle.hp_model.specs.Access.{IsMemoryWidth};
+ghost use Rattle.hp_smram.specs.Reach.{HidesSome, has_byte};
 
 use crate::registers::{Registers, Table};
 use hp_model::Span;
@@ -151,7 +152,7 @@ impl Locks {
     /// What an access finds that is made at `addr`, in SMM or outside. `width` is in bytes.
     #[tactic(auto, using(crate::proofs::Reach::hole_bytes))]
     pub fn open_to(&self, in_smm: bool, addr: u32, width: u8) -> Touch
-        requires { IsWidth width }
+        requires { IsMemoryWidth width }
         ensures hole { (result ≡ Touch.Hole) ↔ (is_hole self.now in_smm addr width ≡ true) }
         ensures ram { (result ≡ Touch.Ram) ↔ (is_hole self.now in_smm addr width ≡ false) }
         ensures byte { (result ≡ Touch.Hole) ↔ HidesSome self.now in_smm addr width }

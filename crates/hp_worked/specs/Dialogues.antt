@@ -155,7 +155,7 @@ drawn_of_seed_2 =
 abbrev pub drawn_of_seed_0 : List Line
 drawn_of_seed_0 = says_then (Out 0xcd8 4 9 ∷ Nop ∷ [])
 
--- a storm for two processors selects 0 to 3
+-- a storm for two processors selects 0 and 2 by turns: 0, 6, 12 and so on modulo 4
 abbrev pub storm_of_two : List Line
 storm_of_two =
     says_then

@@ -4,8 +4,8 @@ use Rattle.hp_model.specs.declared.platforms.Platform.{Platform}
 use Rattle.hp_model.specs.declared.outcomes.Outcome.{Outcome}
 use Rattle.hp_model.specs.declared.entries.Entry.{Entry}
 use Rattle.hp_model.specs.declared.files.File.{File}
-use Rattle.hp_model.specs.Collection.{Report}
-use Rattle.hp_model.specs.Monarch.{Decision}
+use Rattle.hp_model.specs.declared.reports.Report.{Report}
+use Rattle.hp_model.specs.declared.reports.Decision.{Decision}
 use Rattle.hp_model.specs.Events.{outcome_in, is_resume_of}
 use Rattle.hp_model.specs.Transitions.{since}
 use Rattle.hp_model.specs.Account.{bound, is_known}

@@ -2,7 +2,8 @@
 
 ghost use Rattle.std.specs.Prelude.{◌≡◌, true, false, [], ◌∷◌, Some, None};
 ghost use Rattle.hp_model.specs.declared.outcomes.Refusal.TheVariants.{Disabled, Both, AlreadyKnown, GateHeld, NoUnplug, NotKnown, NotArrived, Foreign};
-ghost use Rattle.hp_model.specs.Monarch.{ToAdd, ToEject, refuses};
+ghost use Rattle.hp_model.specs.declared.reports.Decision.TheVariants.{Add as ToAdd, Eject as ToEject};
+ghost use Rattle.hp_model.specs.Monarch.{refuses};
 ghost use Rattle.hp_worked.specs.Looked.{reported, whole, session_triples, session_lengths, decisions, bound_after, known_after, held_after, disturbed_after};
 ghost use Rattle.hp_worked.specs.Judged.{flag_is_right};
 ghost use Rattle.hp_worked.specs.Files.{an_add_file, two_adds_file, two_new_processors_file, gate_held_file, insert_and_eject_file, disabled_processor_file, already_known_file, not_at_gate_file, ejected_and_added_again_file, no_unplug_file, not_known_file, not_arrived_file, not_parked_file, late_alone_file, selector_taken_away_file, eject_led_astray_file, wide_add_file};

@@ -1,9 +1,10 @@
 -- An add begins.
 use Rattle.std.proofs.Common.{◌≡◌, ◌≤◌, ◌<◌, [], ◌∷◌, ◌++◌, length, nat_lt, vec_capacity, if◌then◌else◌, refl, sym, ap, subst, ◌∙◌, arith}
-use Rattle.hp_model.specs.Monarch.{ToAdd, decision as decision_at, facts_of, with_byte}
+use Rattle.hp_model.specs.declared.reports.Decision.TheVariants.{Add as ToAdd}
+use Rattle.hp_model.specs.Monarch.{decision as decision_at, facts_of, with_byte}
+use Rattle.hp_model.specs.Platform.{greatest_id}
 use Rattle.hp_model.specs.Slots.{bind}
-use Rattle.hp_collect.specs.Collecting.{report_of}
-use Rattle.hp_reloc.specs.Relocating.{Relocating, greatest}
+use Rattle.hp_reloc.specs.Relocating.{Relocating}
 use Rattle.hp_reloc.specs.Roster.{Roster}
 use Rattle.hp_monarch.specs.Session.{IsSound, Session}
 use Rattle.hp_monarch.specs.declared.rows.Standing.TheVariants as standing
@@ -15,30 +16,30 @@ use Rattle.hp_monarch.proofs.sessions.Monarch.begin_add.Goals as goal
 pub bind-slot-requires-clause-free : goal.bind-slot-requires-clause-free
 bind-slot-requires-clause-free c =
     let s : Session = the_view c.self.inside in
-    let t = report_of c.args.report in
+    let t = c.args.report in
     let e = subst (λ (s : Session). decision_at (facts_of s.layout.apics s.monarch t) t ≡ ToAdd) (sym c.self.view_is) c.requires in
     adds_free (facts_of s.layout.apics s.monarch t) t e
 
 pub bind-slot-requires-clause-unknown : goal.bind-slot-requires-clause-unknown
 bind-slot-requires-clause-unknown c =
     let s : Session = the_view c.self.inside in
-    let t = report_of c.args.report in
+    let t = c.args.report in
     let e = subst (λ (s : Session). decision_at (facts_of s.layout.apics s.monarch t) t ≡ ToAdd) (sym c.self.view_is) c.requires in
     adds_unknown (facts_of s.layout.apics s.monarch t) t e
 
 pub bind-slot-requires-clause-possible : goal.bind-slot-requires-clause-possible
 bind-slot-requires-clause-possible c =
     let s : Session = the_view c.self.inside in
-    let t = report_of c.args.report in
+    let t = c.args.report in
     let e = subst (λ (s : Session). decision_at (facts_of s.layout.apics s.monarch t) t ≡ ToAdd) (sym c.self.view_is) c.requires in
     adds_possible s.layout.apics (facts_of s.layout.apics s.monarch t) t refl e
 
 pub restart-requires-clause-apic : goal.restart-requires-clause-apic
 restart-requires-clause-apic c =
     let s : Session = the_view c.self.inside in
-    let t = report_of c.args.report in
+    let t = c.args.report in
     let e = subst (λ (s : Session). decision_at (facts_of s.layout.apics s.monarch t) t ≡ ToAdd) (sym c.self.view_is) c.requires in
-    rw c.self.invariant.parts.wide (adds_small (greatest s.layout.x2apic) s.layout.apics (facts_of s.layout.apics s.monarch t) t c.self.invariant.ids refl e)
+    rw c.self.invariant.parts.wide (adds_small (greatest_id s.layout.x2apic) s.layout.apics (facts_of s.layout.apics s.monarch t) t c.self.invariant.ids refl e)
 
 pub invariant_of-self : goal.invariant_of-self
 invariant_of-self c =

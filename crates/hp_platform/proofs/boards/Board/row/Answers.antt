@@ -2,7 +2,7 @@
 use Rattle.std.proofs.Common.{◌≡◌, ◌≤◌, Some, sym, subst}
 use Rattle.hp_model.specs.SharedBytes.{Layout}
 use Rattle.hp_model.specs.Handlers.{want_at}
-use Rattle.hp_reloc.specs.Relocating.{greatest}
+use Rattle.hp_model.specs.Platform.{greatest_id}
 use Rattle.hp_smm.specs.Rows.{row_for, seat_for}
 use Rattle.hp_platform.specs.Board.{Board}
 use Rattle.hp_platform.proofs.Standing.{row_some}
@@ -10,8 +10,8 @@ use Rattle.hp_platform.proofs.boards.Board.row.Goals as goal
 
 pub row-requires : goal.row-requires
 row-requires c =
-    subst (λ (y : Layout). c.in-Some.smm_cpu.apic ≤ greatest y.x2apic) (sym c.self.invariant.layout)
-    (subst (λ (b : Board). c.in-Some.smm_cpu.apic ≤ greatest b.platform.x2apic) (sym c.self.view_is) c.in-Some.ensures.apic)
+    subst (λ (y : Layout). c.in-Some.smm_cpu.apic ≤ greatest_id y.x2apic) (sym c.self.invariant.layout)
+    (subst (λ (b : Board). c.in-Some.smm_cpu.apic ≤ greatest_id b.platform.x2apic) (sym c.self.view_is) c.in-Some.ensures.apic)
 
 pub returns-in-Some-row-clause-wanted : goal.returns-in-Some-row-clause-wanted
 returns-in-Some-row-clause-wanted c = λ s shows.

@@ -2,8 +2,8 @@
 use Rattle.std.proofs.Common.{◌≡◌, Some, ap, sym, subst, ◌∙◌}
 use Rattle.hp_model.specs.declared.labels.Label.{Label}
 use Rattle.hp_model.specs.Handlers.{want_at}
-use Rattle.hp_model.specs.Labels.{Monarch as Monarchs, part_of}
-use Rattle.hp_image.specs.Handlers.{part_named}
+use Rattle.hp_model.specs.declared.labels.Handler.TheVariants.{Monarch as Monarchs}
+use Rattle.hp_model.specs.Labels.{handler_of}
 use Rattle.hp_monarch.specs.Session.{Session}
 use Rattle.hp_smm.specs.Rows.{seat_for}
 use Rattle.hp_smm.proofs.Due.{monarch_label}
@@ -13,7 +13,7 @@ pub returns-in-Monarch : goal.returns-in-Monarch
 returns-in-Monarch c =
     let h = c.args.self.now in
     let s = c.args.me.now in
-    let part : part_of c.args.label ≡ Monarchs = sym c.position_of.ensures.handler ∙ ap part_named c.in-Monarch.is in
-    let at : c.args.label ≡ h.monarch.label = monarch_label h.layout h.monarch s.cpu s.smbase s.mark c.args.label c.requires.row part in
+    let its : handler_of c.args.label ≡ Monarchs = sym c.position_of.ensures.handler ∙ c.in-Monarch.is in
+    let at : c.args.label ≡ h.monarch.label = monarch_label h.layout h.monarch s.cpu s.smbase s.mark c.args.label c.requires.row its in
     ap (λ (l : Label). want_at h.layout (seat_for h s) h.monarch l) at
     ∙ subst (λ (k : Session). want_at k.layout (seat_for h s) k.monarch k.monarch.label ≡ Some c.want.result) c.self.view_is (c.want.ensures (seat_for h s))
