@@ -3,8 +3,8 @@ pub mod Codes
 pub mod Faults
 pub mod Handing
 pub mod Input
+pub mod Lives
 pub mod Scripted
 pub mod Sent
 pub mod Stalls
 pub mod Turns
-pub mod Worlds
