@@ -42,7 +42,7 @@ scene_agrees c = record { state = refl; voices = some_agree c.voices; last = ref
 abbrev pub then_make : (Scene → Made) → (Scene → Made) → Scene → Made
 then_make part more w = both_make (part w) (more (part w).scene)
 
-leads_same : (c left : Carried) (part other : Scene → Made) (es : List Entry) → ((w : Scene) → part w ≡ other w) → Leads c part es left → Leads c other es left
+pub leads_same : (c left : Carried) (part other : Scene → Made) (es : List Entry) → ((w : Scene) → part w ≡ other w) → Leads c part es left → Leads c other es left
 leads_same c left part other es same leads = record {
   made = λ scene agrees. let m = leads.made scene agrees in record {
     scene = m.scene;
@@ -52,7 +52,7 @@ leads_same c left part other es same leads = record {
   };
 }
 
-leads_then : (c mid left : Carried) (part more : Scene → Made) (es fs : List Entry) → Leads c part es mid → Leads mid more fs left → Leads c (then_make part more) (es ++ fs) left
+pub leads_then : (c mid left : Carried) (part more : Scene → Made) (es fs : List Entry) → Leads c part es mid → Leads mid more fs left → Leads c (then_make part more) (es ++ fs) left
 leads_then c mid left part more es fs first second = record {
   made = λ scene agrees. let n = second.made scene agrees in let m = first.made n.scene n.agrees in record {
     scene = m.scene;

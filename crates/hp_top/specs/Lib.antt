@@ -1,6 +1,10 @@
+pub mod Actors
 pub mod Answers
 pub mod Codes
+pub mod Commands
+pub mod Doing
 pub mod Faults
+pub mod Generated
 pub mod Handing
 pub mod Input
 pub mod Lives
