@@ -4,11 +4,12 @@ use Rattle.hp_model.specs.declared.entries.Actor.{Actor}
 use Rattle.hp_model.specs.declared.files.File.{File}
 use Rattle.hp_model.specs.declared.files.HostEvent.{HostEvent}
 use Rattle.hp_model.specs.Platform.{IsFit}
-use Rattle.hp_model.specs.Schedule.{actors_of, cpus_of, hosts_of}
+use Rattle.hp_model.specs.Schedule.{Scene, both_make, act_all, actors_of, cpus_of, hosts_of, turns_from}
 use Rattle.hp_top.specs.Actors.{Actors, IsAhead, actors_from, to_come}
 use Rattle.hp_top.specs.Stalls.{IsTracking, Stalled}
 use Rattle.hp_top.specs.Turns.{Rises, at_turn, due, past, turn_of}
 use Rattle.hp_top.proofs.Rising.{due-is, past-at, past-rises}
+use Rattle.hp_top.proofs.Turning.{act_all-append}
 
 -- of the host events of a turn the first is taken
 pub rises-first : (turn : ℕ) (h : HostEvent) (hs : List HostEvent) → h.turn ≡ turn → Rises turn_of turn (h ∷ hs) → Rises turn_of turn hs
@@ -106,3 +107,11 @@ module _ (s new : Actors) (file : new.file ≡ s.file) where
       rises = subst (λ (n : ℕ). Rises turn_of n new.hosts) (sym turn) rises;
       later = λ t after. same t (omega (arith, after, turn)) ∙ ap (λ (g : File). hosts_of g t) (sym file);
     }
+
+-- all of them make what the turns make
+pub turns_are : (f : File) (n turn : ℕ) (w : Scene) → turns_from f n turn w ≡ act_all f.platform w (actors_from f n turn)
+unfolding turns_from act_all actors_from
+turns_are f zero turn w = refl
+turns_are f (suc n) turn w =
+    ap (both_make (act_all f.platform w (actors_of f turn))) (turns_are f n (turn + 1) (act_all f.platform w (actors_of f turn)).scene)
+    ∙ sym (act_all-append f.platform (actors_of f turn) (actors_from f n (turn + 1)) w)
