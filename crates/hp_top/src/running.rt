@@ -33,7 +33,7 @@ use std::alloc::Global;
 use std::vec::IntoIter;
 
 /// How many turns of processor 0 the boot sequence takes, one an access: two more where it asks for a TSEG of 48 MiB.
-fn boot_turns(p: &Platform) -> u32
+pub(crate) fn boot_turns(p: &Platform) -> u32
     ensures value { result ≡ turns_of_boot p.now }
     ensures most { result ≤ 29 }
 {
@@ -80,7 +80,7 @@ fn send_end<K: Sink>(entries: u64, text: &mut Vec<u8>, out: &mut K) -> Result<()
 }
 
 /// An actor's turn, which makes what the schedule makes of that actor.
-fn take_turn<A: Agent>(live: &mut Live<A>, actor: Actor) -> Result<Turn, NoMemory>
+pub(crate) fn take_turn<A: Agent>(live: &mut Live<A>, actor: Actor) -> Result<Turn, NoMemory>
     ensures { (p : Platform) (c : Carried) → StandsFor p live.old c → IfOk result (Takes p live.new c (λ w. act p w actor)) }
 {
     a_turn_is_the_schedules();
@@ -115,10 +115,11 @@ fn make_step<A: Agent, K: Sink>(
 
 /// The first of these events if it is due at this turn, and those after it.
 #[tactic(auto, using(crate::proofs::Turning::host_events))]
-fn next_host(hosts: &[HostEvent], turn: u32) -> Option<(Actor, &[HostEvent])>
+pub(crate) fn next_host(hosts: &[HostEvent], turn: u32) -> Option<(Actor, &[HostEvent])>
     ensures due { IfSome result (λ next. due turn hosts.now ≡ next.0 ∷ due turn next.1.now) }
     ensures past { IfSome result (λ next. past turn hosts.now ≡ past turn next.1.now) }
     ensures fewer { IfSome result (λ next. length hosts.now ≡ 1 + length next.1.now) }
+    ensures rises { IfSome result (λ next. Rises turn_of turn hosts.now → Rises turn_of turn next.1.now) }
     ensures none { result ≡ None → due turn hosts.now ≡ [] }
     ensures kept { result ≡ None → past turn hosts.now ≡ hosts.now }
 {
@@ -176,7 +177,7 @@ fn turn_actor(delivery: Delivery, own: u32, cpu: u32) -> Actor
 }
 
 /// The processor's actor whose turn it is; none where a stall covers it.
-fn actor_of(file: &File, stalled: &mut Stalled, turn: u32) -> Option<Actor>
+pub(crate) fn actor_of(file: &File, stalled: &mut Stalled, turn: u32) -> Option<Actor>
     requires fit { IsFit file.now.platform }
     requires tracking { IsTracking file.now turn stalled.old }
     ensures some { IfSome result (λ a. cpus_of file.now turn ≡ a ∷ []) }
@@ -269,7 +270,7 @@ fn hosts_in(file: &File) -> &[HostEvent]
 }
 
 /// The file without its voices, and these.
-fn take_voices(alloc: Global, file: File) -> (File, Vec<VoiceKind>)
+pub(crate) fn take_voices(alloc: Global, file: File) -> (File, Vec<VoiceKind>)
     ensures { with_voices result.1.items result.0 ≡ file }
 {
     let File {
@@ -336,7 +337,7 @@ fn agents_of<A: Agent>(
 }
 
 /// The machine before its first step, where each processor's agent is of the kind in its place, or one that is handed in.
-fn live_of<A: Agent>(
+pub(crate) fn live_of<A: Agent>(
     alloc: Global,
     p: &Platform,
     kinds: Vec<VoiceKind>,
@@ -352,7 +353,7 @@ fn live_of<A: Agent>(
 }
 
 /// The host events of the file, by turn.
-fn hosts_of(alloc: Global, file: &File) -> Result<Vec<HostEvent>, NoMemory>
+pub(crate) fn hosts_of(alloc: Global, file: &File) -> Result<Vec<HostEvent>, NoMemory>
     ensures rises { IfOk result (λ sorted. Rises turn_of 0 sorted.items) }
     ensures same { IfOk result (λ sorted. (turn : ℕ) → at_turn turn sorted.items ≡ of_turn file.now turn) }
 {
@@ -366,7 +367,7 @@ fn stalls_in(file: &File) -> &[Stall]
 }
 
 /// The stalls of the file, by the turn they start.
-fn stalls_of(alloc: Global, file: &File) -> Result<Vec<Stall>, NoMemory>
+pub(crate) fn stalls_of(alloc: Global, file: &File) -> Result<Vec<Stall>, NoMemory>
     ensures rises { IfOk result (λ sorted. Rises start_of 0 sorted.items) }
     ensures same { IfOk result (λ sorted. (k t : ℕ) → is_stalled sorted.items k t ≡ is_stalled file.now.stalls k t) }
 {
@@ -374,7 +375,7 @@ fn stalls_of(alloc: Global, file: &File) -> Result<Vec<Stall>, NoMemory>
 }
 
 /// The stalls of the file before its first turn. Takes them by the turn they start.
-fn stalled_of<'s>(alloc: Global, file: &File, sorted: &'s [Stall]) -> Result<Stalled<'s>, NoMemory>
+pub(crate) fn stalled_of<'s>(alloc: Global, file: &File, sorted: &'s [Stall]) -> Result<Stalled<'s>, NoMemory>
     requires rises { Rises start_of 0 sorted.now }
     requires same { (k t : ℕ) → is_stalled sorted.now k t ≡ is_stalled file.now.stalls k t }
     ensures { IfOk result (IsTracking file.now 0) }
