@@ -2,7 +2,6 @@
 use Rattle.std.proofs.Common.{◌≡◌, ◌≢◌, ℕ, zero, suc, Bool, true, false, ◌==◌, List, [], ◌∷◌, map, Option, Some, None, refl, sym, ap, subst, ◌∙◌, eqb-true}
 use Rattle.std.specs.Prelude.{slice_index_or, slice_set}
 use Rattle.std.proofs.lemmas.Bool.{eqb-false}
-use Rattle.std.proofs.lemmas.Option.{same_Some}
 use Rattle.hp_model.specs.declared.platforms.Platform.{Platform}
 use Rattle.hp_model.specs.declared.accesses.Access.{Access}
 use Rattle.hp_model.specs.declared.accesses.Answer.{Answer}
@@ -12,10 +11,8 @@ use Rattle.hp_model.specs.declared.entries.Event.TheVariants as event
 use Rattle.hp_model.specs.declared.entries.Entry.{Entry}
 use Rattle.hp_model.specs.declared.turns.Due.{Due}
 use Rattle.hp_model.specs.declared.turns.Due.TheVariants as due
-use Rattle.hp_model.specs.Access.{normal}
 use Rattle.hp_model.specs.Block.{ejected_by}
 use Rattle.hp_model.specs.Following.{Carried, voice_told, left_of, without_agent}
-use Rattle.hp_model.specs.Runs.{run}
 use Rattle.hp_model.specs.Schedule.{Scene, act, question_in, without_voice}
 use Rattle.hp_model.specs.State.{State}
 use Rattle.hp_model.specs.Step.{After, after}
@@ -25,11 +22,10 @@ use Rattle.hp_model.proofs.Agreeing.{some_voice, has_some}
 use Rattle.hp_agent.specs.Speaking.{Speaks}
 use Rattle.hp_platform.specs.declared.worlds.Turn.{Turn}
 use Rattle.hp_platform.specs.declared.worlds.Turn.TheVariants.{Made, Idle}
-use Rattle.hp_platform.specs.Carrying.{Carries, AgreesWith, IsMadeOf, Leads, ActsAs}
-use Rattle.hp_platform.specs.World.{Acts, IsIdle, IsMade, IsSaid, IsStepOf, IsTurned, IsUnasked, Says, StandsFor, World, entries_in}
-use Rattle.hp_platform.proofs.Telling.{acts, step_is, told-is, map-set, without-is}
-use Rattle.hp_model.proofs.Scheduled.{run-more}
-use Rattle.hp_platform.proofs.Turning.{accepted}
+use Rattle.hp_platform.specs.Agents.{IsSaid, IsStepOf, IsUnasked, Says}
+use Rattle.hp_platform.specs.Carrying.{Acts, Carries, AgreesWith, IsMadeOf, ActsAs, entries_in}
+use Rattle.hp_platform.specs.Live.{IsIdle, IsMade, IsTurned, Live, agents_of}
+use Rattle.hp_platform.proofs.Telling.{acts, told-is, map-set, without-is}
 
 -- the voice in a place that is told is the told one
 agree_at : (cs : List (Option Voice)) (vs : List Voice) (k : ℕ) → Agree cs vs → MayHave (voice_told cs k) (slice_index_or vs k silent)
@@ -165,15 +161,15 @@ same_told us vs e = sym (untold us) ∙ ap (map (λ (o : Option Voice). some_voi
 abbrev scene_of : State → List Voice → List Answer → Scene
 scene_of s vs last = record { state = s; voices = vs; last = last }
 
-module _ (old new : World) (c : Carried) (carries : Carries old c) (platform : new.platform ≡ old.platform) (a : Actor) where
+module _ (old new : Live) (c : Carried) (carries : Carries old c) (a : Actor) where
   abbrev p0 : Platform
   p0 = old.platform
 
-  -- the same worlds, where all agents tell these voices
-  abbrev before : List Voice → World
+  -- the same machines, where all agents tell these voices
+  abbrev before : List Voice → Live
   before vs = record old { voices = map (λ (v : Voice). Some v) vs }
 
-  abbrev afterwards : List Voice → World
+  abbrev afterwards : List Voice → Live
   afterwards vs = record new { voices = map (λ (v : Voice). Some v) vs }
 
   -- a scene that agrees with what is carried after the turn, and voices that agree before it: a turn by them is the schedule's
@@ -184,7 +180,7 @@ module _ (old new : World) (c : Carried) (carries : Carries old c) (platform : n
     agrees = record { state = refl; voices = agree; last = refl };
     entries = done.entries;
     leaves =
-        ap (λ (s : State). scene_of s next.voices next.last) (same_Some next.state left.state (sym done.scene.is ∙ onward.is) ∙ sym agrees.state)
+        ap (λ (s : State). scene_of s next.voices next.last) (sym done.scene.state ∙ onward.state ∙ sym agrees.state)
         ∙ ap (λ (us : List Voice). scene_of scene.state us next.last) (sym (same_told scene.voices next.voices done.scene.voices))
         ∙ ap (scene_of scene.state scene.voices) (sym done.scene.last ∙ onward.last ∙ sym agrees.last);
   }
@@ -193,7 +189,7 @@ module _ (old new : World) (c : Carried) (carries : Carries old c) (platform : n
       first = scene_of c.state vs c.last
 
       done : Acts (afterwards scene.voices) (act p0 first a) turn
-      done = acts (before vs) (afterwards scene.voices) a turn first (record { is = carries.is; voices = refl; last = carries.last }) platform turned
+      done = acts (before vs) (afterwards scene.voices) a turn first (record { state = carries.state; voices = refl; last = carries.last }) turned
 
       next : Scene
       next = (act p0 first a).scene
@@ -204,28 +200,20 @@ module _ (old new : World) (c : Carried) (carries : Carries old c) (platform : n
     left = c;
     leads = record {
       made = λ scene agrees. made_of Idle c same scene scene.voices agrees agrees.voices (record {
-        entries = idle.entries;
         none = idle.none;
-        voices = refl;
-        heard = idle.heard;
-        last = idle.last;
-        asked = idle.asked;
-        idle = idle.idle;
+        same = ap (λ (l : Live). record l { voices = map (λ (v : Voice). Some v) scene.voices }) idle.same;
       });
     };
     carries = same;
   }
     where
       same : Carries new c
-      same = record {
-        is = ap (λ (q : Platform). run q new.entries) platform ∙ ap (run p0) idle.entries ∙ carries.is;
-        voices = λ k v told. ap (λ (ws : List (Option Voice)). voice_told ws k) idle.voices ∙ carries.voices k v told;
-        last = idle.last ∙ carries.last;
-      }
+      same = subst (λ (l : Live). Carries l c) (sym idle.same) carries
 
   module _ (e : Entry) (made : IsMade old new a e) where
-    abbrev is : IsStepOf old new c.state a e
-    is = made.is c.state carries.is
+    -- the step was made in the state that is carried
+    is : IsStepOf p0 (agents_of old) (agents_of new) c.state a e
+    is = subst (λ (s : State). IsStepOf p0 (agents_of old) (agents_of new) s a e) carries.state made.is
 
     abbrev next : After
     next = after p0 c.state e.event
@@ -233,16 +221,14 @@ module _ (old new : World) (c : Carried) (carries : Carries old c) (platform : n
     abbrev gone : Option ℕ
     gone = ejected_by c.state.block next.state.block
 
-    replay : run new.platform new.entries ≡ Some next.state
-    replay =
-        ap (λ (q : Platform). run q new.entries) platform ∙ ap (run p0) made.entries
-        ∙ run-more p0 old.entries e c.state next.state carries.is (accepted p0 c.state e.event e (step_is p0 c.state e.event next is.step) refl is.answer is.address)
+    state_is : new.state ≡ next.state
+    state_is = made.state ∙ ap (λ (s : State). (after p0 s e.event).state) carries.state
 
     -- voices before the turn, by which it is due as it was, and leaves these
     record Before (d : Due) (left : List Voice) : Type 0 where
       voices : List Voice
       agree : Agree c.voices voices
-      says : Says d (before voices) (afterwards left) c.state e gone
+      says : Says d (agents_of (before voices)) (agents_of (afterwards left)) c.state e gone
 
     carries_on : (d : Due) → due_of p0 c.state a ≡ d → (left : Carried) → Carries new left → ((scene : Scene) → AgreesWith left scene → Before d scene.voices) →
         ActsAs new c (λ w. act p0 w a) (Made e)
@@ -254,20 +240,18 @@ module _ (old new : World) (c : Carried) (carries : Carries old c) (platform : n
       where
         turned : (scene : Scene) (b : Before d scene.voices) → IsMade (before b.voices) (afterwards scene.voices) a e
         turned scene b = record {
-          entries = made.entries;
-          is = λ s so. subst (λ (t : State). IsStepOf (before b.voices) (afterwards scene.voices) t a e) (same_Some c.state s (sym carries.is ∙ so)) (record {
+          is = subst (λ (t : State). IsStepOf p0 (agents_of (before b.voices)) (agents_of (afterwards scene.voices)) t a e) (sym carries.state) (record {
             actor = is.actor;
             step = is.step;
             answer = is.answer;
             address = is.address;
-            says = subst (λ (x : Due). Says x (before b.voices) (afterwards scene.voices) c.state e gone) (sym due_is) b.says;
+            says = subst (λ (x : Due). Says x (agents_of (before b.voices)) (agents_of (afterwards scene.voices)) c.state e gone) (sym due_is) b.says;
           });
-          asked = made.asked;
-          idle = made.idle;
+          state = made.state;
         }
 
     -- no voice had a say
-    makes_carries : (x : Event) → due_of p0 c.state a ≡ due.Makes x → e.event ≡ x → IsUnasked old new gone → ActsAs new c (λ w. act p0 w a) (Made e)
+    makes_carries : (x : Event) → due_of p0 c.state a ≡ due.Makes x → e.event ≡ x → IsUnasked (agents_of old) (agents_of new) gone → ActsAs new c (λ w. act p0 w a) (Made e)
     makes_carries x due_is same none = carries_on (due.Makes x) due_is left onward found
       where
         left : Carried
@@ -275,7 +259,7 @@ module _ (old new : World) (c : Carried) (carries : Carries old c) (platform : n
 
         onward : Carries new left
         onward = record {
-          is = replay;
+          state = state_is;
           voices = λ k v told. ap (λ (ws : List (Option Voice)). voice_told ws k) none.voices ∙ gone_tells gone c.voices old.voices carries.voices k v told;
           last = none.last ∙ carries.last;
         }
@@ -295,7 +279,7 @@ module _ (old new : World) (c : Carried) (carries : Carries old c) (platform : n
         }
 
     -- the voice of processor k had
-    asks_carries : (k : ℕ) → due_of p0 c.state a ≡ due.Asks k → IsSaid old new c.state k e gone → ActsAs new c (λ w. act p0 w a) (Made e)
+    asks_carries : (k : ℕ) → due_of p0 c.state a ≡ due.Asks k → IsSaid (agents_of old) (agents_of new) c.state k e gone → ActsAs new c (λ w. act p0 w a) (Made e)
     asks_carries k due_is it = carries_on (due.Asks k) due_is left onward found
       where
         q : Question
@@ -319,7 +303,7 @@ module _ (old new : World) (c : Carried) (carries : Carries old c) (platform : n
 
         onward : Carries new left
         onward = record {
-          is = replay;
+          state = state_is;
           voices = λ j v is_told.
               ap (λ (ws : List (Option Voice)). voice_told ws j) it.voices
               ∙ gone_tells gone (slice_set c.voices k (left_of told q)) (slice_set old.voices k it.left)
@@ -369,11 +353,11 @@ module _ (old new : World) (c : Carried) (carries : Carries old c) (platform : n
     pub entry_carries : ActsAs new c (λ w. act p0 w a) (Made e)
     entry_carries = by (due_of p0 c.state a) refl is.says
       where
-        by : (d : Due) → due_of p0 c.state a ≡ d → Says d old new c.state e gone → ActsAs new c (λ w. act p0 w a) (Made e)
+        by : (d : Due) → due_of p0 c.state a ≡ d → Says d (agents_of old) (agents_of new) c.state e gone → ActsAs new c (λ w. act p0 w a) (Made e)
         by due.Idle due_is says = elim says [ ]
         by (due.Makes x) due_is says = makes_carries x due_is says.0 says.1
         by (due.Asks k) due_is says = asks_carries k due_is says
 
-pub acts_as : (old new : World) (a : Actor) (turn : Turn) (c : Carried) → Carries old c → new.platform ≡ old.platform → IsTurned old new a turn → ActsAs new c (λ w. act old.platform w a) turn
-acts_as old new a (Made e) c carries platform made = entry_carries old new c carries platform a e made
-acts_as old new a Idle c carries platform idle = idle_carries old new c carries platform a idle
+pub acts_as : (old new : Live) (a : Actor) (turn : Turn) (c : Carried) → Carries old c → IsTurned old new a turn → ActsAs new c (λ w. act old.platform w a) turn
+acts_as old new a (Made e) c carries made = entry_carries old new c carries a e made
+acts_as old new a Idle c carries idle = idle_carries old new c carries a idle

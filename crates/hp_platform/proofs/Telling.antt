@@ -13,7 +13,8 @@ use Rattle.hp_model.specs.declared.turns.Due.{Due}
 use Rattle.hp_model.specs.declared.turns.Due.TheVariants as due
 use Rattle.hp_model.specs.Block.{ejected_by}
 use Rattle.hp_model.specs.Following.{voice_told, without_agent}
-use Rattle.hp_model.specs.Runs.{address_of, run}
+use Rattle.hp_model.specs.Platform.{is_late}
+use Rattle.hp_model.specs.Runs.{IsStepBy, address_of}
 use Rattle.hp_model.specs.Schedule.{Scene, act, does, entry_of, made_by, makes_none, question, question_in, said_by, voice_at, without_voice}
 use Rattle.hp_model.specs.State.{State}
 use Rattle.hp_model.specs.Access.{normal}
@@ -24,10 +25,10 @@ use Rattle.hp_agent.specs.Speaking.{Speaks}
 use Rattle.hp_platform.specs.declared.worlds.Turn.{Turn}
 use Rattle.hp_platform.specs.declared.worlds.Turn.TheVariants.{Made, Idle}
 use Rattle.hp_platform.specs.Board.{is_step}
-use Rattle.hp_platform.specs.World.{Acts, IsIdle, IsMade, IsSaid, IsStepOf, IsTurned, IsUnasked, Says, StandsFor, World}
+use Rattle.hp_platform.specs.Agents.{IsSaid, IsStepOf, IsUnasked, Says}
+use Rattle.hp_platform.specs.Carrying.{Acts, StandsFor}
+use Rattle.hp_platform.specs.Live.{IsIdle, IsMade, IsTurned, Live, agents_of}
 use Rattle.hp_platform.proofs.Stepping.{asks_is, makes_is}
-use Rattle.hp_model.proofs.Scheduled.{run-more}
-use Rattle.hp_platform.proofs.Turning.{accepted}
 
 -- told voices
 pub told-is : (vs : List Voice) (k : ℕ) → get_or (map (λ v. Some v) vs) k (Some silent) ≡ Some (slice_index_or vs k silent)
@@ -53,14 +54,18 @@ step_is p s x t e = by (is_step p s x) e
     by true e = refl
     by false e = cc
 
-module _ (old new : World) (w : Scene) (tells : StandsFor old w) (platform : new.platform ≡ old.platform) where
+module _ (old new : Live) (w : Scene) (tells : StandsFor old w) where
   abbrev p0 : Platform
   p0 = old.platform
 
+  -- what was made in the machine's state was in the scene's
+  step_in : (a : Actor) (e : Entry) → IsMade old new a e → IsStepOf p0 (agents_of old) (agents_of new) w.state a e
+  step_in a e made = subst (λ (s : State). IsStepOf p0 (agents_of old) (agents_of new) s a e) tells.state made.is
+
   -- a made step, whose event is the schedule's, is the schedule's
   module _ (a : Actor) (e : Entry) (made : IsMade old new a e) (x : Event) (vs : List Voice) (last : Answer → List Answer) where
-    abbrev is : IsStepOf old new w.state a e
-    is = made.is w.state tells.is
+    is : IsStepOf p0 (agents_of old) (agents_of new) w.state a e
+    is = step_in a e made
 
     abbrev next : After
     next = after p0 w.state x
@@ -81,15 +86,13 @@ module _ (old new : World) (w : Scene) (tells : StandsFor old w) (platform : new
       its_entry : entry_of w x next ≡ e
       its_entry = ap (λ (y : Event). entry y (address_of w.state x) next.answer) (sym same) ∙ ap (λ (o : Option ℕ). entry e.event o next.answer) (sym its_address) ∙ ap (entry e.event e.at) (sym its_answer)
 
-      replay : run new.platform new.entries ≡ Some next.state
-      replay =
-          ap (λ (q : Platform). run q new.entries) platform ∙ ap (run p0) made.entries
-          ∙ run-more p0 old.entries e w.state next.state tells.is (accepted p0 w.state x e (step_is p0 w.state x next its_step) same its_answer its_address)
+      state_is : new.state ≡ next.state
+      state_is = made.state ∙ ap (λ (s : State). (after p0 s e.event).state) tells.state ∙ ap (λ (y : Event). (after p0 w.state y).state) same
 
       made_acts : Acts new (made_by w x vs last (step p0 w.state x)) (Made e)
       made_acts = subst (λ (o : Option After). Acts new (made_by w x vs last o) (Made e)) (sym its_step) (record {
         entries = ap (λ (f : Entry). f ∷ []) its_entry;
-        scene = record { is = replay; voices = voices; last = answers };
+        scene = record { state = state_is; voices = voices; last = answers };
       })
 
   -- which processor was ejected, by the entry's event and by the schedule's
@@ -97,14 +100,14 @@ module _ (old new : World) (w : Scene) (tells : StandsFor old w) (platform : new
   gone y = ejected_by w.state.block (after p0 w.state y).state.block
 
   -- no voice had a say
-  makes_acts : (a : Actor) (e : Entry) (x : Event) → IsMade old new a e → e.event ≡ x → IsUnasked old new (gone e.event) → Acts new (does p0 w (due.Makes x)) (Made e)
+  makes_acts : (a : Actor) (e : Entry) (x : Event) → IsMade old new a e → e.event ≡ x → IsUnasked (agents_of old) (agents_of new) (gone e.event) → Acts new (does p0 w (due.Makes x)) (Made e)
   makes_acts a e x made same none =
       made_acts a e made x w.voices (λ answer. w.last) same
       (none.voices ∙ ap (without_agent (gone e.event)) tells.voices ∙ without-is (gone e.event) w.voices ∙ ap (λ (y : Event). map (λ v. Some v) (without_voice (gone y) w.voices)) same)
       (none.last ∙ tells.last)
 
   -- the voice of processor k had
-  module _ (a : Actor) (e : Entry) (k : ℕ) (made : IsMade old new a e) (said : IsSaid old new w.state k e (gone e.event)) where
+  module _ (a : Actor) (e : Entry) (k : ℕ) (made : IsMade old new a e) (said : IsSaid (agents_of old) (agents_of new) w.state k e (gone e.event)) where
     told : voice_told old.voices k ≡ Some (voice_at w k)
     told = ap (λ (vs : List (Option Voice)). voice_told vs k) tells.voices ∙ told-is w.voices k
 
@@ -129,13 +132,13 @@ module _ (old new : World) (w : Scene) (tells : StandsFor old w) (platform : new
     asks_acts =
         made_acts a e made said_event kept (slice_set w.last k) same
         (said.voices ∙ ap (without_agent (gone e.event)) set-is ∙ without-is (gone e.event) kept ∙ ap (λ (y : Event). map (λ v. Some v) (without_voice (gone y) kept)) same)
-        (said.last ∙ ap (λ (vs : List Answer). slice_set vs k e.answer) tells.last ∙ ap (slice_set w.last k) ((made.is w.state tells.is).answer ∙ ap (answer_of w.state) same))
+        (said.last ∙ ap (λ (vs : List Answer). slice_set vs k e.answer) tells.last ∙ ap (slice_set w.last k) ((step_in a e made).answer ∙ ap (answer_of w.state) same))
 
   entry_acts : (a : Actor) (e : Entry) → IsMade old new a e → Acts new (act p0 w a) (Made e)
   unfolding act
-  entry_acts a e made = by (due_of p0 w.state a) (made.is w.state tells.is).says
+  entry_acts a e made = by (due_of p0 w.state a) (step_in a e made).says
     where
-      by : (d : Due) → Says d old new w.state e (gone e.event) → Acts new (does p0 w d) (Made e)
+      by : (d : Due) → Says d (agents_of old) (agents_of new) w.state e (gone e.event) → Acts new (does p0 w d) (Made e)
       by due.Idle says = elim says [ ]
       by (due.Makes x) says = makes_acts a e x made says.0 says.1
       by (due.Asks k) says = asks_acts a e k made says
@@ -148,24 +151,23 @@ module _ (old new : World) (w : Scene) (tells : StandsFor old w) (platform : new
       same : Acts new (makes_none w) Idle
       same = record {
         entries = refl;
-        scene = record {
-          is = ap (λ (q : Platform). run q new.entries) platform ∙ ap (run p0) idle.entries ∙ tells.is;
-          voices = idle.voices ∙ tells.voices;
-          last = idle.last ∙ tells.last;
-        };
+        scene = subst (λ (l : Live). StandsFor l w) (sym idle.same) tells;
       }
+
+      none : (x : Event) → IsStepBy (is_late p0.delivery) a x → step p0 w.state x ≡ None
+      none x by_it = ap (λ (s : State). step p0 s x) (sym tells.state) ∙ idle.none.none x by_it
 
       stays : (x : Event) (vs : List Voice) (last : Answer → List Answer) → step p0 w.state x ≡ None → Acts new (made_by w x vs last (step p0 w.state x)) Idle
       stays x vs last none = subst (λ (o : Option After). Acts new (made_by w x vs last o) Idle) (sym none) same
 
       by : (d : Due) → due_of p0 w.state a ≡ d → Acts new (does p0 w d) Idle
       by due.Idle due_is = same
-      by (due.Makes x) due_is = stays x w.voices (λ answer. w.last) ((idle.none w.state tells.is).none x (makes_is p0 w.state a x due_is).actor)
+      by (due.Makes x) due_is = stays x w.voices (λ answer. w.last) (none x (makes_is p0 w.state a x due_is).actor)
       by (due.Asks k) due_is =
           let a_is : a ≡ actor.Cpu k = (asks_is p0 w.state a k due_is).actor in
           stays (event.Do k (normal (said_by w k).access)) (slice_set w.voices k (said_by w k).voice) (slice_set w.last k)
-          ((idle.none w.state tells.is).none (event.Do k (normal (said_by w k).access)) (inl (sym a_is)))
+          (none (event.Do k (normal (said_by w k).access)) (inl (sym a_is)))
 
-pub acts : (old new : World) (a : Actor) (turn : Turn) (w : Scene) → StandsFor old w → new.platform ≡ old.platform → IsTurned old new a turn → Acts new (act old.platform w a) turn
-acts old new a (Made e) w tells platform made = entry_acts old new w tells platform a e made
-acts old new a Idle w tells platform idle = idle_acts old new w tells platform a idle
+pub acts : (old new : Live) (a : Actor) (turn : Turn) (w : Scene) → StandsFor old w → IsTurned old new a turn → Acts new (act old.platform w a) turn
+acts old new a (Made e) w tells made = entry_acts old new w tells a e made
+acts old new a Idle w tells idle = idle_acts old new w tells a idle

@@ -1,5 +1,5 @@
 -- What contracts see of a world, and what a turn and an event make of it.
-use Rattle.std.specs.Prelude.{◌≡◌, ◌≤◌, ℕ, Bool, ◌&&◌, nat_lt, ◌+◌, ◌-◌, ◌^◌, min, List, [], ◌∷◌, ◌++◌, length, map, take, Option, Some, None, IsSome, slice_index_or, slice_set, if◌then◌else◌}
+use Rattle.std.specs.Prelude.{◌≡◌, ◌≤◌, ℕ, Bool, ◌&&◌, nat_lt, ◌+◌, ◌-◌, ◌^◌, min, List, [], ◌∷◌, ◌++◌, length, take, Option, Some, None, IsSome, slice_index_or, slice_set, if◌then◌else◌}
 use Rattle.hp_model.specs.declared.platforms.Platform.{Platform}
 use Rattle.hp_model.specs.declared.accesses.Answer.{Answer}
 use Rattle.hp_model.specs.declared.entries.Actor.{Actor}
@@ -10,7 +10,6 @@ use Rattle.hp_model.specs.declared.turns.Due.{Due}
 use Rattle.hp_model.specs.Boot.{is_handed}
 use Rattle.hp_model.specs.Platform.{IsFit, count_of, is_late}
 use Rattle.hp_model.specs.Runs.{address_of, run}
-use Rattle.hp_model.specs.Schedule.{Scene, Made as Scheduled}
 use Rattle.hp_model.specs.State.{State}
 use Rattle.hp_model.specs.Step.{step}
 use Rattle.hp_model.specs.Voices.{Voice}
@@ -155,18 +154,3 @@ pub record IsSound (w : World) : Type 0 where
   pub fit : IsFit w.platform
   pub run : IsSome (run w.platform w.entries)
   pub noted : IsNoted w.platform w.entries w.asked w.idle
-
--- all agents tell their voices: then the world stands for a scene of the schedule
-pub record StandsFor (w : World) (scene : Scene) : Type 0 where
-  pub is : run w.platform w.entries ≡ Some scene.state
-  pub voices : w.voices ≡ map (λ v. Some v) scene.voices
-  pub last : w.last ≡ scene.last
-
-abbrev pub entries_in : Turn → List Entry
-entries_in (Made e) = e ∷ []
-entries_in Idle = []
-
--- a turn made these entries, and then the world stands for this scene
-pub record Acts (w : World) (m : Scheduled) (turn : Turn) : Type 0 where
-  pub entries : m.entries ≡ entries_in turn
-  pub scene : StandsFor w m.scene

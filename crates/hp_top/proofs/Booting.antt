@@ -10,18 +10,17 @@ use Rattle.hp_model.specs.declared.files.VoiceKind.{VoiceKind}
 use Rattle.hp_model.specs.declared.outcomes.BootFact.{BootFact}
 use Rattle.hp_model.specs.Boot.{fact_of}
 use Rattle.hp_model.specs.Following.{Carried}
-use Rattle.hp_model.specs.Runs.{run}
 use Rattle.hp_model.specs.Schedule.{Scene, Made, act_all, turns_from, scene_start, boot_turns, booted, boot_fact}
 use Rattle.hp_model.specs.State.{State, start}
 use Rattle.hp_model.specs.Text.{lines_text, end_text, head_text}
 use Rattle.hp_model.specs.Voices.{Voice, Agree}
 use Rattle.hp_model.proofs.Agreeing.{some_voices, some_agree}
 use Rattle.hp_platform.specs.Carrying.{AgreesWith}
-use Rattle.hp_platform.specs.World.{World}
+use Rattle.hp_platform.specs.Live.{Live}
 use Rattle.hp_top.specs.Answers.{IsWritten, IsCut}
 use Rattle.hp_top.specs.Sent.{HoldsFront}
 use Rattle.hp_top.specs.Turns.{Sends, Writes, Cuts, lines_of, output, boot_left, turns_text, carried_start, with_voices}
-use Rattle.hp_top.specs.Worlds.{StandsFor}
+use Rattle.hp_top.specs.Lives.{StandsFor}
 use Rattle.hp_top.proofs.Completing.{written}
 use Rattle.hp_top.proofs.Schedule.{after_boot, text_rest, output_rest, head_front, boot_front, refused_sent, turns_front_sent, turns_sent, turns_lines_front, end_front, end_sent}
 use Rattle.hp_top.proofs.Sending.{front_none}
@@ -32,7 +31,7 @@ module _ (p : Platform) (c : Carried) (part : Scene → Made) (booted : ℕ) (a 
   pub part_cuts : Cuts c (lines_of part) a b → Cuts c (λ w. turns_text booted (part w)) a b
   part_cuts cut = record { scene = cut.scene; agrees = cut.agrees; front = turns_lines_front (part cut.scene) booted a b cut.front }
 
-  module _ (world : World) (made : ℕ) (d : Option (List ℕ)) (sends : Sends p world c part made a b) where
+  module _ (live : Live) (made : ℕ) (d : Option (List ℕ)) (sends : Sends p live c part made a b) where
     pub end_writes : Appends b d (end_text (booted + made)) → Writes c (λ w. turns_text booted (part w)) a d
     end_writes end =
         let m = sends.leads.made (some_scene sends.left) (scene_agrees sends.left) in
@@ -78,7 +77,7 @@ module _ (p : Platform) (told : List (Option Voice)) (n : ℕ) (is : n ≡ boot_
       ap (λ (m : ℕ). act_all p (scene_start p w.voices) (boot_left m)) (sym is)
       ∙ ap (λ (v : Scene). act_all p v (boot_left n)) (sym (start_is p told w agrees))
 
-  boots_to : (seen : World) (made : ℕ) (a b : Option (List ℕ)) (boot : Sends p seen (carried_start p told) (λ w. act_all p w (boot_left n)) made a b) (scene : Scene) → AgreesWith boot.left scene →
+  boots_to : (seen : Live) (made : ℕ) (a b : Option (List ℕ)) (boot : Sends p seen (carried_start p told) (λ w. act_all p w (boot_left n)) made a b) (scene : Scene) → AgreesWith boot.left scene →
       BootsTo p told boot.entries scene
   boots_to seen made a b boot scene agrees =
       let m = boot.leads.made scene agrees in
@@ -90,11 +89,11 @@ module _ (p : Platform) (told : List (Option Voice)) (n : ℕ) (is : n ≡ boot_
       }
 
 -- the scene after it shows what refused it
-fact_is : (p : Platform) (told : List (Option Voice)) (seen : World) (left : Carried) (scene : Scene) (es : List Entry) (o : Option BootFact) → StandsFor p seen left → AgreesWith left scene →
-    ((s : State) → run seen.platform seen.entries ≡ Some s → o ≡ fact_of s.stage) → (boots : BootsTo p told es scene) → o ≡ boot_fact p boots.voices
+fact_is : (p : Platform) (told : List (Option Voice)) (seen : Live) (left : Carried) (scene : Scene) (es : List Entry) (o : Option BootFact) → StandsFor p seen left → AgreesWith left scene →
+    o ≡ fact_of seen.state.stage → (boots : BootsTo p told es scene) → o ≡ boot_fact p boots.voices
 unfolding boot_fact
 fact_is p told seen left scene es o shows agrees found boots =
-    found left.state shows.carries.is ∙ ap (λ (s : State). fact_of s.stage) (sym agrees.state) ∙ ap (λ (w : Scene). fact_of w.state.stage) (sym boots.scene)
+    found ∙ ap (λ (s : State). fact_of s.stage) (shows.carries.state ∙ sym agrees.state) ∙ ap (λ (w : Scene). fact_of w.state.stage) (sym boots.scene)
 
 -- nothing was written
 pub none_written : (f : File) (told : List (Option Voice)) (a : Option (List ℕ)) → IsCut f told a a
@@ -123,8 +122,8 @@ module _ (f : File) (told : List (Option Voice)) (a b : Option (List ℕ)) where
     }
 
     -- all of them were, and the state after them shows what refused it, or nothing
-    module _ (seen : World) (made : ℕ) (boot : Sends f.platform seen (carried_start f.platform told) (λ w. act_all f.platform w (boot_left n)) made b c)
-        (o : Option BootFact) (found : (s : State) → run seen.platform seen.entries ≡ Some s → o ≡ fact_of s.stage) where
+    module _ (seen : Live) (made : ℕ) (boot : Sends f.platform seen (carried_start f.platform told) (λ w. act_all f.platform w (boot_left n)) made b c)
+        (o : Option BootFact) (found : o ≡ fact_of seen.state.stage) where
       boots : (scene : Scene) → AgreesWith boot.left scene → BootsTo f.platform told boot.entries scene
       boots scene agrees = boots_to f.platform told n is seen made b c boot scene agrees
 

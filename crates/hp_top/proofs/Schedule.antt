@@ -13,8 +13,8 @@ use Rattle.hp_model.specs.Voices.{Voice}
 use Rattle.hp_model.specs.Text.{lines_text, end_text, head_text, trace_text}
 use Rattle.hp_top.proofs.Sending.{sent_none, sent_more, sent_all, front_part}
 use Rattle.hp_top.proofs.Turning.{lines_text-append, both-assoc, act_all-append, act_all-one, then_make, sends_same, sends_both, sends_empty, cuts_same, cuts_both, cuts_more}
-use Rattle.hp_platform.specs.World.{World}
-use Rattle.hp_top.specs.Worlds.{StandsFor}
+use Rattle.hp_platform.specs.Live.{Live}
+use Rattle.hp_top.specs.Lives.{StandsFor}
 use Rattle.hp_top.specs.Sent.{IsSent, HoldsFront}
 use Rattle.hp_top.specs.Turns.{Sends, Cuts, lines_of, run_text, boot_text, text_by, output, turns_text, with_voices}
 
@@ -27,7 +27,7 @@ module _ (f : File) (turn : ℕ) (c : Carried) (hosts : List Actor) (same : host
   unfolding actors_of
   free x e = ap (λ (xs : List Actor). xs ++ (x ∷ [])) same ∙ ap (λ (xs : List Actor). hosts_of f turn ++ xs) (sym e)
 
-  module _ (mid : World) (made : ℕ) (a b : Option (List ℕ)) (first : Sends f.platform mid c (λ w. act_all f.platform w hosts) made a b) where
+  module _ (mid : Live) (made : ℕ) (a b : Option (List ℕ)) (first : Sends f.platform mid c (λ w. act_all f.platform w hosts) made a b) where
     -- the host's events alone, where the processor is stalled
     pub turn_stalled : cpus_of f turn ≡ [] → Sends f.platform mid c (λ w. act_all f.platform w (actors_of f turn)) made a b
     turn_stalled e = subst (λ (xs : List Actor). Sends f.platform mid c (λ w. act_all f.platform w xs) made a b) (stalled e) first
@@ -39,7 +39,7 @@ module _ (f : File) (turn : ℕ) (c : Carried) (hosts : List Actor) (same : host
           ∙ sym (act_all-append f.platform hosts (x ∷ []) w) ∙ ap (act_all f.platform w) (free x e)
 
       -- and then the processor
-      pub turn_both : (new : World) (count : ℕ) → ((v : Carried) → StandsFor f.platform mid v → Sends f.platform new v (λ w. act f.platform w x) count b d)
+      pub turn_both : (new : Live) (count : ℕ) → ((v : Carried) → StandsFor f.platform mid v → Sends f.platform new v (λ w. act f.platform w x) count b d)
           → Sends f.platform new c (λ w. act_all f.platform w (actors_of f turn)) (made + count) a d
       turn_both new count next =
           sends_same f.platform new c (then_make (λ w. act_all f.platform w hosts) (λ w. act f.platform w x)) (λ w. act_all f.platform w (actors_of f turn)) (made + count) a d both
@@ -86,13 +86,13 @@ turns-first : (f : File) (m t : ℕ) (w : Scene) → turns_from f (suc m) t w �
 unfolding turns_from
 turns-first f m t w = refl
 
-pub turns_start : (f : File) (c : Carried) (seen : World) (a : Option (List ℕ)) → StandsFor f.platform seen c → Sends f.platform seen c (λ w. turns_from f 0 0 w) 0 a a
+pub turns_start : (f : File) (c : Carried) (seen : Live) (a : Option (List ℕ)) → StandsFor f.platform seen c → Sends f.platform seen c (λ w. turns_from f 0 0 w) 0 a a
 unfolding turns_from act_all
 turns_start f c seen a shows = sends_empty f.platform c seen a shows
 
-module _ (f : File) (turn : ℕ) (c : Carried) (mid : World) (made : ℕ) (a b d : Option (List ℕ)) (first : Sends f.platform mid c (λ w. turns_from f turn 0 w) made a b) where
+module _ (f : File) (turn : ℕ) (c : Carried) (mid : Live) (made : ℕ) (a b d : Option (List ℕ)) (first : Sends f.platform mid c (λ w. turns_from f turn 0 w) made a b) where
   -- a turn more
-  pub turns_more : (new : World) (count : ℕ) → ((v : Carried) → StandsFor f.platform mid v → Sends f.platform new v (λ w. act_all f.platform w (actors_of f turn)) count b d)
+  pub turns_more : (new : Live) (count : ℕ) → ((v : Carried) → StandsFor f.platform mid v → Sends f.platform new v (λ w. act_all f.platform w (actors_of f turn)) count b d)
       → Sends f.platform new c (λ w. turns_from f (turn + 1) 0 w) (made + count) a d
   turns_more new count next =
       let here : 0 + turn ≡ turn = omega arith in

@@ -1,4 +1,4 @@
--- A world before its first step, whose agents are those of a file's kinds and those that were handed in.
+-- A machine before its first step, whose agents are those of a file's kinds and those that were handed in.
 use Rattle.std.proofs.Common.{◌≡◌, ℕ, List, [], ◌∷◌, ◌++◌, length, map, replicate, Option, Some, None, refl, sym, ◌∙◌, ap, append_assoc}
 use Rattle.hp_model.specs.declared.platforms.Platform.{Platform}
 use Rattle.hp_model.specs.declared.accesses.Answer.{Answer}
@@ -7,16 +7,15 @@ use Rattle.hp_model.specs.declared.files.VoiceKind.{VoiceKind}
 use Rattle.hp_model.specs.declared.files.VoiceKind.TheVariants as kind
 use Rattle.hp_model.specs.Following.{voice_told}
 use Rattle.hp_model.specs.Platform.{count_of}
-use Rattle.hp_model.specs.Runs.{run, run_from}
 use Rattle.hp_model.specs.State.{start}
 use Rattle.hp_model.specs.Voices as model
 use Rattle.hp_model.specs.Voices.{voice_of, with_handed, told_by}
 use Rattle.hp_agent.specs.declared.kinds.Voice.{Voice}
 use Rattle.hp_agent.specs.Kinds.{place_voice, place_voices}
-use Rattle.hp_platform.specs.World.{World}
+use Rattle.hp_platform.specs.Live.{Live}
 use Rattle.hp_top.specs.Handing.{first_for, rest_for}
 use Rattle.hp_top.specs.Turns.{carried_start}
-use Rattle.hp_top.specs.Worlds.{StandsFor}
+use Rattle.hp_top.specs.Lives.{StandsFor}
 
 map-last : {X Y : Type 0} (f : X → Y) (xs : List X) (x : X) → map f (xs ++ x ∷ []) ≡ map f xs ++ f x ∷ []
 map-last f [] x = refl
@@ -63,21 +62,17 @@ told_more handed ps place told rest is =
     ∙ append_assoc (place_voices handed ps) (place_voice handed place ∷ []) rest
     ∙ ap (λ (o : Option model.Voice). place_voices handed ps ++ o ∷ rest) is
 
-run-none : (p : Platform) → run p [] ≡ Some (start p)
-unfolding run run_from
-run-none p = refl
-
 all_quiet : (told : List (Option model.Voice)) → replicate (length told) Quiet ≡ map {A = Option model.Voice} {B = Answer} (λ o. Quiet) told
 all_quiet [] = refl
 all_quiet (o ∷ told) = ap (λ (vs : List Answer). Quiet ∷ vs) (all_quiet told)
 
 -- it stands for what is carried at the start
-pub starts : (p : Platform) (told : List (Option model.Voice)) (world : World) → world.platform ≡ p → world.entries ≡ [] → world.voices ≡ told → world.last ≡ replicate (count_of p) Quiet →
-    length told ≡ count_of p → StandsFor p world (carried_start p told)
-starts p told world platform entries voices last count = record {
+pub starts : (p : Platform) (told : List (Option model.Voice)) (live : Live) → live.platform ≡ p → live.state ≡ start p → live.voices ≡ told → live.last ≡ replicate (count_of p) Quiet →
+    length told ≡ count_of p → StandsFor p live (carried_start p told)
+starts p told live platform state voices last count = record {
   platform = platform;
   carries = record {
-    is = ap (λ (q : Platform). run q world.entries) platform ∙ ap (run p) entries ∙ run-none p;
+    state = state;
     voices = λ k v is. ap (λ (os : List (Option model.Voice)). voice_told os k) voices ∙ is;
     last = last ∙ ap (λ (n : ℕ). replicate n Quiet) (sym count) ∙ all_quiet told;
   };

@@ -15,8 +15,8 @@ use Rattle.hp_model.specs.Text.{line_text, lines_text}
 use Rattle.hp_model.proofs.Agreeing.{some_voices, some_agree}
 use Rattle.hp_platform.specs.declared.worlds.Turn.TheVariants as turn
 use Rattle.hp_platform.specs.Carrying.{AgreesWith, Leads}
-use Rattle.hp_platform.specs.World.{World}
-use Rattle.hp_top.specs.Worlds.{StandsFor, Takes}
+use Rattle.hp_platform.specs.Live.{Live}
+use Rattle.hp_top.specs.Lives.{StandsFor, Takes}
 use Rattle.hp_top.specs.Sent.{HoldsFront}
 use Rattle.hp_top.specs.Turns.{Sends, Cuts, lines_of, due, past, boot_left, DoneActors}
 use Rattle.hp_top.proofs.Sending.{front_part, front_none}
@@ -42,7 +42,7 @@ scene_agrees c = record { state = refl; voices = some_agree c.voices; last = ref
 abbrev pub then_make : (Scene → Made) → (Scene → Made) → Scene → Made
 then_make part more w = both_make (part w) (more (part w).scene)
 
-leads_same : (c left : Carried) (part other : Scene → Made) (es : List Entry) → ((w : Scene) → part w ≡ other w) → Leads c part es left → Leads c other es left
+pub leads_same : (c left : Carried) (part other : Scene → Made) (es : List Entry) → ((w : Scene) → part w ≡ other w) → Leads c part es left → Leads c other es left
 leads_same c left part other es same leads = record {
   made = λ scene agrees. let m = leads.made scene agrees in record {
     scene = m.scene;
@@ -52,7 +52,7 @@ leads_same c left part other es same leads = record {
   };
 }
 
-leads_then : (c mid left : Carried) (part more : Scene → Made) (es fs : List Entry) → Leads c part es mid → Leads mid more fs left → Leads c (then_make part more) (es ++ fs) left
+pub leads_then : (c mid left : Carried) (part more : Scene → Made) (es fs : List Entry) → Leads c part es mid → Leads mid more fs left → Leads c (then_make part more) (es ++ fs) left
 leads_then c mid left part more es fs first second = record {
   made = λ scene agrees. let n = second.made scene agrees in let m = first.made n.scene n.agrees in record {
     scene = m.scene;
@@ -71,9 +71,9 @@ cuts_none c text a = record { scene = some_scene c; agrees = scene_agrees c; fro
 pub cuts_same : (c : Carried) (text other : Scene → List ℕ) (a b : Option (List ℕ)) → ((w : Scene) → text w ≡ other w) → Cuts c text a b → Cuts c other a b
 cuts_same c text other a b same cut = record { scene = cut.scene; agrees = cut.agrees; front = subst (HoldsFront a b) (same cut.scene) cut.front }
 
-module _ (p : Platform) (world : World) (c : Carried) (part : Scene → Made) (a b : Option (List ℕ)) where
+module _ (p : Platform) (live : Live) (c : Carried) (part : Scene → Made) (a b : Option (List ℕ)) where
   -- an actor made no entry
-  pub sends_none : Takes p world c part turn.Idle → Sends p world c part 0 a a
+  pub sends_none : Takes p live c part turn.Idle → Sends p live c part 0 a a
   sends_none took = record {
     entries = [];
     left = took.acts.left;
@@ -84,7 +84,7 @@ module _ (p : Platform) (world : World) (c : Carried) (part : Scene → Made) (a
   }
 
   -- or one, whose line was sent
-  pub sends_one : (e : Entry) → Takes p world c part (turn.Made e) → Appends a b (line_text e) → Sends p world c part 1 a b
+  pub sends_one : (e : Entry) → Takes p live c part (turn.Made e) → Appends a b (line_text e) → Sends p live c part 1 a b
   sends_one e took grown = record {
     entries = e ∷ [];
     left = took.acts.left;
@@ -95,14 +95,14 @@ module _ (p : Platform) (world : World) (c : Carried) (part : Scene → Made) (a
   }
 
   -- or sent in part
-  pub cuts_one : (e : Entry) → Takes p world c part (turn.Made e) → HoldsFront a b (line_text e) → Cuts c (lines_of part) a b
+  pub cuts_one : (e : Entry) → Takes p live c part (turn.Made e) → HoldsFront a b (line_text e) → Cuts c (lines_of part) a b
   cuts_one e took cut =
       let m = took.acts.leads.made (some_scene took.acts.left) (scene_agrees took.acts.left) in
       record { scene = m.scene; agrees = m.agrees; front = subst (λ (es : List Entry). HoldsFront a b (lines_text es)) (sym m.entries) (subst (HoldsFront a b) (sym (lines_text-one e)) cut) }
 
-pub sends_same : (p : Platform) (world : World) (c : Carried) (part other : Scene → Made) (made : ℕ) (a b : Option (List ℕ)) → ((w : Scene) → part w ≡ other w) →
-    Sends p world c part made a b → Sends p world c other made a b
-sends_same p world c part other made a b same sends = record {
+pub sends_same : (p : Platform) (live : Live) (c : Carried) (part other : Scene → Made) (made : ℕ) (a b : Option (List ℕ)) → ((w : Scene) → part w ≡ other w) →
+    Sends p live c part made a b → Sends p live c other made a b
+sends_same p live c part other made a b same sends = record {
   entries = sends.entries;
   left = sends.left;
   leads = leads_same c sends.left part other sends.entries same sends.leads;
@@ -130,9 +130,9 @@ front_more es fs a b part =
       };
     })
 
-module _ (p : Platform) (mid : World) (c : Carried) (part more : Scene → Made) (j : ℕ) (a b d : Option (List ℕ)) (first : Sends p mid c part j a b) where
+module _ (p : Platform) (mid : Live) (c : Carried) (part more : Scene → Made) (j : ℕ) (a b d : Option (List ℕ)) (first : Sends p mid c part j a b) where
   -- one part and then another
-  pub sends_both : (new : World) (k : ℕ) → ((v : Carried) → StandsFor p mid v → Sends p new v more k b d) → Sends p new c (then_make part more) (j + k) a d
+  pub sends_both : (new : Live) (k : ℕ) → ((v : Carried) → StandsFor p mid v → Sends p new v more k b d) → Sends p new c (then_make part more) (j + k) a d
   sends_both new k next =
       let second = next first.left first.shows in
       record {
@@ -180,7 +180,7 @@ act_all-cons : (p : Platform) (w : Scene) (x : Actor) (xs : List Actor) → act_
 unfolding act_all
 act_all-cons p w x xs = refl
 
-pub sends_empty : (p : Platform) (c : Carried) (seen : World) (a : Option (List ℕ)) → StandsFor p seen c → Sends p seen c (λ w. act_all p w []) 0 a a
+pub sends_empty : (p : Platform) (c : Carried) (seen : Live) (a : Option (List ℕ)) → StandsFor p seen c → Sends p seen c (λ w. act_all p w []) 0 a a
 unfolding act_all
 sends_empty p c seen a shows = record {
   entries = [];
@@ -194,10 +194,10 @@ sends_empty p c seen a shows = record {
 pub due-first : (turn : ℕ) (h : HostEvent) (hs : List HostEvent) → h.turn ≡ turn → due turn (h ∷ hs) ≡ h.actor ∷ due turn hs
 due-first turn h hs is = rw (eq-eqb h.turn turn is) refl
 
-module _ (p : Platform) (c : Carried) (all rest more : List Actor) (x : Actor) (seen : World) (made : ℕ) (a b d : Option (List ℕ))
+module _ (p : Platform) (c : Carried) (all rest more : List Actor) (x : Actor) (seen : Live) (made : ℕ) (a b d : Option (List ℕ))
     (is : rest ≡ x ∷ more) (done : DoneActors p c all rest seen made a b) where
   -- the next of them acted
-  pub done_more : (new : World) (count : ℕ) → ((v : Carried) → StandsFor p seen v → Sends p new v (λ w. act p w x) count b d) → DoneActors p c all more new (made + count) a d
+  pub done_more : (new : Live) (count : ℕ) → ((v : Carried) → StandsFor p seen v → Sends p new v (λ w. act p w x) count b d) → DoneActors p c all more new (made + count) a d
   done_more new count next = record {
     front = done.front ++ x ∷ [];
     actors = append_assoc done.front (x ∷ []) more ∙ ap (λ (xs : List Actor). done.front ++ xs) (sym is) ∙ done.actors;
@@ -216,17 +216,17 @@ module _ (p : Platform) (c : Carried) (all rest more : List Actor) (x : Actor) (
       (λ w. ap (λ (m : Made). lines_text m.entries) (sym (act_all-cons p w x more))) (cuts_more v (λ w. act p w x) (λ w. act_all p w more) b d (next v shows))))
 
 -- none of them is left
-pub done_all : (p : Platform) (c : Carried) (all rest : List Actor) (seen : World) (made : ℕ) (a b : Option (List ℕ)) →
+pub done_all : (p : Platform) (c : Carried) (all rest : List Actor) (seen : Live) (made : ℕ) (a b : Option (List ℕ)) →
     DoneActors p c all rest seen made a b → rest ≡ [] → Sends p seen c (λ w. act_all p w all) made a b
 done_all p c all rest seen made a b done none =
     subst (λ (xs : List Actor). Sends p seen c (λ w. act_all p w xs) made a b) (sym (append-nil done.front) ∙ ap (λ (xs : List Actor). done.front ++ xs) (sym none) ∙ done.actors) done.sends
 
 -- none of them acted yet
-pub done_start : (p : Platform) (c : Carried) (all : List Actor) (seen : World) (a : Option (List ℕ)) → StandsFor p seen c → DoneActors p c all all seen 0 a a
+pub done_start : (p : Platform) (c : Carried) (all : List Actor) (seen : Live) (a : Option (List ℕ)) → StandsFor p seen c → DoneActors p c all all seen 0 a a
 done_start p c all seen a shows = record { front = []; actors = refl; sends = sends_empty p c seen a shows }
 
 -- the boot's turns: one is next while some are left
-pub boot_start : (p : Platform) (c : Carried) (all : ℕ) (seen : World) (a : Option (List ℕ)) → StandsFor p seen c → DoneActors p c (boot_left all) (boot_left (all - 0)) seen 0 a a
+pub boot_start : (p : Platform) (c : Carried) (all : ℕ) (seen : Live) (a : Option (List ℕ)) → StandsFor p seen c → DoneActors p c (boot_left all) (boot_left (all - 0)) seen 0 a a
 boot_start p c all seen a shows =
     let none : all ≡ all - 0 = omega arith in
     subst (λ (n : ℕ). DoneActors p c (boot_left all) (boot_left n) seen 0 a a) none (done_start p c (boot_left all) seen a shows)

@@ -1,6 +1,5 @@
 -- What each answer of the top call says of what was read and of what was written.
 use Rattle.std.specs.Prelude.{◌≡◌, ◌⊎◌, ℕ, Bool, true, false, List, [], ◌∷◌, ◌++◌, codes, length, map, ◌≤◌, Option, Some, None, IsSome, Ok, Err}
-use Rattle.std.specs.Str.{bytes_eq}
 use Rattle.std.specs.Io.KnownBytes.{Appends, Keeps}
 use Rattle.hp_model.specs.declared.entries.Entry.{Entry}
 use Rattle.hp_model.specs.declared.files.File.{File}
@@ -17,12 +16,6 @@ use Rattle.hp_top.specs.declared.statuses.Status.TheVariants.{Done, BadWords, Re
 use Rattle.hp_top.specs.Input.{limit, HasRead, HasReadPast, HasReadWithin}
 use Rattle.hp_top.specs.Sent.{HoldsFront}
 use Rattle.hp_top.specs.Turns.{run_text, boot_text, text_by, output, spelled}
-
--- the words are `run` alone
-abbrev pub are_run : List (List ℕ) → Bool
-are_run [] = false
-are_run (word ∷ []) = bytes_eq word (codes "run")
-are_run (word ∷ (other ∷ words)) = false
 
 -- by voices that agree with what is told all was written: the boot read this value that refuses it, or none
 pub record IsWritten (file : File) (told : List (Option Voice)) (value : Option BootFact) (old new : Option (List ℕ)) : Type 0 where

@@ -1,10 +1,14 @@
+pub mod Actors
 pub mod Answers
 pub mod Codes
+pub mod Commands
+pub mod Doing
 pub mod Faults
+pub mod Generated
 pub mod Handing
 pub mod Input
+pub mod Lives
 pub mod Scripted
 pub mod Sent
 pub mod Stalls
 pub mod Turns
-pub mod Worlds

@@ -17,16 +17,16 @@ use Rattle.hp_model.specs.State.{start}
 use Rattle.hp_model.specs.Voices.{Voice}
 use Rattle.hp_model.specs.Text.{head_text, lines_text, end_text, trace_text}
 use Rattle.hp_platform.specs.Carrying.{AgreesWith, Leads}
-use Rattle.hp_platform.specs.World.{World}
+use Rattle.hp_platform.specs.Live.{Live}
 use Rattle.hp_top.specs.Sent.{HoldsFront}
-use Rattle.hp_top.specs.Worlds.{StandsFor}
+use Rattle.hp_top.specs.Lives.{StandsFor}
 
--- entries were made as a part of the schedule does: what the world then stands for, how many there are, and their lines in the sink
-pub record Sends (p : Platform) (world : World) (c : Carried) (part : Scene → Made) (made : ℕ) (old new : Option (List ℕ)) : Type 0 where
+-- entries were made as a part of the schedule does: what the machine then stands for, how many there are, and their lines in the sink
+pub record Sends (p : Platform) (live : Live) (c : Carried) (part : Scene → Made) (made : ℕ) (old new : Option (List ℕ)) : Type 0 where
   pub entries : List Entry
   pub left : Carried
   pub leads : Leads c part entries left
-  pub shows : StandsFor p world left
+  pub shows : StandsFor p live left
   pub count : length entries ≡ made
   pub lines : Appends old new (lines_text entries)
 
@@ -112,7 +112,7 @@ unfoldable pub boot_left : ℕ → List Actor
 boot_left n = replicate n (Cpu 0)
 
 -- these actors acted, as far as they did
-pub record DoneActors (p : Platform) (c : Carried) (all rest : List Actor) (world : World) (made : ℕ) (old new : Option (List ℕ)) : Type 0 where
+pub record DoneActors (p : Platform) (c : Carried) (all rest : List Actor) (live : Live) (made : ℕ) (old new : Option (List ℕ)) : Type 0 where
   pub front : List Actor
   pub actors : front ++ rest ≡ all
-  pub sends : Sends p world c (λ w. act_all p w front) made old new
+  pub sends : Sends p live c (λ w. act_all p w front) made old new

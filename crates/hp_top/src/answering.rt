@@ -8,7 +8,8 @@ ghost use Rattle.hp_boot.specs.Ending.{hands_over};
 ghost use Rattle.hp_config.specs.Reading.{IsReadAs};
 ghost use Rattle.hp_config.specs.Sound.{IsSound};
 ghost use Rattle.hp_top.specs.Faults.{Rose};
-ghost use Rattle.hp_top.specs.Answers.{are_run as are_the_run, EndsFile, EndsRun, Ends, HoldsFile, IsDoneOrNoMemory};
+ghost use Rattle.hp_top.specs.Commands.{are_run as are_the_run};
+ghost use Rattle.hp_top.specs.Answers.{EndsFile, EndsRun, Ends, HoldsFile, IsDoneOrNoMemory};
 
 use crate::outside::{Sink, Source, WriteStop};
 use crate::reading::{ReadStop, read_all};

@@ -1,8 +1,10 @@
 //! The top call of the program: words and bytes in, a status and a trace out. docs/PROOFS.md says what is proved.
 #![tactic(auto)]
 
+mod acting;
 mod answering;
 mod in_memory;
+mod numbers;
 mod outside;
 mod reading;
 mod running;
@@ -11,6 +13,7 @@ mod sorting;
 mod stalling;
 mod statuses;
 mod streams;
+mod summing;
 mod writing;
 
 pub use answering::top;

@@ -13,7 +13,7 @@ ghost use Rattle.hp_agent.specs.Kinds.{own_voice};
 ghost use Rattle.hp_config.specs.Sound.{IsSound};
 ghost use Rattle.hp_model.specs.Text.{head_text, line_text, end_text};
 ghost use Rattle.hp_top.specs.Faults.{StopsFor};
-ghost use Rattle.hp_top.specs.Worlds.{StandsFor, Takes};
+ghost use Rattle.hp_top.specs.Lives.{StandsFor, Takes};
 ghost use Rattle.hp_top.specs.Sent.{HoldsFront};
 ghost use Rattle.hp_top.specs.Stalls.{IsTracking};
 ghost use Rattle.hp_top.specs.Turns.{Cuts, Rises, Sends, Writes, at_turn, boot_left, carried_start, due, lines_of, past, start_of, turn_of, turns_text, with_voices};
@@ -28,12 +28,12 @@ use hp_agent::{Agent, Agents, Voice, voice_for};
 use hp_model::{
     Actor, BootFact, Delivery, Entry, File, HostEvent, NoMemory, Platform, Stall, VoiceKind, Voices,
 };
-use hp_platform::{Turn, World, a_turn_is_the_schedules};
+use hp_platform::{Live, Turn, a_turn_is_the_schedules};
 use std::alloc::Global;
 use std::vec::IntoIter;
 
 /// How many turns of processor 0 the boot sequence takes, one an access: two more where it asks for a TSEG of 48 MiB.
-fn boot_turns(p: &Platform) -> u32
+pub(crate) fn boot_turns(p: &Platform) -> u32
     ensures value { result ≡ turns_of_boot p.now }
     ensures most { result ≤ 29 }
 {
@@ -80,29 +80,29 @@ fn send_end<K: Sink>(entries: u64, text: &mut Vec<u8>, out: &mut K) -> Result<()
 }
 
 /// An actor's turn, which makes what the schedule makes of that actor.
-fn take_turn<A: Agent>(world: &mut World<A>, actor: Actor) -> Result<Turn, NoMemory>
-    ensures { (p : Platform) (c : Carried) → StandsFor p world.old c → IfOk result (Takes p world.new c (λ w. act p w actor)) }
+pub(crate) fn take_turn<A: Agent>(live: &mut Live<A>, actor: Actor) -> Result<Turn, NoMemory>
+    ensures { (p : Platform) (c : Carried) → StandsFor p live.old c → IfOk result (Takes p live.new c (λ w. act p w actor)) }
 {
     a_turn_is_the_schedules();
-    world.turn(actor)
+    live.turn(actor)
 }
 
 /// What one actor does, and how many entries that made.
 #[tactic(auto, using(crate::proofs::Turning::one_actor))]
 fn make_step<A: Agent, K: Sink>(
-    world: &mut World<A>,
+    live: &mut Live<A>,
     actor: Actor,
     text: &mut Vec<u8>,
     out: &mut K,
 ) -> Result<u64, WriteStop>
     ensures bound { IfOk result (λ made. made ≤ 1) }
-    ensures made { (p : Platform) (c : Carried) → StandsFor p world.old c
-        → IfOk result (λ made. Sends p world.new c (λ w. act p w actor) made (K.held out.old) (K.held out.new)) }
-    ensures part { (p : Platform) (c : Carried) → StandsFor p world.old c
+    ensures made { (p : Platform) (c : Carried) → StandsFor p live.old c
+        → IfOk result (λ made. Sends p live.new c (λ w. act p w actor) made (K.held out.old) (K.held out.new)) }
+    ensures part { (p : Platform) (c : Carried) → StandsFor p live.old c
         → OnErr result (Cuts c (lines_of (λ w. act p w actor)) (K.held out.old) (K.held out.new)) }
     ensures cause { StopsFor (K.faults out.old) (K.faults out.new) result }
 {
-    let entry = match take_turn(world, actor) {
+    let entry = match take_turn(live, actor) {
         Ok(Turn::Made(entry)) => entry,
         Ok(Turn::Idle) => return Ok(0),
         Err(NoMemory) => return Err(WriteStop::NoMemory),
@@ -115,10 +115,11 @@ fn make_step<A: Agent, K: Sink>(
 
 /// The first of these events if it is due at this turn, and those after it.
 #[tactic(auto, using(crate::proofs::Turning::host_events))]
-fn next_host(hosts: &[HostEvent], turn: u32) -> Option<(Actor, &[HostEvent])>
+pub(crate) fn next_host(hosts: &[HostEvent], turn: u32) -> Option<(Actor, &[HostEvent])>
     ensures due { IfSome result (λ next. due turn hosts.now ≡ next.0 ∷ due turn next.1.now) }
     ensures past { IfSome result (λ next. past turn hosts.now ≡ past turn next.1.now) }
     ensures fewer { IfSome result (λ next. length hosts.now ≡ 1 + length next.1.now) }
+    ensures rises { IfSome result (λ next. Rises turn_of turn hosts.now → Rises turn_of turn next.1.now) }
     ensures none { result ≡ None → due turn hosts.now ≡ [] }
     ensures kept { result ≡ None → past turn hosts.now ≡ hosts.now }
 {
@@ -137,7 +138,7 @@ fn next_host(hosts: &[HostEvent], turn: u32) -> Option<(Actor, &[HostEvent])>
 /// The host events of a turn, which are at the front of these: how many entries they made, and the events after them.
 #[tactic(auto, using(crate::proofs::Turning::host_events))]
 fn make_hosts<'h, A: Agent, K: Sink>(
-    world: &mut World<A>,
+    live: &mut Live<A>,
     hosts: &'h [HostEvent],
     turn: u32,
     text: &mut Vec<u8>,
@@ -145,16 +146,16 @@ fn make_hosts<'h, A: Agent, K: Sink>(
 ) -> Result<(u64, &'h [HostEvent]), WriteStop>
     ensures bound { IfOk result (λ done. done.0 + length done.1.now ≤ length hosts.now) }
     ensures rest { IfOk result (λ done. done.1.now ≡ past turn hosts.now) }
-    ensures made { (p : Platform) (c : Carried) → StandsFor p world.old c
-        → IfOk result (λ done. Sends p world.new c (λ w. act_all p w (due turn hosts.now)) done.0 (K.held out.old) (K.held out.new)) }
-    ensures part { (p : Platform) (c : Carried) → StandsFor p world.old c
+    ensures made { (p : Platform) (c : Carried) → StandsFor p live.old c
+        → IfOk result (λ done. Sends p live.new c (λ w. act_all p w (due turn hosts.now)) done.0 (K.held out.old) (K.held out.new)) }
+    ensures part { (p : Platform) (c : Carried) → StandsFor p live.old c
         → OnErr result (Cuts c (lines_of (λ w. act_all p w (due turn hosts.now))) (K.held out.old) (K.held out.new)) }
     ensures cause { StopsFor (K.faults out.old) (K.faults out.new) result }
 {
     let mut made = 0u64;
     let mut rest = hosts;
     'hosts: while let Some((actor, more)) = next_host(rest, turn) {
-        match make_step(world, actor, text, out) {
+        match make_step(live, actor, text, out) {
             Ok(count) => made += count,
             Err(stop) => return Err(stop),
         }
@@ -176,7 +177,7 @@ fn turn_actor(delivery: Delivery, own: u32, cpu: u32) -> Actor
 }
 
 /// The processor's actor whose turn it is; none where a stall covers it.
-fn actor_of(file: &File, stalled: &mut Stalled, turn: u32) -> Option<Actor>
+pub(crate) fn actor_of(file: &File, stalled: &mut Stalled, turn: u32) -> Option<Actor>
     requires fit { IsFit file.now.platform }
     requires tracking { IsTracking file.now turn stalled.old }
     ensures some { IfSome result (λ a. cpus_of file.now turn ≡ a ∷ []) }
@@ -195,7 +196,7 @@ fn actor_of(file: &File, stalled: &mut Stalled, turn: u32) -> Option<Actor>
 /// One turn: the host's events, and then the processor whose turn it is, or its SMI, unless a stall covers it. How many entries they
 /// made, and the host events that are left.
 fn make_turn<'h, A: Agent, K: Sink>(
-    world: &mut World<A>,
+    live: &mut Live<A>,
     file: &File,
     hosts: &'h [HostEvent],
     stalled: &mut Stalled,
@@ -209,20 +210,20 @@ fn make_turn<'h, A: Agent, K: Sink>(
     ensures bound { IfOk result (λ done. done.0 + length done.1.now ≤ length hosts.now + 1) }
     ensures rest { IfOk result (λ done. done.1.now ≡ past turn hosts.now) }
     ensures tracking { IfOk result (λ done. IsTracking file.now (turn + 1) stalled.new) }
-    ensures made { (c : Carried) → StandsFor file.now.platform world.old c
-        → IfOk result (λ done. Sends file.now.platform world.new c (λ w. act_all file.now.platform w (actors_of file.now turn)) done.0 (K.held out.old) (K.held out.new)) }
-    ensures part { (c : Carried) → StandsFor file.now.platform world.old c
+    ensures made { (c : Carried) → StandsFor file.now.platform live.old c
+        → IfOk result (λ done. Sends file.now.platform live.new c (λ w. act_all file.now.platform w (actors_of file.now turn)) done.0 (K.held out.old) (K.held out.new)) }
+    ensures part { (c : Carried) → StandsFor file.now.platform live.old c
         → OnErr result (Cuts c (lines_of (λ w. act_all file.now.platform w (actors_of file.now turn))) (K.held out.old) (K.held out.new)) }
     ensures cause { StopsFor (K.faults out.old) (K.faults out.new) result }
 {
-    let (made, rest) = match make_hosts(world, hosts, turn, text, out) {
+    let (made, rest) = match make_hosts(live, hosts, turn, text, out) {
         Ok(done) => done,
         Err(stop) => return Err(stop),
     };
     let Some(actor) = actor_of(file, stalled, turn) else {
         return Ok((made, rest));
     };
-    match make_step(world, actor, text, out) {
+    match make_step(live, actor, text, out) {
         Ok(count) => Ok((made + count, rest)),
         Err(stop) => Err(stop),
     }
@@ -230,7 +231,7 @@ fn make_turn<'h, A: Agent, K: Sink>(
 
 /// All turns of the file, and how many entries they made. Takes its host events by turn, and its stalls before their first.
 fn make_turns<A: Agent, K: Sink>(
-    world: &mut World<A>,
+    live: &mut Live<A>,
     file: &File,
     hosts: &[HostEvent],
     stalled: &mut Stalled,
@@ -242,16 +243,16 @@ fn make_turns<A: Agent, K: Sink>(
     requires rises { Rises turn_of 0 hosts.now }
     requires same { (turn : ℕ) → at_turn turn hosts.now ≡ of_turn file.now turn }
     ensures bound { IfOk result (λ made. made ≤ 2 ^ 63 + 2 ^ 32) }
-    ensures made { (c : Carried) → StandsFor file.now.platform world.old c
-        → IfOk result (λ made. Sends file.now.platform world.new c (λ w. turns_from file.now file.now.platform.turns 0 w) made (K.held out.old) (K.held out.new)) }
-    ensures part { (c : Carried) → StandsFor file.now.platform world.old c
+    ensures made { (c : Carried) → StandsFor file.now.platform live.old c
+        → IfOk result (λ made. Sends file.now.platform live.new c (λ w. turns_from file.now file.now.platform.turns 0 w) made (K.held out.old) (K.held out.new)) }
+    ensures part { (c : Carried) → StandsFor file.now.platform live.old c
         → OnErr result (Cuts c (lines_of (λ w. turns_from file.now file.now.platform.turns 0 w)) (K.held out.old) (K.held out.new)) }
     ensures cause { StopsFor (K.faults out.old) (K.faults out.new) result }
 {
     let mut made = 0u64;
     let mut rest = hosts;
     'turns: for turn in 0..file.platform.turns {
-        match make_turn(world, file, rest, stalled, turn, text, out) {
+        match make_turn(live, file, rest, stalled, turn, text, out) {
             Ok((count, more)) => {
                 made += count;
                 rest = more;
@@ -269,7 +270,7 @@ fn hosts_in(file: &File) -> &[HostEvent]
 }
 
 /// The file without its voices, and these.
-fn take_voices(alloc: Global, file: File) -> (File, Vec<VoiceKind>)
+pub(crate) fn take_voices(alloc: Global, file: File) -> (File, Vec<VoiceKind>)
     ensures { with_voices result.1.items result.0 ≡ file }
 {
     let File {
@@ -335,24 +336,24 @@ fn agents_of<A: Agent>(
     Ok(Agents::new(places))
 }
 
-/// The world before its first step, where each processor's agent is of the kind in its place, or one that is handed in.
-fn world_of<A: Agent>(
+/// The machine before its first step, where each processor's agent is of the kind in its place, or one that is handed in.
+pub(crate) fn live_of<A: Agent>(
     alloc: Global,
     p: &Platform,
     kinds: Vec<VoiceKind>,
     handed: Vec<A>,
-) -> Result<World<A>, NoMemory>
+) -> Result<Live<A>, NoMemory>
     requires fit { IsFit p.now }
     requires voices { length kinds.items ≡ count_of p.now }
-    ensures { IfOk result (λ world. StandsFor p.now world (carried_start p.now (told_by p.now kinds.items (map A.voice handed.items)))) }
+    ensures { IfOk result (λ live. StandsFor p.now live (carried_start p.now (told_by p.now kinds.items (map A.voice handed.items)))) }
 {
     let agents = agents_of(alloc, p, kinds, handed)?;
-    let world = World::new(alloc, p, agents)?;
-    Ok(world)
+    let live = Live::new(alloc, p, agents)?;
+    Ok(live)
 }
 
 /// The host events of the file, by turn.
-fn hosts_of(alloc: Global, file: &File) -> Result<Vec<HostEvent>, NoMemory>
+pub(crate) fn hosts_of(alloc: Global, file: &File) -> Result<Vec<HostEvent>, NoMemory>
     ensures rises { IfOk result (λ sorted. Rises turn_of 0 sorted.items) }
     ensures same { IfOk result (λ sorted. (turn : ℕ) → at_turn turn sorted.items ≡ of_turn file.now turn) }
 {
@@ -366,7 +367,7 @@ fn stalls_in(file: &File) -> &[Stall]
 }
 
 /// The stalls of the file, by the turn they start.
-fn stalls_of(alloc: Global, file: &File) -> Result<Vec<Stall>, NoMemory>
+pub(crate) fn stalls_of(alloc: Global, file: &File) -> Result<Vec<Stall>, NoMemory>
     ensures rises { IfOk result (λ sorted. Rises start_of 0 sorted.items) }
     ensures same { IfOk result (λ sorted. (k t : ℕ) → is_stalled sorted.items k t ≡ is_stalled file.now.stalls k t) }
 {
@@ -374,7 +375,7 @@ fn stalls_of(alloc: Global, file: &File) -> Result<Vec<Stall>, NoMemory>
 }
 
 /// The stalls of the file before its first turn. Takes them by the turn they start.
-fn stalled_of<'s>(alloc: Global, file: &File, sorted: &'s [Stall]) -> Result<Stalled<'s>, NoMemory>
+pub(crate) fn stalled_of<'s>(alloc: Global, file: &File, sorted: &'s [Stall]) -> Result<Stalled<'s>, NoMemory>
     requires rises { Rises start_of 0 sorted.now }
     requires same { (k t : ℕ) → is_stalled sorted.now k t ≡ is_stalled file.now.stalls k t }
     ensures { IfOk result (IsTracking file.now 0) }
@@ -384,21 +385,21 @@ fn stalled_of<'s>(alloc: Global, file: &File, sorted: &'s [Stall]) -> Result<Sta
 
 /// So many turns of processor 0, in which it boots. How many entries they made: fewer where the boot is refused.
 fn make_boot<A: Agent, K: Sink>(
-    world: &mut World<A>,
+    live: &mut Live<A>,
     turns: u32,
     text: &mut Vec<u8>,
     out: &mut K,
 ) -> Result<u64, WriteStop>
     ensures bound { IfOk result (λ made. made ≤ turns) }
-    ensures made { (p : Platform) (c : Carried) → StandsFor p world.old c
-        → IfOk result (λ made. Sends p world.new c (λ w. act_all p w (boot_left turns)) made (K.held out.old) (K.held out.new)) }
-    ensures part { (p : Platform) (c : Carried) → StandsFor p world.old c
+    ensures made { (p : Platform) (c : Carried) → StandsFor p live.old c
+        → IfOk result (λ made. Sends p live.new c (λ w. act_all p w (boot_left turns)) made (K.held out.old) (K.held out.new)) }
+    ensures part { (p : Platform) (c : Carried) → StandsFor p live.old c
         → OnErr result (Cuts c (lines_of (λ w. act_all p w (boot_left turns))) (K.held out.old) (K.held out.new)) }
     ensures cause { StopsFor (K.faults out.old) (K.faults out.new) result }
 {
     let mut made = 0u64;
     'turns: for turn in 0..turns {
-        match make_step(world, Actor::Cpu(0), text, out) {
+        match make_step(live, Actor::Cpu(0), text, out) {
             Ok(count) => made += count,
             Err(stop) => return Err(stop),
         }
@@ -408,7 +409,7 @@ fn make_boot<A: Agent, K: Sink>(
 
 /// All turns after a boot that made so many entries, and the end line.
 fn run_turns<A: Agent, K: Sink>(
-    world: &mut World<A>,
+    live: &mut Live<A>,
     file: &File,
     hosts: &[HostEvent],
     stalled: &mut Stalled,
@@ -421,13 +422,13 @@ fn run_turns<A: Agent, K: Sink>(
     requires rises { Rises turn_of 0 hosts.now }
     requires same { (turn : ℕ) → at_turn turn hosts.now ≡ of_turn file.now turn }
     requires booted { booted ≤ 29 }
-    ensures all { (c : Carried) → StandsFor file.now.platform world.old c
+    ensures all { (c : Carried) → StandsFor file.now.platform live.old c
         → OnOk result (Writes c (λ w. turns_text booted (turns_from file.now file.now.platform.turns 0 w)) (K.held out.old) (K.held out.new)) }
-    ensures part { (c : Carried) → StandsFor file.now.platform world.old c
+    ensures part { (c : Carried) → StandsFor file.now.platform live.old c
         → OnErr result (Cuts c (λ w. turns_text booted (turns_from file.now file.now.platform.turns 0 w)) (K.held out.old) (K.held out.new)) }
     ensures cause { StopsFor (K.faults out.old) (K.faults out.new) result }
 {
-    let made = match make_turns(world, file, hosts, stalled, text, out) {
+    let made = match make_turns(live, file, hosts, stalled, text, out) {
         Ok(made) => made,
         Err(stop) => return Err(stop),
     };
@@ -435,9 +436,9 @@ fn run_turns<A: Agent, K: Sink>(
 }
 
 /// Boots the machine and runs the file's turns: header, one line an entry, end line. Where the boot is refused, the lines
-/// end with the access that read the value in the fact, which is answered. The world has the agents, and the file the rest.
-fn run_world<A: Agent, K: Sink>(
-    world: &mut World<A>,
+/// end with the access that read the value in the fact, which is answered. The machine has the agents, and the file the rest.
+fn run_live<A: Agent, K: Sink>(
+    live: &mut Live<A>,
     file: &File,
     hosts: &[HostEvent],
     stalled: &mut Stalled,
@@ -448,24 +449,24 @@ fn run_world<A: Agent, K: Sink>(
     requires tracking { IsTracking file.now 0 stalled.old }
     requires rises { Rises turn_of 0 hosts.now }
     requires same { (turn : ℕ) → at_turn turn hosts.now ≡ of_turn file.now turn }
-    ensures all { (told : List (Option Told)) → StandsFor file.now.platform world.old (carried_start file.now.platform told)
+    ensures all { (told : List (Option Told)) → StandsFor file.now.platform live.old (carried_start file.now.platform told)
         → IfOk result (λ fact. IsWritten file.now told fact (K.held out.old) (K.held out.new)) }
-    ensures part { (told : List (Option Told)) → StandsFor file.now.platform world.old (carried_start file.now.platform told)
+    ensures part { (told : List (Option Told)) → StandsFor file.now.platform live.old (carried_start file.now.platform told)
         → OnErr result (IsCut file.now told (K.held out.old) (K.held out.new)) }
     ensures cause { StopsFor (K.faults out.old) (K.faults out.new) result }
 {
     if let Err(stop) = send_head(&file.platform, text, out) {
         return Err(stop);
     }
-    let booted = match make_boot(world, boot_turns(&file.platform), text, out) {
+    let booted = match make_boot(live, boot_turns(&file.platform), text, out) {
         Ok(booted) => booted,
         Err(stop) => return Err(stop),
     };
-    match world.boot_fact() {
+    match live.boot_fact() {
         Some(fact) => return Ok(Some(fact)),
         None => {}
     }
-    match run_turns(world, file, hosts, stalled, booted, text, out) {
+    match run_turns(live, file, hosts, stalled, booted, text, out) {
         Ok(()) => Ok(None),
         Err(stop) => Err(stop),
     }
@@ -487,8 +488,8 @@ fn run_voices<A: Agent, K: Sink>(
     ensures cause { StopsFor (K.faults out.old) (K.faults out.new) result }
 {
     let mut text = Vec::new(alloc);
-    let mut world: World<A> = match world_of(alloc, &file.platform, kinds, handed) {
-        Ok(world) => world,
+    let mut live: Live<A> = match live_of(alloc, &file.platform, kinds, handed) {
+        Ok(live) => live,
         Err(NoMemory) => return Err(WriteStop::NoMemory),
     };
     let hosts = match hosts_of(alloc, file) {
@@ -503,8 +504,8 @@ fn run_voices<A: Agent, K: Sink>(
         Ok(stalled) => stalled,
         Err(NoMemory) => return Err(WriteStop::NoMemory),
     };
-    run_world(
-        &mut world,
+    run_live(
+        &mut live,
         file,
         hosts.as_slice(),
         &mut stalled,

@@ -7,5 +7,7 @@ mod lines;
 mod outcomes;
 mod pieces;
 mod steps;
+mod summaries;
 
 pub use lines::{end, head, line};
+pub use summaries::{Summary, gen_line};

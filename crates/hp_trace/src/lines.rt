@@ -62,7 +62,7 @@ fn whole_line(written: Result<(), NoMemory>, held: usize, out: &mut Vec<u8>) -> 
 
 /// Appends pieces as a line, or nothing.
 #[tactic(auto, using(crate::proofs::Texts::line_facts))]
-fn append_line(pieces: &[Piece], out: &mut Vec<u8>) -> Result<(), NoMemory>
+pub(crate) fn append_line(pieces: &[Piece], out: &mut Vec<u8>) -> Result<(), NoMemory>
     ensures appended { OnOk result (out.new.items ≡ out.old.items ++ line_of (pieces_text pieces.now)) }
     ensures no_memory { OnErr result (out.new.items ≡ out.old.items) }
 {

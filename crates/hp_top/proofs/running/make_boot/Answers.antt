@@ -18,4 +18,4 @@ returns-in-Err-clause-part g c =
     λ p v shows. done_cuts p v _ _ _ _ _ _ _ _ _ (boot_next c.args.turns c.turns.turn c.turns-test.true) (c.turns.invariant.done p v shows) (λ u seen. c.in-Err.ensures.part p u seen)
 
 pub returns-clause-made : goal.returns-clause-made
-returns-clause-made g c = λ p v shows. done_all p v _ _ c.turns.world c.turns.made _ _ (c.turns.invariant.done p v shows) (boot_all c.args.turns c.turns.turn (omega arith))
+returns-clause-made g c = λ p v shows. done_all p v _ _ c.turns.live c.turns.made _ _ (c.turns.invariant.done p v shows) (boot_all c.args.turns c.turns.turn (omega arith))

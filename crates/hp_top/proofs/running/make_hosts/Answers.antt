@@ -26,4 +26,4 @@ hosts-preserved g c = record {
 
 pub returns-clause-made : goal.returns-clause-made
 returns-clause-made g c =
-    λ p v shows. done_all p v _ _ c.hosts.world c.hosts.made _ _ (c.hosts.invariant.done p v shows) (c.in_default.ensures.none refl)
+    λ p v shows. done_all p v _ _ c.hosts.live c.hosts.made _ _ (c.hosts.invariant.done p v shows) (c.in_default.ensures.none refl)

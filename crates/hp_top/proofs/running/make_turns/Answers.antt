@@ -36,4 +36,4 @@ returns-in-Err-clause-part g c =
 pub returns-clause-made : goal.returns-clause-made
 returns-clause-made g c =
     λ v shows. let all : c.turns.turn ≡ c.args.file.now.platform.turns = omega arith in
-    subst (λ n. Sends c.args.file.now.platform c.turns.world v (λ w. turns_from c.args.file.now n 0 w) c.turns.made (g.K.Sink.held c.args.out.now) (g.K.Sink.held c.turns.out)) all (c.turns.invariant.done v shows)
+    subst (λ n. Sends c.args.file.now.platform c.turns.live v (λ w. turns_from c.args.file.now n 0 w) c.turns.made (g.K.Sink.held c.args.out.now) (g.K.Sink.held c.turns.out)) all (c.turns.invariant.done v shows)

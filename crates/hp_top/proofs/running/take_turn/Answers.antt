@@ -11,6 +11,6 @@ returns g c = λ p v shows. IfOk-weaker c.turn.result _ _
     (λ turn turned. record {
       platform = c.turn.ensures.platform ∙ shows.platform;
       acts = subst (λ (q : Platform). ActsAs c.turn.new.self v (λ w. act q w c.args.actor) turn) shows.platform
-          (c.a_turn_is_the_schedules.ensures c.args.world.now c.turn.new.self c.args.actor turn v shows.carries c.turn.ensures.platform turned);
+          (c.a_turn_is_the_schedules.ensures c.args.live.now c.turn.new.self c.args.actor turn v shows.carries turned);
     })
     c.turn.ensures.turned

@@ -1,0 +1,117 @@
+-- What is still to come of a file's turns, an actor later.
+use Rattle.std.proofs.Common.{◌≡◌, ℕ, zero, suc, ◌+◌, ◌-◌, ◌<◌, ◌≤◌, Bool, true, false, nat_lt, List, [], ◌∷◌, ◌++◌, Option, Some, None, refl, sym, ◌∙◌, ap, subst, append_assoc, ltb-true, ltb-false, lt-ltb, arith, if◌then◌else◌}
+use Rattle.hp_model.specs.declared.entries.Actor.{Actor}
+use Rattle.hp_model.specs.declared.files.File.{File}
+use Rattle.hp_model.specs.declared.files.HostEvent.{HostEvent}
+use Rattle.hp_model.specs.Platform.{IsFit}
+use Rattle.hp_model.specs.Schedule.{Scene, both_make, act_all, actors_of, cpus_of, hosts_of, turns_from}
+use Rattle.hp_top.specs.Actors.{Actors, IsAhead, actors_from, to_come}
+use Rattle.hp_top.specs.Stalls.{IsTracking, Stalled}
+use Rattle.hp_top.specs.Turns.{Rises, at_turn, due, past, turn_of}
+use Rattle.hp_top.proofs.Rising.{due-is, past-at, past-rises}
+use Rattle.hp_top.proofs.Turning.{act_all-append}
+
+-- of the host events of a turn the first is taken
+pub rises-first : (turn : ℕ) (h : HostEvent) (hs : List HostEvent) → h.turn ≡ turn → Rises turn_of turn (h ∷ hs) → Rises turn_of turn hs
+rises-first turn h hs is up = subst (λ (n : ℕ). Rises turn_of n hs) is up.1
+
+pub later-first : (turn t : ℕ) (hs more : List HostEvent) → past turn hs ≡ past turn more → turn < t → at_turn t more ≡ at_turn t hs
+later-first turn t hs more same after = sym (past-at turn t more after) ∙ ap (at_turn t) (sym same) ∙ past-at turn t hs after
+
+-- none is left of this turn
+pub rises-over : (turn : ℕ) (hs : List HostEvent) → past turn hs ≡ hs → Rises turn_of turn hs → Rises turn_of (turn + 1) hs
+rises-over turn hs kept up = subst (Rises turn_of (turn + 1)) kept (past-rises turn hs up)
+
+abbrev turns_in : Actors → ℕ
+turns_in s = s.file.platform.turns
+
+-- what comes behind the host's events of the turn
+abbrev behind : Actors → List Actor
+behind s = cpus_of s.file s.turn ++ actors_from s.file (turns_in s - (s.turn + 1)) (s.turn + 1)
+
+module _ (s : Actors) where
+  within : s.turn < turns_in s → to_come s ≡ due s.turn s.hosts ++ behind s
+  within before = ap (λ (b : Bool). if b then due s.turn s.hosts ++ behind s else []) (lt-ltb s.turn (turns_in s) before)
+
+  -- no turn is left
+  pub none_comes : turns_in s ≤ s.turn → to_come s ≡ []
+  none_comes after = by (nat_lt s.turn (turns_in s)) refl
+    where
+      by : (b : Bool) → nat_lt s.turn (turns_in s) ≡ b → (if b then due s.turn s.hosts ++ behind s else []) ≡ []
+      by true e = absurd (omega (arith, ltb-true s.turn (turns_in s) e, after))
+      by false e = refl
+
+  -- the turn's host events were those of the file: so many turns are left
+  pub turns_come : Rises turn_of s.turn s.hosts → at_turn s.turn s.hosts ≡ hosts_of s.file s.turn → to_come s ≡ actors_from s.file (turns_in s - s.turn) s.turn
+  unfolding actors_from actors_of
+  turns_come up same = by (nat_lt s.turn (turns_in s)) refl
+    where
+      by : (b : Bool) → nat_lt s.turn (turns_in s) ≡ b → (if b then due s.turn s.hosts ++ behind s else []) ≡ actors_from s.file (turns_in s - s.turn) s.turn
+      by true e =
+          let left : turns_in s - s.turn ≡ suc (turns_in s - (s.turn + 1)) = omega (arith, ltb-true s.turn (turns_in s) e) in
+          ap (λ (xs : List Actor). xs ++ behind s) (due-is s.turn s.hosts up ∙ same)
+          ∙ sym (append_assoc (hosts_of s.file s.turn) (cpus_of s.file s.turn) (actors_from s.file (turns_in s - (s.turn + 1)) (s.turn + 1)))
+          ∙ ap (λ (n : ℕ). actors_from s.file n s.turn) (sym left)
+      by false e =
+          let left : turns_in s - s.turn ≡ 0 = omega (arith, ltb-false s.turn (turns_in s) e) in
+          ap (λ (n : ℕ). actors_from s.file n s.turn) (sym left)
+
+module _ (s new : Actors) (file : new.file ≡ s.file) where
+  abbrev f : File
+  f = s.file
+
+  abbrev turns : ℕ
+  turns = f.platform.turns
+
+  abbrev others : List Actor
+  others = cpus_of f s.turn ++ actors_from f (turns - (s.turn + 1)) (s.turn + 1)
+
+  -- the next of the host's events
+  pub host_comes : s.turn < turns → (a : Actor) → new.turn ≡ s.turn → due s.turn s.hosts ≡ a ∷ due s.turn new.hosts → to_come s ≡ a ∷ to_come new
+  host_comes before a turn is =
+      within s before ∙ ap (λ (xs : List Actor). xs ++ others) is
+      ∙ ap (λ (n : ℕ). a ∷ (due n new.hosts ++ (cpus_of f n ++ actors_from f (turns - (n + 1)) (n + 1)))) (sym turn)
+      ∙ ap (λ (g : File). a ∷ (due new.turn new.hosts ++ (cpus_of g new.turn ++ actors_from g (g.platform.turns - (new.turn + 1)) (new.turn + 1)))) (sym file)
+      ∙ ap (λ (b : Bool). a ∷ (if b then due new.turn new.hosts ++ (cpus_of new.file new.turn ++ actors_from new.file (new.file.platform.turns - (new.turn + 1)) (new.turn + 1)) else []))
+      (sym (lt-ltb new.turn new.file.platform.turns (omega (arith, before, turn, ap (λ (g : File). g.platform.turns) file))))
+
+  pub host_ahead : IsAhead s → new.stalled ≡ s.stalled → new.turn ≡ s.turn → (Rises turn_of s.turn s.hosts → Rises turn_of s.turn new.hosts)
+      → ((t : ℕ) → s.turn < t → at_turn t new.hosts ≡ at_turn t s.hosts) → IsAhead new
+  host_ahead ahead stalled turn rises later = record {
+    fit = subst (λ (g : File). IsFit g.platform) (sym file) ahead.fit;
+    tracks = subst (λ (g : File). IsTracking g new.turn new.stalled) (sym file)
+        (subst (λ (n : ℕ). IsTracking f n new.stalled) (sym turn) (subst (IsTracking f s.turn) (sym stalled) ahead.tracks));
+    rises = subst (λ (n : ℕ). Rises turn_of n new.hosts) (sym turn) (rises ahead.rises);
+    later = λ t after. later t (omega (arith, after, turn)) ∙ ahead.later t (omega (arith, after, turn)) ∙ ap (λ (g : File). hosts_of g t) (sym file);
+  }
+
+  -- the turn is over, and what is left are the turns after it
+  module _ (ahead : IsAhead s) (turn : new.turn ≡ s.turn + 1) (rises : Rises turn_of (s.turn + 1) new.hosts) (later : (t : ℕ) → s.turn < t → at_turn t new.hosts ≡ at_turn t s.hosts) where
+    same : (t : ℕ) → s.turn < t → at_turn t new.hosts ≡ hosts_of f t
+    same t after = later t after ∙ ahead.later t after
+
+    pub turn_over : s.turn < turns → due s.turn s.hosts ≡ [] → to_come s ≡ cpus_of f s.turn ++ to_come new
+    turn_over before none = within s before ∙ ap (λ (xs : List Actor). xs ++ others) none ∙ ap (λ (xs : List Actor). cpus_of f s.turn ++ xs) (sym rest)
+      where
+        onward : to_come new ≡ actors_from new.file (new.file.platform.turns - new.turn) new.turn
+        onward = turns_come new (subst (λ (n : ℕ). Rises turn_of n new.hosts) (sym turn) rises)
+            (same new.turn (omega (arith, turn)) ∙ ap (λ (g : File). hosts_of g new.turn) (sym file))
+
+        rest : to_come new ≡ actors_from f (turns - (s.turn + 1)) (s.turn + 1)
+        rest = onward ∙ ap (λ (g : File). actors_from g (g.platform.turns - new.turn) new.turn) file ∙ ap (λ (n : ℕ). actors_from f (turns - n) n) turn
+
+    pub over_ahead : IsTracking f (s.turn + 1) new.stalled → IsAhead new
+    over_ahead tracks = record {
+      fit = subst (λ (g : File). IsFit g.platform) (sym file) ahead.fit;
+      tracks = subst (λ (g : File). IsTracking g new.turn new.stalled) (sym file) (subst (λ (n : ℕ). IsTracking f n new.stalled) (sym turn) tracks);
+      rises = subst (λ (n : ℕ). Rises turn_of n new.hosts) (sym turn) rises;
+      later = λ t after. same t (omega (arith, after, turn)) ∙ ap (λ (g : File). hosts_of g t) (sym file);
+    }
+
+-- all of them make what the turns make
+pub turns_are : (f : File) (n turn : ℕ) (w : Scene) → turns_from f n turn w ≡ act_all f.platform w (actors_from f n turn)
+unfolding turns_from act_all actors_from
+turns_are f zero turn w = refl
+turns_are f (suc n) turn w =
+    ap (both_make (act_all f.platform w (actors_of f turn))) (turns_are f n (turn + 1) (act_all f.platform w (actors_of f turn)).scene)
+    ∙ sym (act_all-append f.platform (actors_of f turn) (actors_from f n (turn + 1)) w)

@@ -1,0 +1,36 @@
+-- The words of each command.
+use Rattle.std.specs.Prelude.{◌≡◌, ◌≤◌, ◌+◌, ◌-◌, ◌*◌, ◌==◌, ◌&&◌, nat_le, ℕ, Bool, true, false, List, [], ◌∷◌, Option, Some, None, option_and_then, codes, if◌then◌else◌}
+use Rattle.std.specs.Fmt.{decimal}
+use Rattle.std.specs.Str.{bytes_eq}
+
+-- the words are `run` alone
+abbrev pub are_run : List (List ℕ) → Bool
+are_run [] = false
+are_run (word ∷ []) = bytes_eq word (codes "run")
+are_run (word ∷ (other ∷ words)) = false
+
+-- a decimal number from 1 to 1000, without a sign or a leading zero
+pub record IsNumber (word : List ℕ) (n : ℕ) : Type 0 where
+  pub text : word ≡ decimal n
+  pub least : 1 ≤ n
+  pub most : n ≤ 1000
+
+-- the words are `gen` and this number
+pub record AreGen (words : List (List ℕ)) (n : ℕ) : Type 0 where
+  pub word : List ℕ
+  pub words : words ≡ codes "gen" ∷ word ∷ []
+  pub number : IsNumber word n
+
+-- the words are no command
+pub record AreNone (words : List (List ℕ)) : Type 0 where
+  pub run : are_run words ≡ false
+  pub gen : (n : ℕ) → AreGen words n → ⊥
+
+-- how one is read, digit by digit: a digit more behind a value, which stays in these bounds
+abbrev pub with_digit : ℕ → ℕ → Option ℕ
+with_digit value c =
+    if nat_le 48 c && (nat_le c 57 && (nat_le 1 (value * 10 + (c - 48)) && nat_le (value * 10 + (c - 48)) 1000)) then Some (value * 10 + (c - 48)) else None
+
+abbrev pub number_onto : ℕ → List ℕ → Option ℕ
+number_onto value [] = if value == 0 then None else Some value
+number_onto value (c ∷ text) = option_and_then (λ more. number_onto more text) (with_digit value c)

@@ -1,0 +1,106 @@
+//! The actors of a file's turns, one by one.
+
+ghost use Rattle.std.specs.Prelude.{◌≡◌, ◌+◌, ◌<◌, ℕ, ◌∷◌, ◌++◌, [], None, IfSome};
+ghost use Rattle.hp_model.specs.Platform.{IsFit};
+ghost use Rattle.hp_model.specs.Schedule.{cpus_of, hosts_of as of_turn};
+ghost use Rattle.hp_top.specs.Actors.{IsAhead, actors_from, to_come};
+ghost use Rattle.hp_top.specs.Stalls.{IsTracking};
+ghost use Rattle.hp_top.specs.Turns.{Rises, at_turn, due, turn_of};
+
+use crate::running::{actor_of, next_host};
+use crate::stalling::Stalled;
+use hp_model::{Actor, File, HostEvent};
+use std::marker::Model;
+
+/// The actors of a file's turns: in each turn the host's events, and then the processor whose turn it is, or its SMI, unless a stall
+/// covers it.
+#[derive(Drop)]
+pub(crate) struct Actors<'f> {
+    file: &'f File,
+    hosts: &'f [HostEvent],
+    stalled: Stalled<'f>,
+    turn: u32,
+}
+
+impl<'f> Model for Actors<'f> {
+    ghost use Rattle.hp_top.specs.Actors.{Actors};
+
+    ghost Value = { Actors };
+
+    ghost view = { λ s. record { file = s.file.now; hosts = s.hosts.now; stalled = s.stalled; turn = s.turn } };
+}
+
+impl<'f> Actors<'f> {
+    /// Of all turns of the file. Takes its host events by turn, and its stalls before their first.
+    pub(crate) fn new(
+        file: &'f File,
+        hosts: &'f [HostEvent],
+        stalled: Stalled<'f>,
+    ) -> Actors<'f>
+        requires fit { IsFit file.now.platform }
+        requires tracking { IsTracking file.now 0 stalled }
+        requires rises { Rises turn_of 0 hosts.now }
+        requires same { (turn : ℕ) → at_turn turn hosts.now ≡ of_turn file.now turn }
+        ensures ahead { IsAhead result }
+        ensures all { to_come result ≡ actors_from file.now file.now.platform.turns 0 }
+    {
+        Actors {
+            file,
+            hosts,
+            stalled,
+            turn: 0,
+        }
+    }
+
+    /// The next of the host's events of the turn.
+    fn next_of_host(&mut self) -> Option<Actor>
+        ensures some { IfSome result (λ a. due self.old.turn self.old.hosts ≡ a ∷ due self.old.turn self.new.hosts) }
+        ensures rises { Rises turn_of self.old.turn self.old.hosts → Rises turn_of self.old.turn self.new.hosts }
+        ensures later { (t : ℕ) → self.old.turn < t → at_turn t self.new.hosts ≡ at_turn t self.old.hosts }
+        ensures none { result ≡ None → due self.old.turn self.old.hosts ≡ [] }
+        ensures over { result ≡ None → Rises turn_of self.old.turn self.old.hosts → Rises turn_of (self.old.turn + 1) self.new.hosts }
+        ensures file { self.new.file ≡ self.old.file }
+        ensures stalled { self.new.stalled ≡ self.old.stalled }
+        ensures turn { self.new.turn ≡ self.old.turn }
+    {
+        let (actor, more) = next_host(self.hosts, self.turn)?;
+        self.hosts = more;
+        Some(actor)
+    }
+
+    /// The processor's actor whose turn it is, if one is, and on to the next turn.
+    fn end_turn(&mut self) -> Option<Actor>
+        requires fit { IsFit self.old.file.platform }
+        requires tracking { IsTracking self.old.file self.old.turn self.old.stalled }
+        requires within { self.old.turn < self.old.file.platform.turns }
+        ensures some { IfSome result (λ a. cpus_of self.old.file self.old.turn ≡ a ∷ []) }
+        ensures none { result ≡ None → cpus_of self.old.file self.old.turn ≡ [] }
+        ensures tracking { IsTracking self.old.file (self.old.turn + 1) self.new.stalled }
+        ensures file { self.new.file ≡ self.old.file }
+        ensures hosts { self.new.hosts ≡ self.old.hosts }
+        ensures turn { self.new.turn ≡ self.old.turn + 1 }
+    {
+        let actor = actor_of(self.file, &mut self.stalled, self.turn);
+        self.turn += 1;
+        actor
+    }
+
+    /// The next of them.
+    pub(crate) fn next(&mut self) -> Option<Actor>
+        requires ahead { IsAhead self.old }
+        ensures ahead { IsAhead self.new }
+        ensures file { self.new.file ≡ self.old.file }
+        ensures some { IfSome result (λ a. to_come self.old ≡ a ∷ to_come self.new) }
+        ensures none { result ≡ None → to_come self.old ≡ [] }
+    {
+        'turns: while self.turn < self.file.platform.turns {
+            if let Some(actor) = self.next_of_host() {
+                return Some(actor);
+            }
+            if let Some(actor) = self.end_turn() {
+                return Some(actor);
+            }
+        }
+        None
+    }
+}
