@@ -14,7 +14,9 @@ use Rattle.hp_model.specs.Platform.{IsFit}
 use Rattle.hp_model.specs.SharedBytes.{Layout, layout_of, tile_in}
 use Rattle.hp_model.proofs.FitPlatforms.{apic_few, tseg_below}
 use Rattle.hp_model.proofs.Marks.{same_label}
-use Rattle.hp_smm.specs.Rows.{IsLow}
+use Rattle.hp_monarch.specs.Session.{Session}
+use Rattle.hp_smm.specs.declared.handlers.SmmCpu.{SmmCpu}
+use Rattle.hp_smm.specs.Rows.{IsLow, row_for}
 
 -- its handler runs here, and it is due
 pub record IsDue (y : Layout) (r : Monarch) (cpu smbase : ℕ) (l : Label) : Type 0 where
@@ -64,5 +66,8 @@ runs_low y Relocated cpu smbase low runs =
 runs_low y Monarchs cpu smbase low runs = grind (arith, nat_tests, low.tseg, runs)
 
 -- so a row is due at such SMBASEs alone
-pub row_low : (y : Layout) (r : Monarch) (cpu smbase mark : ℕ) (l : Label) → IsLow y → label_of_mark y r cpu smbase mark ≡ Some l → smbase ≤ 0x90000000
+row_low : (y : Layout) (r : Monarch) (cpu smbase mark : ℕ) (l : Label) → IsLow y → label_of_mark y r cpu smbase mark ≡ Some l → smbase ≤ 0x90000000
 row_low y r cpu smbase mark l low e = runs_low y (handler_of l) cpu smbase low (is_due_of y r cpu smbase mark l e).runs
+
+pub stands_low : (h : Session) (s : SmmCpu) (l : Label) → IsLow h.layout → row_for h s ≡ Some l → s.smbase ≤ 0x90000000
+stands_low h s l low row = row_low h.layout h.monarch s.cpu s.smbase s.mark l low row

@@ -180,6 +180,7 @@ impl Handlers {
         requires fits { FitsWant (want_at self.old.layout (seat_for self.old me.now) self.old.monarch label) answer }
         ensures next { next_for self.old me.now label answer ≡ record { label = result.0; base = result.1; monarch = self.new.monarch } }
         ensures layout { self.new.layout ≡ self.old.layout }
+        ensures low { me.now.smbase ≤ 0x90000000 }
     {
         match position_of(label).handler {
             Handler::First => first_next(label, me.apic, me.base, answer),

@@ -5,8 +5,8 @@ use Rattle.hp_model.specs.Handlers.{next_at}
 use Rattle.hp_model.specs.declared.labels.Handler.TheVariants.{Monarch as Monarchs}
 use Rattle.hp_model.specs.Labels.{handler_of}
 use Rattle.hp_monarch.specs.Session.{Fits, Session}
-use Rattle.hp_smm.specs.Rows.{seat_for}
-use Rattle.hp_smm.proofs.Due.{monarch_label}
+use Rattle.hp_smm.specs.Rows.{IsLow, seat_for}
+use Rattle.hp_smm.proofs.Due.{monarch_label, stands_low}
 use Rattle.hp_smm.proofs.Going.{fits_all, next_is}
 use Rattle.hp_smm.proofs.handlers.Handlers.next_at.Goals as goal
 
@@ -31,3 +31,15 @@ returns-in-Monarch-clause-next c =
 pub returns-in-Monarch-clause-layout : goal.returns-in-Monarch-clause-layout
 returns-in-Monarch-clause-layout c =
     ap (λ (k : Session). k.layout) (c.feed.ensures.monarch (seat_for c.args.self.now c.args.me.now)) ∙ ap (λ (k : Session). k.layout) c.self.view_is
+
+pub returns-in-First-clause-low : goal.returns-in-First-clause-low
+returns-in-First-clause-low c =
+    stands_low c.args.self.now c.args.me.now c.args.label (subst (λ (k : Session). IsLow k.layout) c.self.view_is c.self.invariant) c.requires.row
+
+pub returns-in-Relocated-clause-low : goal.returns-in-Relocated-clause-low
+returns-in-Relocated-clause-low c =
+    stands_low c.args.self.now c.args.me.now c.args.label (subst (λ (k : Session). IsLow k.layout) c.self.view_is c.self.invariant) c.requires.row
+
+pub returns-in-Monarch-clause-low : goal.returns-in-Monarch-clause-low
+returns-in-Monarch-clause-low c =
+    stands_low c.args.self.now c.args.me.now c.args.label (subst (λ (k : Session). IsLow k.layout) c.self.view_is c.self.invariant) c.requires.row
