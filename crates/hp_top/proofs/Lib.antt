@@ -1,8 +1,8 @@
-pub mod Acting
 pub mod Booting
+pub mod Coming
 pub mod Completing
+pub mod Decimals
 pub mod Doing
-pub mod Numbers
 pub mod Rising
 pub mod Schedule
 pub mod Sending

@@ -111,11 +111,11 @@ pub record EndsAfterReading (handed : List (Option Voice)) (left still old new :
   pub read : HasRead left still bytes
   pub ends : EndsRun bytes handed old new status
 
--- how the call ends, where agents were handed in that tell this: `left` and `still` are what the source had left before and after it, `old` and `new`
+-- how `run` ends, where agents were handed in that tell this: `left` and `still` are what the source had left before and after it, `old` and `new`
 -- what the sink held
 abbrev pub Ends : List (Option Voice) → Option (List ℕ) → Option (List ℕ) → Option (List ℕ) → Option (List ℕ) → Status → Type 0
 Ends handed left still old new Done = EndsAfterReading handed left still old new Done
-Ends handed left still old new BadWords = Keeps left still × Keeps old new
+Ends handed left still old new BadWords = ⊥
 Ends handed left still old new ReadFault = HasReadWithin left still × Keeps old new
 Ends handed left still old new TooLong = HasReadPast left still × Keeps old new
 Ends handed left still old new NotToml = EndsAfterReading handed left still old new NotToml

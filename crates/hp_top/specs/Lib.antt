@@ -3,6 +3,7 @@ pub mod Answers
 pub mod Codes
 pub mod Commands
 pub mod Doing
+pub mod Ending
 pub mod Faults
 pub mod Generated
 pub mod Handing

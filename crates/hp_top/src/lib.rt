@@ -3,6 +3,7 @@
 
 mod acting;
 mod answering;
+mod commands;
 mod in_memory;
 mod numbers;
 mod outside;
