@@ -1,10 +1,10 @@
 -- What is still to come of a file's turns, an actor later.
-use Rattle.std.proofs.Common.{◌≡◌, ℕ, zero, suc, ◌+◌, ◌-◌, ◌<◌, ◌≤◌, Bool, true, false, nat_lt, List, [], ◌∷◌, ◌++◌, Option, Some, None, refl, sym, ◌∙◌, ap, subst, append_assoc, ltb-true, ltb-false, lt-ltb, arith, if◌then◌else◌}
+use Rattle.std.proofs.Common.{◌≡◌, ℕ, zero, suc, ◌+◌, ◌-◌, ◌/◌, ◌%◌, ◌==◌, ◌<◌, ◌≤◌, Bool, true, false, nat_lt, List, [], ◌∷◌, ◌++◌, Option, Some, None, refl, sym, ◌∙◌, ap, subst, append_assoc, length, length-append, ltb-true, ltb-false, lt-ltb, arith, if◌then◌else◌}
 use Rattle.hp_model.specs.declared.entries.Actor.{Actor}
 use Rattle.hp_model.specs.declared.files.File.{File}
 use Rattle.hp_model.specs.declared.files.HostEvent.{HostEvent}
-use Rattle.hp_model.specs.Platform.{IsFit}
-use Rattle.hp_model.specs.Schedule.{Scene, both_make, act_all, actors_of, cpus_of, hosts_of, turns_from}
+use Rattle.hp_model.specs.Platform.{IsFit, count_of}
+use Rattle.hp_model.specs.Schedule.{Scene, both_make, act_all, actors_of, cpus_of, hosts_of, is_stalled, turn_actor, turns_from}
 use Rattle.hp_top.specs.Actors.{Actors, IsAhead, actors_from, to_come}
 use Rattle.hp_top.specs.Stalls.{IsTracking, Stalled}
 use Rattle.hp_top.specs.Turns.{Rises, at_turn, due, past, turn_of}
@@ -115,3 +115,30 @@ turns_are f zero turn w = refl
 turns_are f (suc n) turn w =
     ap (both_make (act_all f.platform w (actors_of f turn))) (turns_are f n (turn + 1) (act_all f.platform w (actors_of f turn)).scene)
     ∙ sym (act_all-append f.platform (actors_of f turn) (actors_from f n (turn + 1)) w)
+
+-- of a turn's host events and of those after it none is counted twice
+due_past : (turn : ℕ) (hs : List HostEvent) → length (due turn hs) + length (past turn hs) ≡ length hs
+due_past turn [] = refl
+due_past turn (h ∷ hs) = by (due_past turn hs) (h.turn == turn)
+  where
+    by : length (due turn hs) + length (past turn hs) ≡ length hs → (b : Bool) →
+        length (if b then h.actor ∷ due turn hs else []) + length (if b then past turn hs else h ∷ hs) ≡ suc (length hs)
+    by more true = omega (arith, more)
+    by more false = omega arith
+
+cpus_few : (f : File) (turn : ℕ) → length (cpus_of f turn) ≤ 1
+cpus_few f turn = by (is_stalled f.stalls (turn % count_of f.platform) turn)
+  where
+    by : (b : Bool) → length (if b then [] else turn_actor f.platform.delivery (turn / count_of f.platform) (turn % count_of f.platform) ∷ []) ≤ 1
+    by true = omega arith
+    by false = omega arith
+
+-- in so many turns so many processors act, and each host event once
+pub few_come : (f : File) (n turn : ℕ) (hs : List HostEvent) → Rises turn_of turn hs → ((t : ℕ) → turn ≤ t → at_turn t hs ≡ hosts_of f t) → length (actors_from f n turn) ≤ n + length hs
+unfolding actors_from actors_of
+few_come f zero turn hs up same = omega arith
+few_come f (suc n) turn hs up same =
+    let rest : length (actors_from f n (turn + 1)) ≤ n + length (past turn hs) =
+        few_come f n (turn + 1) (past turn hs) (past-rises turn hs up) (λ t later. past-at turn t hs (omega (arith, later)) ∙ same t (omega (arith, later))) in
+    let here : length (hosts_of f turn) ≡ length (due turn hs) = ap length (sym (due-is turn hs up ∙ same turn (omega arith))) in
+    omega (arith, rest, here, cpus_few f turn, due_past turn hs, length-append (hosts_of f turn ++ cpus_of f turn) (actors_from f n (turn + 1)), length-append (hosts_of f turn) (cpus_of f turn))

@@ -1,14 +1,22 @@
 -- What the command `gen` makes of its number.
-use Rattle.std.specs.Prelude.{ℕ, List, [], Option}
+use Rattle.std.specs.Prelude.{◌≡◌, ℕ, List, [], Option}
 use Rattle.std.specs.Io.KnownBytes.{Appends, Keeps}
 use Rattle.hp_model.specs.declared.entries.Entry.{Entry}
+use Rattle.hp_model.specs.declared.files.File.{File}
 use Rattle.hp_model.specs.Schedule.{scheduled}
-use Rattle.hp_model.specs.Voices.{voices_of}
+use Rattle.hp_model.specs.Voices.{Voice, Agree, voices_of}
 use Rattle.hp_config.specs.Generated.{generated_file}
+use Rattle.hp_trace.specs.declared.summaries.Summary.{Summary}
 use Rattle.hp_trace.specs.Summary.{summary, summary_text}
 use Rattle.hp_top.specs.declared.statuses.Status.{Status}
 use Rattle.hp_top.specs.declared.statuses.Status.TheVariants.{Done, BadWords, ReadFault, TooLong, NotToml, Rule, BootRefused, WriteFault, TraceRefused, NoMemory}
 use Rattle.hp_top.specs.Sent.{HoldsFront}
+
+-- by voices that agree with what is told it is the summary of the file's run
+pub record IsSummed (file : File) (told : List (Option Voice)) (s : Summary) : Type 0 where
+  pub voices : List Voice
+  pub agree : Agree told voices
+  pub is : s ≡ summary (scheduled file voices)
 
 -- the run of the file that a number makes: each of its processors has a voice that is told
 abbrev pub generated_run : ℕ → List Entry

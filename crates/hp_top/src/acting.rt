@@ -1,6 +1,6 @@
 //! The actors of a file's turns, one by one.
 
-ghost use Rattle.std.specs.Prelude.{◌≡◌, ◌+◌, ◌<◌, ℕ, ◌∷◌, ◌++◌, [], None, IfSome};
+ghost use Rattle.std.specs.Prelude.{◌≡◌, ◌≤◌, ◌+◌, ◌<◌, ℕ, ◌∷◌, ◌++◌, [], None, IfSome, length};
 ghost use Rattle.hp_model.specs.Platform.{IsFit};
 ghost use Rattle.hp_model.specs.Schedule.{cpus_of, hosts_of as of_turn};
 ghost use Rattle.hp_top.specs.Actors.{IsAhead, actors_from, to_come};
@@ -43,6 +43,7 @@ impl<'f> Actors<'f> {
         requires same { (turn : ℕ) → at_turn turn hosts.now ≡ of_turn file.now turn }
         ensures ahead { IsAhead result }
         ensures all { to_come result ≡ actors_from file.now file.now.platform.turns 0 }
+        ensures few { length (to_come result) ≤ file.now.platform.turns + length hosts.now }
     {
         Actors {
             file,
@@ -63,9 +64,13 @@ impl<'f> Actors<'f> {
         ensures stalled { self.new.stalled ≡ self.old.stalled }
         ensures turn { self.new.turn ≡ self.old.turn }
     {
-        let (actor, more) = next_host(self.hosts, self.turn)?;
-        self.hosts = more;
-        Some(actor)
+        match next_host(self.hosts, self.turn) {
+            Some((actor, more)) => {
+                self.hosts = more;
+                Some(actor)
+            }
+            None => None,
+        }
     }
 
     /// The processor's actor whose turn it is, if one is, and on to the next turn.

@@ -25,10 +25,10 @@ pub few : (kind : Outcome → Bool) (s : Summary) (sums : IsSummary s) (n : ℕ)
 few kind s sums n is = let few = told_few kind sums.of in let all = ap (λ (t : Summary). t.entries) sums.is in omega (arith, is, few, all)
 
 -- an entry more behind the others
-kept-more : (is : Bool) (e : Entry) (es fs : List Entry) (n : ℕ) (b : Bool) → length fs ≡ and_one b (length es) → length (kept is e fs) ≡ and_one b (length (kept is e es))
-kept-more true e es fs n true more = ap (λ (m : ℕ). m + 1) more
-kept-more true e es fs n false more = ap (λ (m : ℕ). m + 1) more
-kept-more false e es fs n b more = more
+kept-more : (is : Bool) (e : Entry) (es fs : List Entry) (b : Bool) → length fs ≡ and_one b (length es) → length (kept is e fs) ≡ and_one b (length (kept is e es))
+kept-more true e es fs true more = omega (arith, more)
+kept-more true e es fs false more = omega (arith, more)
+kept-more false e es fs b more = more
 
 told_one : (is : Bool) (e : Entry) → length (kept is e []) ≡ and_one is 0
 told_one true e = refl
@@ -37,7 +37,7 @@ told_one false e = refl
 told_more : (kind : Outcome → Bool) (es : List Entry) (e : Entry) → told kind (es ++ e ∷ []) ≡ and_one (tells kind e.event) (told kind es)
 told_more kind [] e = told_one (tells kind e.event) e
 told_more kind (f ∷ es) e =
-    kept-more (tells kind f.event) f (filter (λ g. tells kind g.event) es) (filter (λ g. tells kind g.event) (es ++ e ∷ [])) 0 (tells kind e.event) (told_more kind es e)
+    kept-more (tells kind f.event) f (filter (λ g. tells kind g.event) es) (filter (λ g. tells kind g.event) (es ++ e ∷ [])) (tells kind e.event) (told_more kind es e)
 
 pub more : (es : List Entry) (e : Entry) → with_entry e (summary es) ≡ summary (es ++ e ∷ [])
 more es e =

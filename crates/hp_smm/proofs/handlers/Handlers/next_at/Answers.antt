@@ -43,3 +43,6 @@ returns-in-Relocated-clause-low c =
 pub returns-in-Monarch-clause-low : goal.returns-in-Monarch-clause-low
 returns-in-Monarch-clause-low c =
     stands_low c.args.self.now c.args.me.now c.args.label (subst (λ (k : Session). IsLow k.layout) c.self.view_is c.self.invariant) c.requires.row
+
+pub invariant_of-self : goal.invariant_of-self
+invariant_of-self c = subst IsLow (sym (ap (λ (k : Session). k.layout) (c.feed.ensures.monarch (seat_for c.args.self.now c.args.me.now)))) c.self.invariant
