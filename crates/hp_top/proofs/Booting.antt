@@ -71,7 +71,7 @@ record BootsTo (p : Platform) (told : List (Option Voice)) (es : List Entry) (le
   scene : (booted p voices).scene ≡ left
 
 module _ (p : Platform) (told : List (Option Voice)) (n : ℕ) (is : n ≡ boot_turns p) where
-  boot_is : (w : Scene) → AgreesWith (carried_start p told) w → booted p w.voices ≡ act_all p w (boot_left n)
+  pub boot_is : (w : Scene) → AgreesWith (carried_start p told) w → booted p w.voices ≡ act_all p w (boot_left n)
   unfolding booted boot_left
   boot_is w agrees =
       ap (λ (m : ℕ). act_all p (scene_start p w.voices) (boot_left m)) (sym is)

@@ -41,7 +41,7 @@ number_one : (n : ℕ) → 1 ≤ n → number_onto n [] ≡ Some n
 number_one zero least = absurd (omega (arith, least))
 number_one (suc n) least = refl
 
-written_read : (n : ℕ) → 1 ≤ n → n ≤ 1000 → number_onto 0 (decimal n) ≡ Some n
+pub written_read : (n : ℕ) → 1 ≤ n → n ≤ 1000 → number_onto 0 (decimal n) ≡ Some n
 written_read n least most = ap (number_onto 0) (sym (append-nil (decimal n))) ∙ onto-decimal n [] least most ∙ number_one n least
 
 -- what is read was written: behind the digits of a value, or behind none

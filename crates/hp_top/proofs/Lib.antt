@@ -1,11 +1,14 @@
 pub mod Booting
 pub mod Coming
 pub mod Completing
+pub mod Counting
 pub mod Decimals
 pub mod Doing
 pub mod Rising
 pub mod Schedule
 pub mod Sending
+pub mod Serving
 pub mod Starting
 pub mod Tracking
 pub mod Turning
+pub mod Words

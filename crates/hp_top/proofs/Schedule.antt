@@ -154,10 +154,14 @@ output_parts f vs = by (boot_fact f.platform vs)
     by (Some fact) = boot_parts f vs
 
 -- the text of a file is that of the rest of it, by these voices
+pub scheduled_rest : (kinds : List VoiceKind) (f : File) (vs : List Voice) → scheduled f vs ≡ scheduled (with_voices kinds f) vs
+unfolding scheduled
+scheduled_rest kinds f vs =
+    ap (λ (m : Made). (booted f.platform vs).entries ++ m.entries) (sym (turns_rest kinds f f.platform.turns 0 (booted f.platform vs).scene))
+
 run_rest : (kinds : List VoiceKind) (f : File) (vs : List Voice) → run_text f vs ≡ run_text (with_voices kinds f) vs
-unfolding run_text scheduled
-run_rest kinds f vs =
-    ap (λ (m : Made). trace_text f.platform ((booted f.platform vs).entries ++ m.entries)) (sym (turns_rest kinds f f.platform.turns 0 (booted f.platform vs).scene))
+unfolding run_text
+run_rest kinds f vs = ap (trace_text f.platform) (scheduled_rest kinds f vs)
 
 pub text_rest : (kinds : List VoiceKind) (f : File) (vs : List Voice) (o : Option BootFact) → text_by o f vs ≡ text_by o (with_voices kinds f) vs
 unfolding boot_text
