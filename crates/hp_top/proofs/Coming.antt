@@ -1,9 +1,10 @@
 -- What is still to come of a file's turns, an actor later.
-use Rattle.std.proofs.Common.{◌≡◌, ℕ, zero, suc, ◌+◌, ◌-◌, ◌/◌, ◌%◌, ◌==◌, ◌<◌, ◌≤◌, Bool, true, false, nat_lt, List, [], ◌∷◌, ◌++◌, Option, Some, None, refl, sym, ◌∙◌, ap, subst, append_assoc, length, length-append, ltb-true, ltb-false, lt-ltb, arith, if◌then◌else◌}
+use Rattle.std.proofs.Common.{◌≡◌, ℕ, zero, suc, ◌+◌, ◌-◌, ◌/◌, ◌%◌, ◌==◌, ◌<◌, ◌≤◌, Bool, true, false, nat_lt, List, [], ◌∷◌, ◌++◌, Option, Some, None, refl, sym, ◌∙◌, ap, subst, append_assoc, length, length-append, cond, not, leb-true, ltb-true, ltb-false, lt-ltb, arith, if◌then◌else◌}
 use Rattle.hp_model.specs.declared.entries.Actor.{Actor}
 use Rattle.hp_model.specs.declared.files.File.{File}
 use Rattle.hp_model.specs.declared.files.HostEvent.{HostEvent}
-use Rattle.hp_model.specs.Platform.{IsFit, count_of}
+use Rattle.hp_model.specs.declared.platforms.Platform.{Platform}
+use Rattle.hp_model.specs.Platform.{IsFit, boot_fits, count_of, counts_fit, features_fit, ids_fit, memory_fits, polls_fit, tiles_fit, tseg_fits, turns_fit}
 use Rattle.hp_model.specs.Schedule.{Scene, both_make, act_all, actors_of, cpus_of, hosts_of, is_stalled, turn_actor, turns_from}
 use Rattle.hp_top.specs.Actors.{Actors, IsAhead, actors_from, to_come}
 use Rattle.hp_top.specs.Stalls.{IsTracking, Stalled}
@@ -21,6 +22,19 @@ later-first turn t hs more same after = sym (past-at turn t more after) ∙ ap (
 -- none is left of this turn
 pub rises-over : (turn : ℕ) (hs : List HostEvent) → past turn hs ≡ hs → Rises turn_of turn hs → Rises turn_of (turn + 1) hs
 rises-over turn hs kept up = subst (Rises turn_of (turn + 1)) kept (past-rises turn hs up)
+
+-- a rule that is met, and those after it: the turns of a platform that fits are few
+met : (b : Bool) (n : ℕ) (rest : Option ℕ) → cond (not b) (Some n) rest ≡ None → (b ≡ true) × (rest ≡ None)
+met true n rest e = (refl, e)
+met false n rest e = absurd cc
+
+pub turns_few : (p : Platform) → IsFit p → p.turns ≤ 200000
+turns_few p fit =
+    let three = (met (counts_fit p) 2 _ fit).1 in
+    let five = (met (boot_fits p) 4 _ (met (ids_fit p) 3 _ three).1).1 in
+    let seven = (met (tseg_fits p) 6 _ (met (memory_fits p) 5 _ five).1).1 in
+    let nine = (met (features_fit p) 8 _ (met (tiles_fit p) 7 _ seven).1).1 in
+    leb-true p.turns 200000 (met (turns_fit p) 10 _ (met (polls_fit p) 9 _ nine).1).0
 
 abbrev turns_in : Actors → ℕ
 turns_in s = s.file.platform.turns
@@ -55,6 +69,13 @@ module _ (s : Actors) where
       by false e =
           let left : turns_in s - s.turn ≡ 0 = omega (arith, ltb-false s.turn (turns_in s) e) in
           ap (λ (n : ℕ). actors_from s.file n s.turn) (sym left)
+
+-- before the first turn all are
+pub all_come : (f : File) (hs : List HostEvent) (stalled : Stalled) → Rises turn_of 0 hs → at_turn 0 hs ≡ hosts_of f 0 →
+    to_come (record { file = f; hosts = hs; stalled = stalled; turn = 0 }) ≡ actors_from f f.platform.turns 0
+all_come f hs stalled up same =
+    let none : f.platform.turns - 0 ≡ f.platform.turns = omega arith in
+    turns_come (record { file = f; hosts = hs; stalled = stalled; turn = 0 }) up same ∙ ap (λ (n : ℕ). actors_from f n 0) none
 
 module _ (s new : Actors) (file : new.file ≡ s.file) where
   abbrev f : File
@@ -142,3 +163,22 @@ few_come f (suc n) turn hs up same =
         few_come f n (turn + 1) (past turn hs) (past-rises turn hs up) (λ t later. past-at turn t hs (omega (arith, later)) ∙ same t (omega (arith, later))) in
     let here : length (hosts_of f turn) ≡ length (due turn hs) = ap length (sym (due-is turn hs up ∙ same turn (omega arith))) in
     omega (arith, rest, here, cpus_few f turn, due_past turn hs, length-append (hosts_of f turn ++ cpus_of f turn) (actors_from f n (turn + 1)), length-append (hosts_of f turn) (cpus_of f turn))
+
+-- none of the turn's host events was left, and the processor's actor was next
+module _ (s mid new : Actors) (ahead : IsAhead s) (file : mid.file ≡ s.file) (turn : mid.turn ≡ s.turn) (later : (t : ℕ) → s.turn < t → at_turn t mid.hosts ≡ at_turn t s.hosts)
+    (over : Rises turn_of (s.turn + 1) mid.hosts) (file_new : new.file ≡ mid.file) (hosts_new : new.hosts ≡ mid.hosts) (turn_new : new.turn ≡ mid.turn + 1) where
+  one_on : new.turn ≡ s.turn + 1
+  one_on = omega (arith, turn, turn_new)
+
+  rises_on : Rises turn_of (s.turn + 1) new.hosts
+  rises_on = subst (Rises turn_of (s.turn + 1)) (sym hosts_new) over
+
+  pub walked_ahead : IsTracking mid.file (mid.turn + 1) new.stalled → IsAhead new
+  walked_ahead tracks =
+      over_ahead s new (file_new ∙ file) ahead one_on rises_on (λ t after. ap (at_turn t) hosts_new ∙ later t after)
+      (subst (λ (g : File). IsTracking g (s.turn + 1) new.stalled) file (subst (λ (n : ℕ). IsTracking mid.file (n + 1) new.stalled) turn tracks))
+
+  pub walked : s.turn < s.file.platform.turns → due s.turn s.hosts ≡ [] → to_come s ≡ cpus_of mid.file mid.turn ++ to_come new
+  walked before none =
+      turn_over s new (file_new ∙ file) ahead one_on rises_on (λ t after. ap (at_turn t) hosts_new ∙ later t after) before none
+      ∙ ap (λ (g : File). cpus_of g s.turn ++ to_come new) (sym file) ∙ ap (λ (n : ℕ). cpus_of mid.file n ++ to_come new) (sym turn)

@@ -1,6 +1,6 @@
 -- Numbers from 1 to 1000 in decimal, written and read.
-use Rattle.std.proofs.Common.{IfSome, ◌≡◌, ◌≤◌, ◌<◌, ◌+◌, ◌-◌, ◌*◌, ◌/◌, ◌%◌, ◌^◌, ◌==◌, ◌&&◌, nat_le, ℕ, zero, suc, Bool, true, false, List, [], ◌∷◌, ◌++◌, Option, Some, None, option_and_then, if◌then◌else◌, refl, sym, ap, subst, ◌∙◌, arith, append_assoc, append-nil}
-use Rattle.std.proofs.lemmas.Bool.{eqb-true, eqb-false}
+use Rattle.std.proofs.Common.{IfSome, ◌≡◌, ◌≢◌, ◌≤◌, ◌<◌, ◌+◌, ◌-◌, ◌*◌, ◌/◌, ◌%◌, ◌^◌, ◌==◌, ◌&&◌, nat_le, ℕ, zero, suc, Bool, true, false, List, [], ◌∷◌, ◌++◌, Option, Some, None, option_and_then, if◌then◌else◌, refl, sym, ap, subst, ◌∙◌, arith, append_assoc, append-nil}
+use Rattle.std.proofs.lemmas.Bool.{eqb-false, ne_eqb}
 use Rattle.std.proofs.lemmas.Bool.Decides.{nat_tests}
 use Rattle.std.proofs.lemmas.Fmt.{decimal_digit, decimal_step, decimal_by_steps}
 use Rattle.std.proofs.lemmas.Option.{same_Some}
@@ -38,8 +38,7 @@ onto-decimal n text least most =
         ∙ (before (omega arith) (omega arith) ((48 + n % 10) ∷ text) ∙ (onto-digit (n / 10) (n % 10) text (omega arith) (omega arith) (omega arith) ∙ rw same refl))
 
 number_one : (n : ℕ) → 1 ≤ n → number_onto n [] ≡ Some n
-number_one zero least = absurd (omega (arith, least))
-number_one (suc n) least = refl
+number_one n least = rw (ne_eqb n 0 (λ none. omega (arith, none, least))) refl
 
 pub written_read : (n : ℕ) → 1 ≤ n → n ≤ 1000 → number_onto 0 (decimal n) ≡ Some n
 written_read n least most = ap (number_onto 0) (sym (append-nil (decimal n))) ∙ onto-decimal n [] least most ∙ number_one n least
@@ -103,17 +102,23 @@ record IsRead (front text : List ℕ) (n : ℕ) : Type 0 where
   most : n ≤ 1000
 
 read_onto : (value : ℕ) (text : List ℕ) (n : ℕ) → value ≤ 1000 → number_onto value text ≡ Some n → IsRead (digits_of value) text n
-read_onto zero [] n most e = cc
-read_onto (suc value) [] n most e =
-    let same : suc value ≡ n = same_Some (suc value) n e in
-    record { whole = append-nil (decimal (suc value)) ∙ ap decimal same; least = omega (arith, same); most = omega (arith, same, most) }
-read_onto value (c ∷ text) n most e = by (with_digit value c) refl e
+read_onto value [] n most e = by (value == 0) refl e
   where
-    by : (o : Option ℕ) → with_digit value c ≡ o → option_and_then (λ (more : ℕ). number_onto more text) o ≡ Some n → IsRead (digits_of value) (c ∷ text) n
-    by None is e = cc
-    by (Some more) is e =
+    by : (b : Bool) → (value == 0) ≡ b → (if b then None else Some value) ≡ Some n → IsRead (digits_of value) [] n
+    by true is e = cc
+    by false is e =
+        let same : value ≡ n = same_Some value n e in
+        let other : value ≢ 0 = eqb-false value 0 is in
+        let least : 1 ≤ value = omega (arith, other) in
+        record { whole = append-nil (digits_of value) ∙ digits_some value least ∙ ap decimal same; least = omega (arith, same, least); most = omega (arith, same, most) }
+read_onto value (c ∷ text) n most e = by (λ more small is. read_onto more text n small is) (with_digit value c) refl e
+  where
+    by : ((more : ℕ) → more ≤ 1000 → number_onto more text ≡ Some n → IsRead (digits_of more) text n) → (o : Option ℕ) → with_digit value c ≡ o →
+        option_and_then (λ (more : ℕ). number_onto more text) o ≡ Some n → IsRead (digits_of value) (c ∷ text) n
+    by further None is e = cc
+    by further (Some more) is e =
         let it = digit_in value c more is in
-        let rest = read_onto more text n it.most e in
+        let rest = further more it.most e in
         record {
           whole = sym (append_assoc (digits_of value) (c ∷ []) text) ∙ ap (λ (ds : List ℕ). ds ++ text) (digits-more value c more it) ∙ rest.whole;
           least = rest.least;

@@ -24,6 +24,7 @@ actors-preserved g c = record {
   room = omega (arith, c.sum_turn.ensures.most, c.actors.invariant.room, ap length c.in-Some.ensures.some);
 }
 
-pub returns-clause-done : goal.returns-clause-done
-returns-clause-done g c = λ p v shows.
-    did_all p v _ _ c.actors.live (Counted c.args.sum.now c.actors.sum) (c.in_default.ensures.none refl) (c.actors.invariant.done p v shows)
+pub returns : goal.returns
+returns g c = record {
+  done = λ p v shows. did_all p v _ _ c.actors.live (Counted c.args.sum.now c.actors.sum) (c.in_default.ensures.none refl) (c.actors.invariant.done p v shows);
+}
