@@ -160,7 +160,7 @@ unfolding actors_from actors_of
 few_come f zero turn hs up same = omega arith
 few_come f (suc n) turn hs up same =
     let rest : length (actors_from f n (turn + 1)) ≤ n + length (past turn hs) =
-        few_come f n (turn + 1) (past turn hs) (past-rises turn hs up) (λ t later. past-at turn t hs (omega (arith, later)) ∙ same t (omega (arith, later))) in
+    few_come f n (turn + 1) (past turn hs) (past-rises turn hs up) (λ t later. past-at turn t hs (omega (arith, later)) ∙ same t (omega (arith, later))) in
     let here : length (hosts_of f turn) ≡ length (due turn hs) = ap length (sym (due-is turn hs up ∙ same turn (omega arith))) in
     omega (arith, rest, here, cpus_few f turn, due_past turn hs, length-append (hosts_of f turn ++ cpus_of f turn) (actors_from f n (turn + 1)), length-append (hosts_of f turn) (cpus_of f turn))
 

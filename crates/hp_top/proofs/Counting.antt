@@ -1,6 +1,5 @@
 -- The summary of a run, entry by entry, from its boot on.
-use Rattle.std.proofs.Common.{◌≡◌, ℕ, ◌+◌, ◌≤◌, List, [], ◌∷◌, ◌++◌, map, length, length-append, Option, Some, refl, sym, ◌∙◌, ap, subst, arith}
-use Rattle.hp_model.specs.declared.platforms.Platform.{Platform}
+use Rattle.std.proofs.Common.{◌≡◌, ℕ, ◌+◌, ◌≤◌, List, [], ◌∷◌, ◌++◌, map, length, length-append, Option, Some, sym, ◌∙◌, ap, subst, arith}
 use Rattle.hp_model.specs.declared.entries.Actor.{Actor}
 use Rattle.hp_model.specs.declared.entries.Entry.{Entry}
 use Rattle.hp_model.specs.declared.files.File.{File}
@@ -54,8 +53,8 @@ module _ (f : File) (told : List (Option Voice)) (n : ℕ) (is : n ≡ boot_turn
       ((v : Carried) → StandsFor f.platform mid v → Sums f.platform new v turns sum last) → IsSummed f told last
   summed mid new none sum last empty first next =
       let both : Sums f.platform new (carried_start f.platform told) (then_make boot turns) none last =
-          does_both f.platform mid new (carried_start f.platform told) boot turns (Counted none sum) (Counted sum last) (Counted none last)
-          (λ es fs. counted_both none sum last es fs) first next in
+      does_both f.platform mid new (carried_start f.platform told) boot turns (Counted none sum) (Counted sum last) (Counted none last)
+      (λ es fs. counted_both none sum last es fs) first next in
       let m = both.leads.made (some_scene both.left) (scene_agrees both.left) in
       record {
         voices = m.scene.voices;

@@ -1,7 +1,6 @@
 -- How each command ends the call.
 use Rattle.std.proofs.Common.{◌≡◌, ℕ, true, List, Option, refl, subst, ◌↔◌}
 use Rattle.std.specs.Io.KnownBytes.{Keeps}
-use Rattle.std.proofs.KnownBytes.{Keeps-refl}
 use Rattle.hp_model.specs.Voices.{Voice}
 use Rattle.hp_top.specs.declared.statuses.Status.{Status}
 use Rattle.hp_top.specs.declared.statuses.Status.TheVariants.{Done, BadWords, ReadFault, TooLong, NotToml, Rule, BootRefused, WriteFault, TraceRefused, NoMemory}

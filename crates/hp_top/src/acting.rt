@@ -32,11 +32,7 @@ impl<'f> Model for Actors<'f> {
 
 impl<'f> Actors<'f> {
     /// Of all turns of the file. Takes its host events by turn, and its stalls before their first.
-    pub(crate) fn new(
-        file: &'f File,
-        hosts: &'f [HostEvent],
-        stalled: Stalled<'f>,
-    ) -> Actors<'f>
+    pub(crate) fn new(file: &'f File, hosts: &'f [HostEvent], stalled: Stalled<'f>) -> Actors<'f>
         requires fit { IsFit file.now.platform }
         requires tracking { IsTracking file.now 0 stalled }
         requires rises { Rises turn_of 0 hosts.now }

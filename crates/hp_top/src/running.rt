@@ -375,7 +375,11 @@ pub(crate) fn stalls_of(alloc: Global, file: &File) -> Result<Vec<Stall>, NoMemo
 }
 
 /// The stalls of the file before its first turn. Takes them by the turn they start.
-pub(crate) fn stalled_of<'s>(alloc: Global, file: &File, sorted: &'s [Stall]) -> Result<Stalled<'s>, NoMemory>
+pub(crate) fn stalled_of<'s>(
+    alloc: Global,
+    file: &File,
+    sorted: &'s [Stall],
+) -> Result<Stalled<'s>, NoMemory>
     requires rises { Rises start_of 0 sorted.now }
     requires same { (k t : ℕ) → is_stalled sorted.now k t ≡ is_stalled file.now.stalls k t }
     ensures { IfOk result (IsTracking file.now 0) }

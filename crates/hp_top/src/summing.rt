@@ -18,7 +18,9 @@ ghost use Rattle.hp_top.specs.Turns.{boot_left, carried_start, with_voices};
 
 use crate::acting::Actors;
 use crate::outside::{Sink, WriteStop};
-use crate::running::{boot_turns, hosts_of, live_of, stalled_of, stalls_of, take_turn, take_voices};
+use crate::running::{
+    boot_turns, hosts_of, live_of, stalled_of, stalls_of, take_turn, take_voices,
+};
 use crate::writing::write_all;
 use hp_agent::Agent;
 use hp_config::{generated, generated_files_are_sound};

@@ -1,7 +1,6 @@
 -- What is read was written, and the other way round.
-use Rattle.std.proofs.Common.{◌≡◌, Option, Some, None, IfSome, refl, sym, ◌∙◌}
-use Rattle.hp_top.specs.Commands.{IsNumber, number_onto}
-use Rattle.hp_top.proofs.Decimals.{number_read, no_number, number_if}
+use Rattle.std.proofs.Common.{sym, ◌∙◌}
+use Rattle.hp_top.proofs.Decimals.{no_number, number_if}
 use Rattle.hp_top.proofs.numbers.number_of.Goals as goal
 
 pub returns-clause-some : goal.returns-clause-some

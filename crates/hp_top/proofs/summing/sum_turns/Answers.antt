@@ -1,5 +1,5 @@
 -- An actor after those before it.
-use Rattle.std.proofs.Common.{ℕ, length, ap, arith, refl}
+use Rattle.std.proofs.Common.{length, ap, arith, refl}
 use Rattle.hp_top.specs.Actors.{to_come}
 use Rattle.hp_top.specs.Doing.{Counted}
 use Rattle.hp_top.proofs.Doing.{counted_both, counted_none, did_all, did_more, did_none}
