@@ -258,10 +258,10 @@ def reason_of(fault):
     return str(fault)
 
 
-def run(name, work, trace):
-    """Hands the lines of a trace to `work`; status 2 and one line on standard error where they are none.
+def guarded(name, work):
+    """Calls `work`; status 2 and one line on standard error where it finds no trace, or can't read or write.
 
-    So it is where they can't be read, or what `work` writes can't be written.
+    So it is where what it wrote can't be handed on.
     """
     # a reader that goes away ends a tool as it ends `cat`, and so does a signal from the keyboard
     for it in (signal.SIGPIPE, signal.SIGINT):
@@ -269,8 +269,7 @@ def run(name, work, trace):
     try:
         if sys.stdout is None:
             raise OSError("standard output is closed")
-        with opened(trace) as lines:
-            work(lines)
+        work()
         sys.stdout.flush()
     except (NoTrace, OSError) as fault:
         with contextlib.suppress(OSError):
@@ -281,3 +280,13 @@ def run(name, work, trace):
                 print(f"{name}: {reason_of(fault)}", file=sys.stderr, flush=True)
         # what couldn't be written isn't tried again at the end
         os._exit(2)
+
+
+def run(name, work, trace):
+    """Hands the lines of a trace to `work`, guarded."""
+
+    def on_lines():
+        with opened(trace) as lines:
+            work(lines)
+
+    guarded(name, on_lines)
