@@ -1,5 +1,5 @@
 -- What contracts see of a stage of the code, and of what a line comes to there.
-use Rattle.std.specs.Prelude.{◌≡◌, ◌×◌, ℕ, ◌+◌, ◌<◌, ◌^◌, false, List, [], ◌∷◌, Option, Some, None, Result, Ok, Err}
+use Rattle.std.specs.Prelude.{◌≡◌, ℕ, ◌+◌, ◌<◌, ◌^◌, false, List, [], ◌∷◌, Option, Some, None, Result, Ok, Err}
 use Rattle.hp_check.specs.Walk.{Walk}
 use Rattle.hp_reading.specs.Fault.{Fault}
 use Rattle.hp_judge.specs.declared.refusals.Refusal.{Refusal}

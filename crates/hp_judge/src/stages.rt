@@ -1,6 +1,6 @@
 //! How far a text has led.
 
-ghost use Rattle.std.specs.Prelude.{◌≡◌, ◌×◌, ◌+◌, false, Err, IfOk, OnErr};
+ghost use Rattle.std.specs.Prelude.{◌≡◌, ◌+◌, false, Err, IfOk, OnErr};
 ghost use Rattle.hp_reading.specs.Header.{head_of};
 ghost use Rattle.hp_judge.specs.Bytes.{after_byte, is_refused as is_over, overlong};
 ghost use Rattle.hp_judge.specs.Judging.{cause_of, fault_told};
