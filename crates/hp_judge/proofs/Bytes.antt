@@ -1,12 +1,11 @@
 -- A text judged byte by byte, with no more of an unfinished line than a line of the grammar can have.
-use Rattle.std.proofs.Common.{◌≡◌, ℕ, ◌+◌, ◌^◌, ◌==◌, ◌<◌, ◌≤◌, nat_lt, ◌&&◌, not, Bool, true, false, List, [], ◌∷◌, ◌++◌, length, codes, Option, Some, None, Result, Ok, Err, if◌then◌else◌, refl, sym, ap, subst, ◌∙◌, append_assoc, arith}
-use Rattle.std.proofs.lemmas.Bool.{and_parts, and_from, eqb-true, ltb-true, ltb-false}
+use Rattle.std.proofs.Common.{◌≡◌, ℕ, ◌+◌, ◌^◌, ◌==◌, ◌<◌, ◌≤◌, nat_lt, not, Bool, true, false, List, [], ◌∷◌, ◌++◌, length, codes, Option, Some, None, Err, if◌then◌else◌, refl, sym, ap, subst, ◌∙◌, append_assoc, arith}
+use Rattle.std.proofs.lemmas.Bool.{and_parts, and_from, eqb-true, ltb-false}
 use Rattle.std.proofs.lemmas.List.{append_cancel_right, append-nil}
 use Rattle.hp_model.specs.declared.platforms.Platform.{Platform}
 use Rattle.hp_model.specs.declared.entries.Entry.{Entry}
-use Rattle.hp_model.specs.State.{State}
 use Rattle.hp_model.specs.Text.{word, number, spell, end_text}
-use Rattle.hp_reading.specs.Fault.{Cause, Fault, Line, Step, End}
+use Rattle.hp_reading.specs.Fault.{Cause, Fault, Line, End}
 use Rattle.hp_reading.specs.Header.{head_of}
 use Rattle.hp_reading.specs.Lines.{entry_of, end_of}
 use Rattle.hp_reading.specs.Trace.{Cut, onto, with_byte, cut}
@@ -206,20 +205,19 @@ fed_bytes [] j more free = refl
 fed_bytes (c ∷ text) j more free = fed_byte j c (text ++ more) free ∙ fed_bytes text (after_byte j c) more (free_byte j c free)
 
 -- the verdict of a text that begins so, and of the whole of it
+starts : (text : List ℕ) → verdict_of text ≡ verdict_behind nothing_judged text
+unfolding verdict_of verdict_behind
+starts text = refl
+
 pub begins_so : (text more : List ℕ) → verdict_of (text ++ more) ≡ verdict_behind (after_bytes nothing_judged text) more
-unfolding verdict_of
-begins_so text more = start (text ++ more) ∙ fed_bytes text nothing_judged more refl
-  where
-    start : (text : List ℕ) → verdict (after_lines heading (cut text).lines) (cut text).rest ≡ verdict_behind nothing_judged text
-    unfolding verdict_behind
-    start text = refl
+begins_so text more = starts (text ++ more) ∙ fed_bytes text nothing_judged more refl
+
+closed : (j : Judged) → has_none j.rest ≡ true → verdict_behind j [] ≡ verdict j.standing j.rest
+unfolding verdict_behind after_lines
+closed j free = ap (λ (k : Cut). verdict (after_lines j.standing k.lines) k.rest) (ap cut (append-nil j.rest) ∙ cut-rest j.rest free)
 
 pub ends_so : (text : List ℕ) → verdict_of text ≡ verdict (after_bytes nothing_judged text).standing (after_bytes nothing_judged text).rest
 ends_so text = ap verdict_of (sym (append-nil text)) ∙ begins_so text [] ∙ closed (after_bytes nothing_judged text) (free_bytes text nothing_judged refl)
-  where
-    closed : (j : Judged) → has_none j.rest ≡ true → verdict_behind j [] ≡ verdict j.standing j.rest
-    unfolding verdict_behind after_lines
-    closed j free = ap (λ (k : Cut). verdict (after_lines j.standing k.lines) k.rest) (ap cut (append-nil j.rest) ∙ cut-rest j.rest free)
 
 -- byte by byte is one after the other
 pub after-snoc : (text : List ℕ) (j : Judged) (c : ℕ) → after_bytes j (text ++ c ∷ []) ≡ after_byte (after_bytes j text) c

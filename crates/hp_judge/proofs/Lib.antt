@@ -1,3 +1,4 @@
 mod Lines
 mod Bytes
+mod Telling
 mod Verdicts

@@ -1,5 +1,5 @@
 -- How far a text has led, byte by byte (own rules).
-use Rattle.std.specs.Prelude.{◌≡◌, ℕ, Bool, true, false, ◌+◌, ◌==◌, nat_lt, List, [], ◌∷◌, ◌++◌, length, Result, if◌then◌else◌}
+use Rattle.std.specs.Prelude.{ℕ, Bool, true, false, ◌+◌, ◌==◌, nat_lt, List, [], ◌∷◌, ◌++◌, length, Result, if◌then◌else◌}
 use Rattle.hp_reading.specs.Fault.{Fault, Line, End}
 use Rattle.hp_reading.specs.Trace.{cut}
 use Rattle.hp_judge.specs.Standing.{Standing, heading, going, ended, refused, refusing, after_line, after_lines, verdict}

@@ -1,5 +1,5 @@
 -- What a judge says of the text that it has taken.
-use Rattle.std.specs.Prelude.{◌≡◌, ℕ, ◌+◌, ◌<◌, ◌^◌, false, List, [], ◌∷◌, ◌++◌, length, Option, Some, None, IsSome, Result, Ok, Err}
+use Rattle.std.specs.Prelude.{◌≡◌, ℕ, List, ◌++◌, length, Some, None, IsSome, Result, Ok, Err}
 use Rattle.hp_model.specs.Platform.{IsFit}
 use Rattle.hp_model.specs.Runs.{run}
 use Rattle.hp_model.specs.Safety.{IsSafe}

@@ -74,7 +74,11 @@ fn end_fault(entries: u64, number: Option<u64>) -> Option<Why>
     ensures { end_by entries result ≡ by_end entries number }
 {
     match number {
-        Some(number) => if number == entries { None } else { Some(Why::End) },
+        Some(number) => if number == entries {
+            None
+        } else {
+            Some(Why::End)
+        },
         None => Some(Why::Line),
     }
 }
@@ -103,6 +107,7 @@ fn tell(walk: &mut Walk, entries: u64, line: &[u8]) -> Result<Told, NoMemory>
 }
 
 /// A line has ended.
+#[tactic(auto, unfolding(crate::specs::Standing::after_line))]
 fn end_line(alloc: Global, stage: &mut Stage, line: &[u8]) -> Result<(), NoMemory>
     requires { IsHeld stage.old }
     ensures held { IsHeld stage.new }
@@ -167,7 +172,7 @@ pub(crate) fn take_byte(
     if byte == b'\n' {
         end_line(alloc, stage, rest.as_slice())?;
         rest.clear();
-    } else if rest.len() < LONGEST {
+    } else if rest.as_slice().len() < LONGEST {
         rest.push(byte)?;
     } else {
         *stage = over(stage);
