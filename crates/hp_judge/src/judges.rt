@@ -4,20 +4,18 @@ ghost use Rattle.std.specs.Prelude.{◌≡◌, ℕ, List, [], ◌∷◌, ◌++�
 ghost use Rattle.hp_judge.specs.Judging.{Feeds, Judges, fault_told};
 ghost use Rattle.hp_reading.specs.Fault.{fault_of};
 
-use crate::laws::judged_line_by_line;
 use crate::refusals::{Refusal, Stop};
 use crate::stages::{Stage, close, take_byte};
 use hp_exact::runs_are_safe;
 use hp_model::NoMemory;
-use hp_reading::{texts_without_fault_are_runs, traces_are_read_as_spelled};
 use http_server::Log;
 use std::alloc::Global;
 use std::marker::Model;
 
 /// Judges a text that it is given piece by piece: whether it is the trace of a run, and else which line is at fault first, and why.
 ///
-/// It keeps the machine that the entries so far have led, their number, and the bytes of the line that hasn't ended, below 12 KiB. So its memory
-/// doesn't grow with the text.
+/// It keeps the machine that the entries so far have led, their number, and the bytes of the line that hasn't ended, of which there are at most
+/// 12 KiB: a longer line is at fault before it ends. So its memory doesn't grow with the text.
 #[derive(Drop)]
 pub struct Judge {
     alloc: Global,
@@ -65,7 +63,6 @@ impl Judge {
     fn refusal(&self) -> Option<Refusal>
         ensures { IfSome result (λ r. (more : List ℕ) → fault_of (self.now ++ more) ≡ Some (fault_told r)) }
     {
-        judged_line_by_line();
         match self.stage {
             Stage::Refused(refusal) => Some(refusal),
             _ => None,
@@ -95,9 +92,6 @@ impl Judge {
     pub fn finish(self) -> Result<u64, Refusal>
         ensures { Judges self result }
     {
-        judged_line_by_line();
-        texts_without_fault_are_runs();
-        traces_are_read_as_spelled();
         runs_are_safe();
         close(&self.stage, self.rest.as_slice())
     }
