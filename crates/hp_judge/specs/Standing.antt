@@ -16,6 +16,7 @@ pub data Standing : Type 0 where
   ended : ℕ → Standing
   refused : Fault → Standing
 
+-- whether one is, and the fault of a line
 abbrev pub is_refused : Standing → Bool
 is_refused heading = false
 is_refused (going p s n) = false
