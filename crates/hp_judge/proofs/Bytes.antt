@@ -13,8 +13,8 @@ use Rattle.hp_reading.proofs.Feeds.{has_none}
 use Rattle.hp_reading.proofs.HeaderLengths.{headers_are_short}
 use Rattle.hp_reading.proofs.Lengths.{lines_are_short, most_in, spell_short}
 use Rattle.hp_reading.proofs.TraceLines.{ends_are_read}
-use Rattle.hp_judge.specs.Bytes.{Judged, nothing_judged, longest, is_refused, overlong, lengthened, after_byte, after_bytes, verdict_behind}
-use Rattle.hp_judge.specs.Standing.{Standing, heading, going, ended, refused, refusing, by_head, by_end, by_line, after_line, after_lines, verdict, verdict_of}
+use Rattle.hp_judge.specs.Bytes.{Judged, nothing_judged, longest, overlong, lengthened, after_byte, after_bytes, verdict_behind}
+use Rattle.hp_judge.specs.Standing.{Standing, heading, going, ended, refused, refusing, is_refused, by_head, by_end, by_line, after_line, after_lines, verdict, verdict_of}
 use Rattle.hp_judge.proofs.Lines.{refused_stays}
 
 -- a line without a line feed at the front, and a text without one
@@ -224,3 +224,54 @@ pub after-snoc : (text : List ℕ) (j : Judged) (c : ℕ) → after_bytes j (tex
 unfolding after_bytes
 after-snoc [] j c = refl
 after-snoc (d ∷ text) j c = after-snoc text (after_byte j d) c
+
+-- a refusal stays, byte by byte
+pub byte_stays : (j : Judged) (c : ℕ) → is_refused j.standing ≡ true → j ≡ after_byte j c
+unfolding after_byte
+byte_stays j c is = rw is refl
+
+refused_on : (text : List ℕ) (j : Judged) → is_refused j.standing ≡ true → is_refused (after_bytes j text).standing ≡ true
+unfolding after_bytes
+refused_on [] j is = is
+refused_on (c ∷ text) j is = ap (λ (k : Judged). is_refused (after_bytes k text).standing) (sym (byte_stays j c is)) ∙ refused_on text j is
+
+-- while nothing is refused, the lines that have ended led there
+abbrev Leads : Judged → ℕ → List ℕ → Judged → Type 0
+Leads j c text k = is_refused (after_bytes k text).standing ≡ false → after_lines j.standing (cut (j.rest ++ c ∷ text)).lines ≡ after_lines k.standing (cut (k.rest ++ text)).lines
+
+over_refuses : (x : Standing) → is_refused (overlong x) ≡ true
+over_refuses heading = refl
+over_refuses (going p s n) = refl
+over_refuses (ended n) = refl
+over_refuses (refused f) = refl
+
+never : {P : Type 0} (j : Judged) (text : List ℕ) → is_refused j.standing ≡ true → is_refused (after_bytes j text).standing ≡ false → P
+never j text is other = no (sym (refused_on text j is) ∙ other)
+  where
+    no : {P : Type 0} → true ≡ false → P
+    no e = absurd cc
+
+leads_byte : (j : Judged) (c : ℕ) (text : List ℕ) → has_none j.rest ≡ true → Leads j c text (after_byte j c)
+unfolding after_byte after_lines
+leads_byte j c text free = by (is_refused j.standing) refl
+  where
+    short : (t : Bool) → Leads j c text (lengthened j c t)
+    short true open_still = ap (λ (text : List ℕ). after_lines j.standing (cut text).lines) (sym (append_assoc j.rest (c ∷ []) text))
+    short false open_still = never (lengthened j c false) text (over_refuses j.standing) open_still
+
+    line : (t : Bool) → (c == 10) ≡ t → Leads j c text (if t then record { standing = after_line j.standing j.rest; rest = [] } else lengthened j c (nat_lt (length j.rest) longest))
+    line true is open_still = ap (λ (d : ℕ). after_lines j.standing (cut (j.rest ++ d ∷ text)).lines) (eqb-true c 10 is) ∙ ap (λ (k : Cut). after_lines j.standing k.lines) (cut-line j.rest text free)
+    line false is open_still = short (nat_lt (length j.rest) longest) open_still
+
+    by : (t : Bool) → is_refused j.standing ≡ t
+        → Leads j c text (if t then j else if c == 10 then record { standing = after_line j.standing j.rest; rest = [] } else lengthened j c (nat_lt (length j.rest) longest))
+    by true is open_still = never j text is open_still
+    by false is open_still = line (c == 10) refl open_still
+
+lines_so : (text : List ℕ) (j : Judged) → has_none j.rest ≡ true → is_refused (after_bytes j text).standing ≡ false → after_lines j.standing (cut (j.rest ++ text)).lines ≡ (after_bytes j text).standing
+unfolding after_bytes after_lines
+lines_so [] j free open_still = ap (λ (k : Cut). after_lines j.standing k.lines) (ap cut (append-nil j.rest) ∙ cut-rest j.rest free)
+lines_so (c ∷ text) j free open_still = leads_byte j c text free open_still ∙ lines_so text (after_byte j c) (free_byte j c free) open_still
+
+pub unrefused : (text : List ℕ) → is_refused (after_bytes nothing_judged text).standing ≡ false → is_refused (after_lines heading (cut text).lines) ≡ false
+unrefused text open_still = ap is_refused (lines_so text nothing_judged refl open_still) ∙ open_still

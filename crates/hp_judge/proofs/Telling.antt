@@ -11,8 +11,8 @@ use Rattle.hp_judge.specs.declared.refusals.Refusal.{Refusal}
 use Rattle.hp_judge.specs.declared.refusals.Why.{Why}
 use Rattle.hp_judge.specs.declared.stages.Stage.{Stage}
 use Rattle.hp_judge.specs.declared.stages.Stage.TheVariants.{Refused}
-use Rattle.hp_judge.specs.Bytes.{Judged, is_refused, overlong, after_byte}
-use Rattle.hp_judge.specs.Standing.{Standing, going, by_end, by_step, by_line, after_line}
+use Rattle.hp_judge.specs.Bytes.{overlong, after_byte}
+use Rattle.hp_judge.specs.Standing.{Standing, going, is_refused, by_end, by_step, by_line, after_line}
 use Rattle.hp_judge.specs.Stages.{HasGone, end_by, standing}
 
 -- a line behind the header that is no entry's
@@ -54,11 +54,7 @@ is_no_less a b long = by (nat_lt a b) refl
     by true is = absurd (omega (arith, long, ltb-true a b is))
     by false is = refl
 
--- the four ways of a byte
-pub byte_stays : (j : Judged) (c : ℕ) → is_refused j.standing ≡ true → j ≡ after_byte j c
-unfolding after_byte
-byte_stays j c is = rw is refl
-
+-- the ways of a byte where nothing is refused
 module _ (x y : Standing) (rest new : List ℕ) (c : ℕ) (going_on : is_refused x ≡ false) where
   pub byte_ends : c ≡ 10 → y ≡ after_line x rest → new ≡ [] → record { standing = y; rest = new } ≡ after_byte (record { standing = x; rest = rest }) c
   unfolding after_byte

@@ -1,5 +1,5 @@
 -- What a stage of the code says of the text that led to it.
-use Rattle.std.proofs.Common.{◌≡◌, ℕ, List, [], ◌∷◌, ◌++◌, Option, Some, None, Result, Ok, Err, refl, sym, ap, subst, ◌∙◌}
+use Rattle.std.proofs.Common.{◌≡◌, ℕ, false, List, [], ◌∷◌, ◌++◌, Option, Some, None, Result, Ok, Err, refl, sym, ap, subst, ◌∙◌}
 use Rattle.std.proofs.lemmas.Option.{same_Some}
 use Rattle.std.specs.Option.{IsSome}
 use Rattle.hp_model.specs.declared.platforms.Platform.{Platform}
@@ -9,23 +9,32 @@ use Rattle.hp_model.specs.Runs.{run}
 use Rattle.hp_model.specs.Safety.{IsSafe}
 use Rattle.hp_model.specs.State.{State}
 use Rattle.hp_reading.specs.Fault.{fault_of, IsRunsTrace}
-use Rattle.hp_reading.specs.Trace.{TraceContent, IsTrace}
+use Rattle.hp_reading.specs.Trace.{TraceContent, IsTrace, cut}
 use Rattle.hp_reading.proofs.FaultLines.{faults_are_none}
 use Rattle.hp_reading.proofs.TraceLines.{traces_are_read}
 use Rattle.hp_judge.specs.declared.refusals.Refusal.{Refusal}
 use Rattle.hp_judge.specs.declared.stages.Stage.{Stage}
-use Rattle.hp_judge.specs.declared.stages.Stage.TheVariants.{Heading, Refused}
+use Rattle.hp_judge.specs.declared.stages.Stage.TheVariants.{Heading, Going, Ended, Refused}
 use Rattle.hp_judge.specs.Bytes.{Judged, nothing_judged, after_byte, after_bytes, verdict_behind}
 use Rattle.hp_judge.specs.Judging.{fault_told, IsAccepted, Judges}
-use Rattle.hp_judge.specs.Standing.{HasEntries, fault_by, verdict, verdict_of}
+use Rattle.hp_judge.specs.Standing.{HasEntries, fault_by, verdict, verdict_of, heading, is_refused, after_lines}
 use Rattle.hp_judge.specs.Stages.{IsHeld, IsJudging, judged, standing, text_of, told_by}
-use Rattle.hp_judge.proofs.Bytes.{begins_so, ends_so, after-snoc, refused_behind}
+use Rattle.hp_judge.proofs.Bytes.{begins_so, ends_so, after-snoc, refused_behind, unrefused}
 use Rattle.hp_judge.proofs.Lines.{fault_is, has_entries}
 
 -- a refusal is the first fault, whatever follows
 pub settled : (text : List ℕ) (stage : Stage) (rest : List ℕ) (r : Refusal) → IsJudging text stage rest → stage ≡ Refused r → (more : List ℕ) → fault_of (text ++ more) ≡ Some (fault_told r)
 settled text stage rest r is at more =
     fault_is (text ++ more) ∙ ap fault_by (begins_so text more ∙ ap (λ (j : Judged). verdict_behind j more) (is.led ∙ ap (λ (s : Stage). judged s rest) at) ∙ refused_behind (fault_told r) rest more)
+
+open_stage : (stage : Stage) → ((r : Refusal) → stage ≡ Refused r → ⊥) → is_refused (standing stage) ≡ false
+open_stage Heading never = refl
+open_stage (Going w n) never = refl
+open_stage (Ended n) never = refl
+open_stage (Refused r) never = absurd (never r refl)
+
+pub unsettled : (text : List ℕ) (stage : Stage) (rest : List ℕ) → IsJudging text stage rest → ((r : Refusal) → stage ≡ Refused r → ⊥) → is_refused (after_lines heading (cut text).lines) ≡ false
+unsettled text stage rest is never = unrefused text (ap (λ (j : Judged). is_refused j.standing) is.led ∙ open_stage stage never)
 
 pub text_of-snoc : (xs : List (ℕ × Unit {0})) (c : ℕ) (u : Unit {0}) → text_of (xs ++ (c, u) ∷ []) ≡ text_of xs ++ c ∷ []
 text_of-snoc [] c u = refl

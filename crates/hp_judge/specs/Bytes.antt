@@ -2,7 +2,7 @@
 use Rattle.std.specs.Prelude.{ℕ, Bool, true, false, ◌+◌, ◌==◌, nat_lt, List, [], ◌∷◌, ◌++◌, length, Result, if◌then◌else◌}
 use Rattle.hp_reading.specs.Fault.{Fault, Line, End}
 use Rattle.hp_reading.specs.Trace.{cut}
-use Rattle.hp_judge.specs.Standing.{Standing, heading, going, ended, refused, refusing, after_line, after_lines, verdict}
+use Rattle.hp_judge.specs.Standing.{Standing, heading, going, ended, refused, refusing, is_refused, after_line, after_lines, verdict}
 
 -- the lines that have ended, and the bytes behind them
 pub record Judged : Type 0 where
@@ -26,12 +26,6 @@ overlong (refused f) = refused f
 abbrev pub lengthened : Judged → ℕ → Bool → Judged
 lengthened j c true = record { standing = j.standing; rest = j.rest ++ c ∷ [] }
 lengthened j c false = record { standing = overlong j.standing; rest = [] }
-
-abbrev pub is_refused : Standing → Bool
-is_refused heading = false
-is_refused (going p s n) = false
-is_refused (ended n) = false
-is_refused (refused f) = true
 
 -- behind a refusal no byte counts
 unfoldable pub after_byte : Judged → ℕ → Judged

@@ -1,11 +1,12 @@
 -- What a judge says of the text that it has taken.
-use Rattle.std.specs.Prelude.{◌≡◌, ℕ, List, ◌++◌, length, Some, None, IsSome, Result, Ok, Err}
+use Rattle.std.specs.Prelude.{◌≡◌, ℕ, false, List, ◌++◌, length, Some, None, IsSome, Result, Ok, Err}
 use Rattle.hp_model.specs.Platform.{IsFit}
 use Rattle.hp_model.specs.Runs.{run}
 use Rattle.hp_model.specs.Safety.{IsSafe}
 use Rattle.hp_reading.specs.Fault as reading
 use Rattle.hp_reading.specs.Fault.{Fault, fault_of}
-use Rattle.hp_reading.specs.Trace.{TraceContent, trace_of}
+use Rattle.hp_reading.specs.Trace.{TraceContent, cut, trace_of}
+use Rattle.hp_judge.specs.Standing.{heading, is_refused, after_lines}
 use Rattle.hp_judge.specs.declared.refusals.Why.{Why}
 use Rattle.hp_judge.specs.declared.refusals.Why.TheVariants.{Line, Step, End}
 use Rattle.hp_judge.specs.declared.refusals.Refusal.{Refusal}
@@ -41,6 +42,11 @@ pub record IsRefused (old bytes new : List ℕ) (r : Refusal) : Type 0 where
   pub taken : new ≡ old ++ bytes
   pub fault : (more : List ℕ) → fault_of (new ++ more) ≡ Some (fault_told r)
 
+-- the bytes were taken, and no line that has ended is at fault
+pub record IsTaken (old bytes new : List ℕ) : Type 0 where
+  pub taken : new ≡ old ++ bytes
+  pub unrefused : is_refused (after_lines heading (cut new).lines) ≡ false
+
 -- bytes at the front were taken, and none behind them
 pub record HasFront (old bytes new : List ℕ) : Type 0 where
   pub front : List ℕ
@@ -50,6 +56,6 @@ pub record HasFront (old bytes new : List ℕ) : Type 0 where
 
 -- what giving a judge these bytes says of the text before and after it
 abbrev pub Feeds : List ℕ → List ℕ → List ℕ → Result (Unit {0}) Stop → Type 0
-Feeds old bytes new (Ok done) = new ≡ old ++ bytes
+Feeds old bytes new (Ok done) = IsTaken old bytes new
 Feeds old bytes new (Err (Refused r)) = IsRefused old bytes new r
 Feeds old bytes new (Err NoMemory) = HasFront old bytes new

@@ -1,5 +1,5 @@
 -- How far the lines of a text have led, one after the other (own rules).
-use Rattle.std.specs.Prelude.{◌≡◌, ℕ, ◌+◌, ◌==◌, List, [], ◌∷◌, length, Option, Some, None, Result, Ok, Err, if◌then◌else◌}
+use Rattle.std.specs.Prelude.{◌≡◌, ℕ, Bool, true, false, ◌+◌, ◌==◌, List, [], ◌∷◌, length, Option, Some, None, Result, Ok, Err, if◌then◌else◌}
 use Rattle.hp_model.specs.declared.platforms.Platform.{Platform}
 use Rattle.hp_model.specs.declared.entries.Entry.{Entry}
 use Rattle.hp_model.specs.Runs.{run_on}
@@ -15,6 +15,13 @@ pub data Standing : Type 0 where
   going : Platform → State → ℕ → Standing
   ended : ℕ → Standing
   refused : Fault → Standing
+
+-- whether one is, and the fault of a line
+abbrev pub is_refused : Standing → Bool
+is_refused heading = false
+is_refused (going p s n) = false
+is_refused (ended n) = false
+is_refused (refused f) = true
 
 abbrev pub refusing : ℕ → Cause → Standing
 refusing line cause = refused (record { line = line; cause = cause })

@@ -1,8 +1,10 @@
 //! A judge of a trace's text, which is given it in pieces.
 
-ghost use Rattle.std.specs.Prelude.{◌≡◌, ℕ, List, [], ◌∷◌, ◌++◌, IfOk, IfSome, OnErr, Some};
+ghost use Rattle.std.specs.Prelude.{◌≡◌, ℕ, false, List, [], ◌∷◌, ◌++◌, IfOk, IfSome, None, OnErr, Some};
 ghost use Rattle.hp_judge.specs.Judging.{Feeds, Judges, fault_told};
+ghost use Rattle.hp_judge.specs.Standing.{heading, is_refused, after_lines};
 ghost use Rattle.hp_reading.specs.Fault.{fault_of};
+ghost use Rattle.hp_reading.specs.Trace.{cut};
 
 use crate::refusals::{Refusal, Stop};
 use crate::stages::{Stage, close, take_byte};
@@ -61,7 +63,8 @@ impl Judge {
 
     /// The first line at fault, if it is found already.
     fn refusal(&self) -> Option<Refusal>
-        ensures { IfSome result (λ r. (more : List ℕ) → fault_of (self.now ++ more) ≡ Some (fault_told r)) }
+        ensures fault { IfSome result (λ r. (more : List ℕ) → fault_of (self.now ++ more) ≡ Some (fault_told r)) }
+        ensures none { result ≡ None → is_refused (after_lines heading (cut self.now).lines) ≡ false }
     {
         match self.stage {
             Stage::Refused(refusal) => Some(refusal),
@@ -69,8 +72,9 @@ impl Judge {
         }
     }
 
-    /// Takes the next piece of the text, cut anywhere. `Refused` comes where its first line at fault is found already: whatever follows, the
-    /// judgement is this one, and so it stays. After `NoMemory` bytes at the front of the piece were taken and those behind them weren't.
+    /// Takes the next piece of the text, cut anywhere. `Refused` comes where the first line at fault is known already: whatever follows, the
+    /// judgement is this one, and so it stays. It comes at once where a line that has ended is at fault. After `NoMemory` bytes at the front of the
+    /// piece were taken and those behind them weren't.
     pub fn feed(&mut self, bytes: &[u8]) -> Result<(), Stop>
         ensures { Feeds self.old bytes.now self.new result }
     {

@@ -2,10 +2,10 @@
 
 ghost use Rattle.std.specs.Prelude.{◌≡◌, ◌+◌, false, Err, IfOk, OnErr};
 ghost use Rattle.hp_reading.specs.Header.{head_of};
-ghost use Rattle.hp_judge.specs.Bytes.{after_byte, is_refused as is_over, overlong};
+ghost use Rattle.hp_judge.specs.Bytes.{after_byte, overlong};
 ghost use Rattle.hp_judge.specs.Judging.{cause_of, fault_told};
 ghost use Rattle.hp_judge.specs.Stages.{IsCounted, IsHeld, Tells, end_by, judged, standing, told_by};
-ghost use Rattle.hp_judge.specs.Standing.{after_line, by_end, by_head, refused as refused_at, refusing, verdict, without_end};
+ghost use Rattle.hp_judge.specs.Standing.{after_line, by_end, by_head, is_refused as is_over, refused as refused_at, refusing, verdict, without_end};
 
 use crate::refusals::{Refusal, Why};
 use hp_check::Walk;

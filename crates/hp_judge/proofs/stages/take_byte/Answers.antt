@@ -2,7 +2,8 @@
 use Rattle.std.proofs.Common.{length, refl, sym, ap, ◌∙◌, arith}
 use Rattle.hp_judge.specs.Standing.{after_line}
 use Rattle.hp_judge.specs.Stages.{judged, standing}
-use Rattle.hp_judge.proofs.Telling.{byte_stays, byte_ends, byte_more, byte_over}
+use Rattle.hp_judge.proofs.Bytes.{byte_stays}
+use Rattle.hp_judge.proofs.Telling.{byte_ends, byte_more, byte_over}
 use Rattle.hp_judge.proofs.stages.take_byte.Goals as goal
 
 pub returns-then-is_refused-clause-led : goal.returns-then-is_refused-clause-led
