@@ -1,11 +1,12 @@
 //! The program: words, standard input and standard output in, an exit status out. docs/PROOFS.md says what is proved.
 #![tactic(auto)]
 
-ghost use Rattle.std.specs.Prelude.{◌≡◌, drop};
+ghost use Rattle.std.specs.Prelude.{◌≡◌, drop, IsErr, IsOk};
 
 use hp_agent::{Agent, Seeded, Storm};
-use hp_top::{Status, StdSink, StdSource, top};
+use hp_top::{Failed, Status, StdSink, StdSource, top};
 use std::alloc::AllocError;
+use std::io::BufWriter;
 use std::process::ExitCode;
 use std::{env, io};
 
@@ -29,19 +30,38 @@ fn after_name(words: &[String]) -> &[String]
     }
 }
 
+/// How many bytes of standard output are held back: a line is no system call.
+const HELD_BACK: usize = 0x10000;
+
+/// How the program ends, where the call ended so: a write failed, where what was held back at its end couldn't be written.
+fn ended(status: Status, finished: Result<(), Failed>) -> Status
+    ensures kept { IsOk finished → result ≡ status }
+    ensures fault { IsErr finished → result ≡ Status.WriteFault }
+{
+    match finished {
+        Ok(()) => status,
+        Err(Failed) => Status::WriteFault,
+    }
+}
+
 /// The call for these words. Processors of kind handed get accesses that are drawn, and a storm over 64 processors.
 fn call(rt: &HostRuntime, words: &[String]) -> Result<Status, AllocError> {
     let alloc = rt.alloc();
     let mut agents: Vec<Box<dyn Agent + Send>> = Vec::new(alloc);
     agents.push(Box::new(alloc, Seeded::new(1))?)?;
     agents.push(Box::new(alloc, Storm::new(64))?)?;
-    Ok(top(
+    let Ok(buffered) = BufWriter::with_capacity(alloc, HELD_BACK, rt.stdout()) else {
+        return Ok(Status::NoMemory);
+    };
+    let mut out = StdSink::new(buffered);
+    let status = top(
         alloc,
         words,
         &mut StdSource::new(rt.stdin()),
-        &mut StdSink::new(rt.stdout()),
+        &mut out,
         agents,
-    ))
+    );
+    Ok(ended(status, out.finish()))
 }
 
 fn serve(rt: &HostRuntime) -> Status {

@@ -1,9 +1,9 @@
 //! Agents by their own calls: what they answer, and that one is dropped when its processor is ejected.
 
 use crate::echoes::Echo;
-use crate::turns::{BOTH, platform_of};
 use hp_agent::{Agent, Agents, PenAgent, Script, Voice, voice_for};
 use hp_model::{Access, Answer, Steps, VoiceKind};
+use hp_test_worlds::{BOTH, platform_of};
 use std::alloc::Global;
 use std::process::Abort;
 use std::sync::Arc;
@@ -82,7 +82,7 @@ fn agents_are_made_of_their_kinds_and_one_that_is_not_handed_in_halts(
     rt: HostRuntime,
 ) -> Result<(), Fail> {
     let alloc = rt.alloc();
-    let p = platform_of(&rt, alloc, BOTH)?;
+    let p = platform_of(alloc, &BOTH)?;
     for (kind, first, second) in [
         (VoiceKind::Script(two_steps(alloc)?), READ, WRITE),
         (

@@ -7,5 +7,3 @@ mod agents;
 mod echoes;
 #[cfg(test)]
 mod handed;
-#[cfg(test)]
-mod turns;

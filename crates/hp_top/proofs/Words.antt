@@ -3,7 +3,7 @@ use Rattle.std.proofs.Common.{◌≡◌, ℕ, true, false, List, [], ◌∷◌, 
 use Rattle.std.specs.Str.{bytes_eq}
 use Rattle.std.proofs.lemmas.Slice.Eq.{bytes_eq-Decides}
 use Rattle.std.proofs.lemmas.Option.{same_Some}
-use Rattle.hp_top.specs.Commands.{AreGen, AreNone, AreWords, IsNumber, are_run, number_onto}
+use Rattle.hp_top.specs.Commands.{AreGen, AreNone, AreWords, IsNumber, are_check, are_run, number_onto}
 use Rattle.hp_top.proofs.Decimals.{written_read}
 
 pub gen_word : (word : List ℕ) → bytes_eq word (codes "gen") ≡ true → word ≡ codes "gen"
@@ -32,3 +32,18 @@ not_both (word ∷ (number ∷ (other ∷ words))) n run gen = gen
 
 pub run_some : (words : List (List ℕ)) → are_run words ≡ true → AreNone words → ⊥
 run_some words run none = let both : true ≡ false = sym run ∙ none.run in cc
+
+pub not_check : (words : List (List ℕ)) → are_run words ≡ true → are_check words ≡ true → ⊥
+not_check [] run check = cc
+not_check (word ∷ []) run check =
+    let same : codes "run" ≡ codes "check" = sym ((bytes_eq-Decides word (codes "run")).0 run) ∙ (bytes_eq-Decides word (codes "check")).0 check in cc
+not_check (word ∷ (other ∷ words)) run check = cc
+
+pub check_not_gen : (words : List (List ℕ)) (n : ℕ) → are_check words ≡ true → AreGen words n → ⊥
+check_not_gen [] n check gen = gen
+check_not_gen (word ∷ []) n check gen = gen
+check_not_gen (word ∷ (number ∷ [])) n check gen = cc
+check_not_gen (word ∷ (number ∷ (other ∷ words))) n check gen = gen
+
+pub check_some : (words : List (List ℕ)) → are_check words ≡ true → AreNone words → ⊥
+check_some words check none = let both : true ≡ false = sym check ∙ none.check in cc

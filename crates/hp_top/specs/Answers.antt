@@ -108,7 +108,7 @@ EndsRun bytes handed old new NoMemory = Keeps old new ⊎ IsCutRun bytes handed 
 -- the source was read to its end, and its bytes decide
 pub record EndsAfterReading (handed : List (Option Voice)) (left still old new : Option (List ℕ)) (status : Status) : Type 0 where
   pub bytes : List ℕ
-  pub read : HasRead left still bytes
+  pub read : HasRead limit left still bytes
   pub ends : EndsRun bytes handed old new status
 
 -- how `run` ends, where agents were handed in that tell this: `left` and `still` are what the source had left before and after it, `old` and `new`
@@ -116,8 +116,8 @@ pub record EndsAfterReading (handed : List (Option Voice)) (left still old new :
 abbrev pub Ends : List (Option Voice) → Option (List ℕ) → Option (List ℕ) → Option (List ℕ) → Option (List ℕ) → Status → Type 0
 Ends handed left still old new Done = EndsAfterReading handed left still old new Done
 Ends handed left still old new BadWords = ⊥
-Ends handed left still old new ReadFault = HasReadWithin left still × Keeps old new
-Ends handed left still old new TooLong = HasReadPast left still × Keeps old new
+Ends handed left still old new ReadFault = HasReadWithin limit left still × Keeps old new
+Ends handed left still old new TooLong = HasReadPast limit left still × Keeps old new
 Ends handed left still old new NotToml = EndsAfterReading handed left still old new NotToml
 Ends handed left still old new (Rule rule) = EndsAfterReading handed left still old new (Rule rule)
 Ends handed left still old new (BootRefused fact) = EndsAfterReading handed left still old new (BootRefused fact)

@@ -3,13 +3,19 @@ use Rattle.std.specs.Prelude.{◌≡◌, ◌≤◌, ◌+◌, ◌-◌, ◌*◌, �
 use Rattle.std.specs.Fmt.{decimal}
 use Rattle.std.specs.Str.{bytes_eq}
 use Rattle.hp_top.specs.declared.commands.Command.{Command}
-use Rattle.hp_top.specs.declared.commands.Command.TheVariants.{Run, Gen}
+use Rattle.hp_top.specs.declared.commands.Command.TheVariants.{Run, Check, Gen}
 
 -- the words are `run` alone
 abbrev pub are_run : List (List ℕ) → Bool
 are_run [] = false
 are_run (word ∷ []) = bytes_eq word (codes "run")
 are_run (word ∷ (other ∷ words)) = false
+
+-- or `check` alone
+abbrev pub are_check : List (List ℕ) → Bool
+are_check [] = false
+are_check (word ∷ []) = bytes_eq word (codes "check")
+are_check (word ∷ (other ∷ words)) = false
 
 -- a decimal number from 1 to 1000, without a sign or a leading zero
 pub record IsNumber (word : List ℕ) (n : ℕ) : Type 0 where
@@ -32,12 +38,14 @@ AreGen (first ∷ (second ∷ (other ∷ words))) n = ⊥
 -- the words are no command
 pub record AreNone (words : List (List ℕ)) : Type 0 where
   pub run : are_run words ≡ false
+  pub check : are_check words ≡ false
   pub gen : (n : ℕ) → AreGen words n → ⊥
 
 -- what the words ask for
 abbrev pub Asks : List (List ℕ) → Option Command → Type 0
 Asks words None = AreNone words
 Asks words (Some Run) = are_run words ≡ true
+Asks words (Some Check) = are_check words ≡ true
 Asks words (Some (Gen n)) = AreGen words n
 
 -- how a number is read, digit by digit: a digit more behind a value, which stays in these bounds

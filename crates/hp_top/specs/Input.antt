@@ -9,28 +9,32 @@ use Rattle.hp_top.specs.Faults.{Rose}
 abbrev pub limit : ℕ
 limit = 1048576
 
--- the source was read to its end, and gave these bytes
-pub record HasRead (old new : Option (List ℕ)) (bytes : List ℕ) : Type 0 where
+-- and a trace: 64 MiB
+abbrev pub trace_limit : ℕ
+trace_limit = 67108864
+
+-- the source was read to its end, and gave these bytes, so many at most
+pub record HasRead (most : ℕ) (old new : Option (List ℕ)) (bytes : List ℕ) : Type 0 where
   pub consumed : Consumes old new bytes
   pub ended : IsAtEnd new
-  pub within : length bytes ≤ limit
+  pub within : length bytes ≤ most
 
 -- the byte after the limit was read, and none behind it
-pub record HasReadPast (old new : Option (List ℕ)) : Type 0 where
+pub record HasReadPast (most : ℕ) (old new : Option (List ℕ)) : Type 0 where
   pub bytes : List ℕ
   pub consumed : Consumes old new bytes
-  pub past : length bytes ≡ limit + 1
+  pub past : length bytes ≡ most + 1
 
 -- no byte past the limit was read
-pub record HasReadWithin (old new : Option (List ℕ)) : Type 0 where
+pub record HasReadWithin (most : ℕ) (old new : Option (List ℕ)) : Type 0 where
   pub bytes : List ℕ
   pub consumed : Consumes old new bytes
-  pub within : length bytes ≤ limit
+  pub within : length bytes ≤ most
 
-abbrev pub StopsReading : Option (List ℕ) → Option (List ℕ) → ℕ → ℕ → ReadStop → Type 0
-StopsReading old new before now ReadFault = Rose before now × HasReadWithin old new
-StopsReading old new before now TooLong = HasReadPast old new
-StopsReading old new before now NoMemory = Unit {0}
+abbrev pub StopsReading : ℕ → Option (List ℕ) → Option (List ℕ) → ℕ → ℕ → ReadStop → Type 0
+StopsReading most old new before now ReadFault = Rose before now × HasReadWithin most old new
+StopsReading most old new before now TooLong = HasReadPast most old new
+StopsReading most old new before now NoMemory = Unit {0}
 
 -- the count of faults stays, but after a fault
 abbrev pub StaysReading : ℕ → ℕ → ReadStop → Type 0

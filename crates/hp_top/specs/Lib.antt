@@ -1,5 +1,6 @@
 pub mod Actors
 pub mod Answers
+pub mod Checked
 pub mod Codes
 pub mod Commands
 pub mod Doing

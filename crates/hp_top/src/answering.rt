@@ -7,11 +7,13 @@ ghost use Rattle.hp_boot.specs.Ending.{hands_over};
 ghost use Rattle.hp_config.specs.Reading.{IsReadAs};
 ghost use Rattle.hp_config.specs.Sound.{IsSound};
 ghost use Rattle.hp_top.specs.Faults.{Rose};
-ghost use Rattle.hp_top.specs.Commands.{AreGen, AreNone, are_run};
+ghost use Rattle.hp_top.specs.Commands.{AreGen, AreNone, are_check, are_run};
 ghost use Rattle.hp_top.specs.Answers.{EndsFile, EndsRun, Ends, HoldsFile, IsDoneOrNoMemory};
+ghost use Rattle.hp_top.specs.Checked.{EndsCheck, HoldsTrace};
 ghost use Rattle.hp_top.specs.Ending.{EndsBy};
 ghost use Rattle.hp_top.specs.Generated.{WritesGen};
 
+use crate::checking::{judge_all, tell};
 use crate::commands::{Command, command_of};
 use crate::outside::{Sink, Source, WriteStop};
 use crate::reading::{ReadStop, read_all};
@@ -101,6 +103,27 @@ fn serve_run<A: Agent, S: Source, K: Sink>(
     }
 }
 
+/// Reads the trace to its end, and tells how it is judged.
+fn serve_check<S: Source, K: Sink>(alloc: Global, src: &mut S, out: &mut K) -> Status
+    ensures ends { EndsCheck (S.left src.old) (S.left src.new) (K.held out.old) (K.held out.new) result }
+    ensures read_fault { result ≡ Status.ReadFault → Rose (S.faults src.old) (S.faults src.new) }
+    ensures read_calm { result ≢ Status.ReadFault → S.faults src.new ≡ S.faults src.old }
+    ensures write_fault { result ≡ Status.WriteFault → Rose (K.faults out.old) (K.faults out.new) }
+    ensures write_calm { result ≢ Status.WriteFault → K.faults out.new ≡ K.faults out.old }
+    ensures completes { HoldsTrace (S.left src.old)
+        → ¬ Rose (S.faults src.old) (S.faults src.new) → ¬ Rose (K.faults out.old) (K.faults out.new)
+        → IsDoneOrNoMemory result }
+    ensures read_count { S.faults src.old ≤ S.faults src.new }
+    ensures write_count { K.faults out.old ≤ K.faults out.new }
+{
+    match judge_all(alloc, src) {
+        Ok(judge) => tell(alloc, judge, out),
+        Err(ReadStop::ReadFault) => Status::ReadFault,
+        Err(ReadStop::TooLong) => Status::TooLong,
+        Err(ReadStop::NoMemory) => Status::NoMemory,
+    }
+}
+
 /// Makes the run of the file that a number makes, and writes its line.
 fn serve_gen<A: Agent, K: Sink>(alloc: Global, number: u32, out: &mut K) -> Status
     requires { number ≤ 1000 }
@@ -133,6 +156,9 @@ fn serve<A: Agent, S: Source, K: Sink>(
     ensures completes { HoldsFile (S.left src.old) → are_run (map string_bytes words.now) ≡ true
         → ¬ Rose (S.faults src.old) (S.faults src.new) → ¬ Rose (K.faults out.old) (K.faults out.new)
         → IsDoneOrNoMemory result }
+    ensures completes_check { HoldsTrace (S.left src.old) → are_check (map string_bytes words.now) ≡ true
+        → ¬ Rose (S.faults src.old) (S.faults src.new) → ¬ Rose (K.faults out.old) (K.faults out.new)
+        → IsDoneOrNoMemory result }
     ensures completes_gen { (n : ℕ) → AreGen (map string_bytes words.now) n → ¬ Rose (K.faults out.old) (K.faults out.new)
         → IsDoneOrNoMemory result }
     ensures read_count { S.faults src.old ≤ S.faults src.new }
@@ -140,12 +166,13 @@ fn serve<A: Agent, S: Source, K: Sink>(
 {
     match command_of(words) {
         Some(Command::Run) => serve_run(alloc, src, out, agents),
+        Some(Command::Check) => serve_check(alloc, src, out),
         Some(Command::Gen(number)) => serve_gen::<A, K>(alloc, number, out),
         None => Status::BadWords,
     }
 }
 
-/// Serves a command: `run`, or `gen` and a number from 1 to 1000 in decimal, without sign or leading zero.
+/// Serves a command: `run`, `check`, or `gen` and a number from 1 to 1000 in decimal, without sign or leading zero.
 ///
 /// `run` reads a platform file to its end, and writes the trace of its run, line by line:
 ///
@@ -159,6 +186,10 @@ fn serve<A: Agent, S: Source, K: Sink>(
 /// numbers, the next for the next, and so on. Such a processor for which none is left halts, and agents that are left over are dropped.
 /// Where all of them tell their voices the text is that of the schedule's run by these. Of an agent that tells none nothing is
 /// presumed: the text is that of the schedule's run in which some script says what that agent said, and each other its voice.
+///
+/// `check` reads a trace to its end, of at most 67,108,864 bytes, and keeps none of it. Where it is the trace of a run it writes `ok` and
+/// the number of the entries; the run is safe then, as above. Else `TraceRefused` has the first line at fault, from 1, and why, and
+/// nothing is written. Agents that are handed in are dropped.
 ///
 /// `gen` reads nothing. It makes the platform file of its number, runs it, and writes one line: how many entries the run has, and
 /// how many of them tell an add, an eject, and a refusal. Agents that are handed in are dropped.
@@ -178,6 +209,9 @@ pub fn top<S: Source, K: Sink>(
     ensures write_fault { result ≡ Status.WriteFault → Rose (K.faults out.old) (K.faults out.new) }
     ensures write_calm { result ≢ Status.WriteFault → K.faults out.new ≡ K.faults out.old }
     ensures completes { HoldsFile (S.left src.old) → are_run (map string_bytes words.now) ≡ true
+        → ¬ Rose (S.faults src.old) (S.faults src.new) → ¬ Rose (K.faults out.old) (K.faults out.new)
+        → IsDoneOrNoMemory result }
+    ensures completes_check { HoldsTrace (S.left src.old) → are_check (map string_bytes words.now) ≡ true
         → ¬ Rose (S.faults src.old) (S.faults src.new) → ¬ Rose (K.faults out.old) (K.faults out.new)
         → IsDoneOrNoMemory result }
     ensures completes_gen { (n : ℕ) → AreGen (map string_bytes words.now) n → ¬ Rose (K.faults out.old) (K.faults out.new)

@@ -2,7 +2,7 @@
 
 ghost use Rattle.std.specs.Prelude.{◌≡◌, ℕ, None, IfSome, codes, map, string_bytes};
 ghost use Rattle.std.specs.Str.{bytes_eq};
-ghost use Rattle.hp_top.specs.Commands.{AreGen, AreWords, Asks, are_run as are_the_run};
+ghost use Rattle.hp_top.specs.Commands.{AreGen, AreWords, Asks, are_check as are_the_check, are_run as are_the_run};
 
 use crate::numbers::number_of;
 
@@ -11,6 +11,8 @@ use crate::numbers::number_of;
 pub(crate) enum Command {
     /// `run`.
     Run,
+    /// `check`.
+    Check,
     /// `gen` and this number, from 1 to 1000.
     Gen(u32),
 }
@@ -19,6 +21,12 @@ fn is_run(word: &str) -> bool
     ensures { result ≡ bytes_eq word.now (codes "run") }
 {
     word == "run"
+}
+
+fn is_check(word: &str) -> bool
+    ensures { result ≡ bytes_eq word.now (codes "check") }
+{
+    word == "check"
 }
 
 fn is_gen(word: &str) -> bool
@@ -33,6 +41,16 @@ fn are_run(words: &[String]) -> bool
 {
     match words {
         [word] => is_run(word.as_str()),
+        _ => false,
+    }
+}
+
+/// Whether they are `check` alone.
+fn are_check(words: &[String]) -> bool
+    ensures { result ≡ are_the_check (map string_bytes words.now) }
+{
+    match words {
+        [word] => is_check(word.as_str()),
         _ => false,
     }
 }
@@ -66,6 +84,9 @@ pub(crate) fn command_of(words: &[String]) -> Option<Command>
 {
     if are_run(words) {
         return Some(Command::Run);
+    }
+    if are_check(words) {
+        return Some(Command::Check);
     }
     match gen_number(words) {
         Some(number) => Some(Command::Gen(number)),

@@ -3,6 +3,7 @@
 
 mod acting;
 mod answering;
+mod checking;
 mod commands;
 mod in_memory;
 mod numbers;
@@ -18,9 +19,11 @@ mod summing;
 mod writing;
 
 pub use answering::top;
+pub use checking::TRACE_LIMIT;
+pub use hp_judge::Why;
 pub use in_memory::{SureSink, SureSource};
 pub use outside::{Failed, Sink, Source, WriteStop};
 pub use reading::LIMIT;
 pub use scripted::{MemSink, MemSource};
-pub use statuses::{Status, Why};
+pub use statuses::Status;
 pub use streams::{StdSink, StdSource};

@@ -1,7 +1,7 @@
 //! Reads the whole input, up to a limit.
 
 ghost use Rattle.std.specs.Prelude.{◌≡◌, ◌≤◌, ◌<◌, ◌+◌, MatchResult};
-ghost use Rattle.hp_top.specs.Input.{HasRead, StaysReading, StopsReading};
+ghost use Rattle.hp_top.specs.Input.{HasRead, StaysReading, StopsReading, limit};
 
 use crate::outside::Source;
 use std::alloc::Global;
@@ -10,7 +10,7 @@ use std::alloc::Global;
 pub const LIMIT: usize = 1_048_576;
 
 /// How many bytes are asked for at once.
-const PIECE: usize = 16_384;
+pub(crate) const PIECE: usize = 16_384;
 
 /// Why the input wasn't read to its end.
 #[derive(Clone, Copy)]
@@ -23,8 +23,8 @@ pub(crate) enum ReadStop {
 /// Reads to the end, or up to one byte past the limit. A read that fails takes nothing.
 pub(crate) fn read_all<S: Source>(alloc: Global, src: &mut S) -> Result<Vec<u8>, ReadStop>
     ensures later { S.faults src.old ≤ S.faults src.new }
-    ensures ends { MatchResult result (λ all. HasRead (S.left src.old) (S.left src.new) all.items)
-        (λ stop. StopsReading (S.left src.old) (S.left src.new) (S.faults src.old) (S.faults src.new) stop) }
+    ensures ends { MatchResult result (λ all. HasRead limit (S.left src.old) (S.left src.new) all.items)
+        (λ stop. StopsReading limit (S.left src.old) (S.left src.new) (S.faults src.old) (S.faults src.new) stop) }
     ensures calm { MatchResult result (λ all. S.faults src.new ≡ S.faults src.old)
         (λ stop. StaysReading (S.faults src.old) (S.faults src.new) stop) }
 {

@@ -3,19 +3,9 @@
 ghost use Rattle.std.specs.Prelude.{◌≡◌};
 ghost use Rattle.hp_top.specs.Codes.{code_of};
 
+use hp_judge::Why;
 use hp_model::{BootFact, Rule};
 use std::fmt;
-
-/// What is wrong with a trace.
-#[derive(Clone, Copy, Debug, PartialEq)]
-pub enum Why {
-    /// The line isn't in the grammar.
-    Line,
-    /// The entry is no step after those before it.
-    Step,
-    /// The end line is missing, has another number, or has text after it.
-    End,
-}
 
 /// How the top call ended. docs/FORMATS.md has the texts.
 #[derive(Clone, Copy, Debug, PartialEq)]
@@ -62,13 +52,12 @@ impl Status {
     }
 }
 
-impl fmt::Display for Why {
-    fn fmt<W: fmt::Write>(&self, f: &mut fmt::Formatter<W>) -> fmt::Result {
-        match self {
-            Why::Line => write!(f, "line"),
-            Why::Step => write!(f, "step"),
-            Why::End => write!(f, "end"),
-        }
+/// What is wrong with a line of a trace, in a word.
+fn word_of(why: Why) -> &'static str {
+    match why {
+        Why::Line => "line",
+        Why::Step => "step",
+        Why::End => "end",
     }
 }
 
@@ -98,7 +87,10 @@ impl fmt::Display for Status {
                 write!(f, "boot refused: register 50 read {read:02x}")
             }
             Status::WriteFault => write!(f, "write failed"),
-            Status::TraceRefused(line, why) => { write!(f, "trace refused at line {line}: {why}") }
+            Status::TraceRefused(line, why) => {
+                let word = word_of(*why);
+                write!(f, "trace refused at line {line}: {word}")
+            }
             Status::NoMemory => write!(f, "no memory"),
         }
     }

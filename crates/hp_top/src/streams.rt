@@ -2,7 +2,7 @@
 
 ghost use Rattle.std.specs.Prelude.{◌≡◌, ◌<◌, true, IfOk, OnErr, length};
 ghost use Rattle.std.specs.Io.{ReadsAtMost, WritesAtMost};
-ghost use Rattle.std.specs.Io.KnownBytes.{ReadConsumes, WriteAppends};
+ghost use Rattle.std.specs.Io.KnownBytes.{Keeps, ReadConsumes, WriteAppends};
 ghost use Rattle.hp_top.specs.Faults.{HasCause, StopsFor, count_up, is_failed};
 
 use crate::outside::{Failed, Sink, Source, WriteStop};
@@ -47,7 +47,7 @@ impl<R: Read> Source for StdSource<R> {
 }
 
 /// A sink over a writer, such as standard output. It tells what the writer tells, and counts the writer's errors and the
-/// writes that took nothing. The writer is to keep nothing back: behind a buffer a full device would show too late.
+/// writes that took nothing. What a writer with a buffer holds back counts as written; `finish` hands it on.
 #[derive(Drop)]
 pub struct StdSink<W: Write> {
     to: W,
@@ -60,6 +60,22 @@ impl<W: Write> StdSink<W> {
         ensures faults { result.faults ≡ 0 }
     {
         StdSink { to, faults: 0 }
+    }
+
+    /// Hands on what the writer holds back. `Failed` where the writer can't, which counts as one fault: then some of what was written
+    /// hasn't left the writer.
+    pub fn finish(&mut self) -> Result<(), Failed>
+        ensures bytes { Keeps (W.contents self.old.to) (W.contents self.new.to) }
+        ensures cause { HasCause self.old.faults self.new.faults result }
+        ensures counted { OnErr result (self.new.faults ≡ count_up self.old.faults) }
+    {
+        match self.to.flush() {
+            Ok(()) => Ok(()),
+            Err(_) => {
+                self.faults = self.faults.saturating_add(1);
+                Err(Failed)
+            }
+        }
     }
 }
 

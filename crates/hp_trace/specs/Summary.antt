@@ -53,6 +53,10 @@ summary_text n s =
     ∷ word (codes " refused ") ∷ number s.refused
     ∷ []))
 
+-- the line of a trace of so many entries that is accepted
+unfoldable pub ok_text : ℕ → List ℕ
+ok_text n = line_of (spell (word (codes "ok ") ∷ number n ∷ []))
+
 -- one more, or not
 abbrev pub and_one : Bool → ℕ → ℕ
 and_one true n = n + 1

@@ -10,4 +10,4 @@ mod steps;
 mod summaries;
 
 pub use lines::{end, head, line};
-pub use summaries::{Summary, gen_line};
+pub use summaries::{Summary, gen_line, ok_line};

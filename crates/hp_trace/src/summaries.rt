@@ -2,7 +2,7 @@
 
 ghost use Rattle.std.specs.Prelude.{◌≡◌, ◌<◌, ◌≤◌, ◌+◌, ◌-◌, ◌^◌, ◌++◌, ◌∷◌, [], List, OnErr, OnOk};
 ghost use Rattle.hp_model.specs.declared.entries.Entry.{Entry as AnEntry};
-ghost use Rattle.hp_trace.specs.Summary.{IsSummary, summary as summary_of, summary_text, with_entry};
+ghost use Rattle.hp_trace.specs.Summary.{IsSummary, ok_text, summary as summary_of, summary_text, with_entry};
 
 use crate::lines::append_line;
 use crate::pieces::Piece::{Number, Word};
@@ -79,4 +79,13 @@ pub fn gen_line(number: u32, s: &Summary, out: &mut Vec<u8>) -> Result<(), NoMem
         ],
         out,
     )
+}
+
+/// Appends the line of a trace of so many entries that is accepted.
+#[tactic(auto, unfolding(crate::specs::Summary::ok_text))]
+pub fn ok_line(entries: u64, out: &mut Vec<u8>) -> Result<(), NoMemory>
+    ensures appended { OnOk result (out.new.items ≡ out.old.items ++ ok_text entries) }
+    ensures no_memory { OnErr result (out.new.items ≡ out.old.items) }
+{
+    append_line(&[Word(b"ok "), Number(entries)], out)
 }

@@ -1,7 +1,9 @@
-//! Tests of worlds that are given turns one by one.
+//! Tests of worlds: turns, events that are applied, and checks of entries.
 #![tactic(auto)]
 
 #[cfg(test)]
-mod turns;
+mod applied;
+#[cfg(test)]
+mod checks;
 #[cfg(test)]
 mod worlds;

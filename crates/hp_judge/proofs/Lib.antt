@@ -1,0 +1,4 @@
+mod Lines
+mod Bytes
+mod Telling
+mod Verdicts

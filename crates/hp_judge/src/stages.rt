@@ -1,0 +1,209 @@
+//! How far a text has led.
+
+ghost use Rattle.std.specs.Prelude.{◌≡◌, ◌+◌, false, Err, IfOk, OnErr};
+ghost use Rattle.hp_reading.specs.Header.{head_of};
+ghost use Rattle.hp_judge.specs.Bytes.{after_byte, overlong};
+ghost use Rattle.hp_judge.specs.Judging.{cause_of, fault_told};
+ghost use Rattle.hp_judge.specs.Stages.{IsCounted, IsHeld, Tells, end_by, judged, standing, told_by};
+ghost use Rattle.hp_judge.specs.Standing.{after_line, by_end, by_head, is_refused as is_over, refused as refused_at, refusing, verdict, without_end};
+
+use crate::refusals::{Refusal, Why};
+use hp_check::Walk;
+use hp_model::NoMemory;
+use hp_reading::{end_number, headers_are_read_as_spelled, read_entry, read_head};
+use std::alloc::Global;
+
+/// No line of the grammar has so many bytes.
+const LONGEST: usize = 12288;
+
+/// How far the lines have led that have ended.
+#[derive(Drop)]
+pub enum Stage {
+    /// None has ended.
+    Heading,
+    /// The header and so many entries have led to the state of this walk.
+    Going(Walk, u64),
+    /// The end line has ended too, with their number.
+    Ended(u64),
+    /// A line is at fault.
+    Refused(Refusal),
+}
+
+/// What a line behind the header comes to.
+#[derive(Clone, Copy)]
+pub enum Told {
+    /// An entry, which is a step.
+    Step,
+    /// The end line, with the right number.
+    Last,
+    /// It is at fault.
+    Fault(Why),
+}
+
+/// A fault of the line behind so many entries.
+fn behind(entries: u64, why: Why) -> Refusal
+    requires { IsCounted entries }
+    ensures { refused_at (fault_told result) ≡ refusing (entries + 2) (cause_of why) }
+{
+    Refusal {
+        line: entries + 2,
+        why,
+    }
+}
+
+/// What line 1 leads to.
+fn headed(alloc: Global, line: &[u8]) -> Result<Stage, NoMemory>
+    ensures led { IfOk result (λ s. standing s ≡ by_head (head_of line.now)) }
+    ensures held { IfOk result IsHeld }
+{
+    headers_are_read_as_spelled();
+    match read_head(alloc, line)? {
+        Some(p) => {
+            let walk = Walk::new(alloc, &p)?;
+            Ok(Stage::Going(walk, 0))
+        }
+        None => Ok(Stage::Refused(Refusal {
+            line: 1,
+            why: Why::Line,
+        })),
+    }
+}
+
+/// Why a line that is no entry's isn't the end line of so many entries; None where it is.
+fn end_fault(entries: u64, number: Option<u64>) -> Option<Why>
+    ensures { end_by entries result ≡ by_end entries number }
+{
+    match number {
+        Some(number) => if number == entries {
+            None
+        } else {
+            Some(Why::End)
+        },
+        None => Some(Why::Line),
+    }
+}
+
+/// What a line behind so many entries comes to, and leads the walk on by an entry.
+fn tell(walk: &mut Walk, entries: u64, line: &[u8]) -> Result<Told, NoMemory>
+    requires going { walk.old.stopped ≡ false }
+    ensures told { IfOk result (Tells walk.old walk.new entries line.now) }
+    ensures no_memory { OnErr result (walk.new ≡ walk.old) }
+{
+    let Some(entry) = read_entry(line) else {
+        return match end_fault(entries, end_number(line)) {
+            Some(why) => Ok(Told::Fault(why)),
+            None => Ok(Told::Last),
+        };
+    };
+    // The number of the next line has 64 bits.
+    if entries >= u64::MAX - 2 {
+        return Err(NoMemory);
+    }
+    match walk.step(&entry) {
+        Ok(true) => Ok(Told::Step),
+        Ok(false) => Ok(Told::Fault(Why::Step)),
+        Err(NoMemory) => Err(NoMemory),
+    }
+}
+
+/// A line has ended.
+#[tactic(auto, unfolding(crate::specs::Standing::after_line))]
+fn end_line(alloc: Global, stage: &mut Stage, line: &[u8]) -> Result<(), NoMemory>
+    requires { IsHeld stage.old }
+    ensures held { IsHeld stage.new }
+    ensures led { IfOk result (λ _. standing stage.new ≡ after_line (standing stage.old) line.now) }
+    ensures no_memory { OnErr result (stage.new ≡ stage.old) }
+{
+    let next = match stage {
+        Stage::Heading => headed(alloc, line)?,
+        Stage::Going(walk, entries) => match tell(walk, *entries, line)? {
+            Told::Step => {
+                *entries += 1;
+                return Ok(());
+            }
+            Told::Last => Stage::Ended(*entries),
+            Told::Fault(why) => Stage::Refused(behind(*entries, why)),
+        },
+        Stage::Ended(entries) => Stage::Refused(behind(*entries, Why::End)),
+        Stage::Refused(_) => return Ok(()),
+    };
+    *stage = next;
+    Ok(())
+}
+
+/// The line has too many bytes, whatever follows.
+fn over(stage: &Stage) -> Stage
+    requires { IsHeld stage.now }
+    ensures held { IsHeld result }
+    ensures led { standing result ≡ overlong (standing stage.now) }
+{
+    Stage::Refused(match stage {
+        Stage::Heading => Refusal {
+            line: 1,
+            why: Why::Line,
+        },
+        Stage::Going(_, entries) => behind(*entries, Why::Line),
+        Stage::Ended(entries) => behind(*entries, Why::End),
+        Stage::Refused(refusal) => *refusal,
+    })
+}
+
+fn is_refused(stage: &Stage) -> bool
+    ensures { result ≡ is_over (standing stage.now) }
+{
+    matches!(stage, Stage::Refused(_))
+}
+
+/// Takes the next byte of the text, behind these bytes of a line that hasn't ended. After `NoMemory` nothing has changed.
+pub(crate) fn take_byte(
+    alloc: Global,
+    stage: &mut Stage,
+    rest: &mut Vec<u8>,
+    byte: u8,
+) -> Result<(), NoMemory>
+    requires { IsHeld stage.old }
+    ensures held { IsHeld stage.new }
+    ensures led { IfOk result (λ _. judged stage.new rest.new.items ≡ after_byte (judged stage.old rest.old.items) byte) }
+    ensures no_memory { OnErr result ((stage.new ≡ stage.old) × (rest.new.items ≡ rest.old.items)) }
+{
+    if is_refused(stage) {
+        return Ok(());
+    }
+    if byte == b'\n' {
+        end_line(alloc, stage, rest.as_slice())?;
+        rest.clear();
+    } else if rest.as_slice().len() < LONGEST {
+        rest.push(byte)?;
+    } else {
+        *stage = over(stage);
+        rest.clear();
+    }
+    Ok(())
+}
+
+/// A text without an end line.
+fn lacking(line: u64, rest: &[u8]) -> Refusal
+    ensures { Err (fault_told result) ≡ without_end line rest.now }
+{
+    Refusal {
+        line,
+        why: if rest.is_empty() { Why::End } else { Why::Line },
+    }
+}
+
+/// The judgement where the text ends.
+pub(crate) fn close(stage: &Stage, rest: &[u8]) -> Result<u64, Refusal>
+    requires { IsHeld stage.now }
+    ensures { told_by result ≡ verdict (standing stage.now) rest.now }
+{
+    match stage {
+        Stage::Heading => Err(lacking(1, rest)),
+        Stage::Going(_, entries) => Err(lacking(*entries + 2, rest)),
+        Stage::Ended(entries) => if rest.is_empty() {
+            Ok(*entries)
+        } else {
+            Err(behind(*entries, Why::End))
+        },
+        Stage::Refused(refusal) => Err(*refusal),
+    }
+}
