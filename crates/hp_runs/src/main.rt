@@ -4,6 +4,7 @@
 
 mod cases;
 mod facts;
+mod inputs;
 mod parts;
 mod runs;
 mod texts;
@@ -23,6 +24,7 @@ fn main(rt: HostRuntime) -> io::Result<ExitCode> {
     ] {
         failed = failed.saturating_add(parts::play_all(&rt, file)?);
     }
+    failed = failed.saturating_add(cases::play_all(&rt, "checks")?);
     Ok(if failed == 0 {
         ExitCode::SUCCESS
     } else {

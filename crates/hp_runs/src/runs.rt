@@ -1,14 +1,41 @@
 //! One run of the top call, with its source and its sink in memory.
 
-use hp_top::{MemSink, MemSource, Status, top};
+ghost use Rattle.std.specs.Prelude.{None};
+
+use hp_top::{Failed, MemSink, MemSource, Source, Status, top};
 use std::alloc::{AllocError, Global};
 
-/// Which call of the source or of the sink fails, counted from 1.
+/// Which call of the source or of the sink fails, counted from 1, or that the source gives one byte a read.
 #[derive(Clone, Copy)]
 pub enum Fails {
     Nothing,
     Read(u64),
     Write(u64),
+    Drips,
+}
+
+/// A source that gives one byte a read, and doesn't tell which.
+#[derive(Drop)]
+struct Dripping {
+    bytes: Vec<u8>,
+    at: usize,
+}
+
+impl Source for Dripping {
+    ghost left = { λ _. None };
+
+    ghost faults = { λ _. 0 };
+
+    fn read(&mut self, buf: &mut [u8]) -> Result<usize, Failed> {
+        match (self.bytes.as_slice().get(self.at), buf.first_mut()) {
+            (Some(byte), Some(place)) => {
+                *place = *byte;
+                self.at = self.at.saturating_add(1);
+                Ok(1)
+            }
+            _ => Ok(0),
+        }
+    }
 }
 
 /// How a run ended, and what it wrote.
@@ -35,10 +62,17 @@ pub fn run(alloc: Global, words: &str, bytes: Vec<u8>, fails: Fails) -> Result<R
         Fails::Nothing => {}
         Fails::Read(call) => reads.push(call)?,
         Fails::Write(call) => writes.push(call)?,
+        Fails::Drips => {}
     }
-    let mut src = MemSource::new(bytes, reads);
     let mut out = MemSink::new(Vec::new(alloc), writes);
-    let status = top(alloc, words.as_slice(), &mut src, &mut out, Vec::new(alloc));
+    let words = words.as_slice();
+    let status = if matches!(fails, Fails::Drips) {
+        let mut src = Dripping { bytes, at: 0 };
+        top(alloc, words, &mut src, &mut out, Vec::new(alloc))
+    } else {
+        let mut src = MemSource::new(bytes, reads);
+        top(alloc, words, &mut src, &mut out, Vec::new(alloc))
+    };
     let text = String::from_utf8_lossy(alloc, out.held())?;
     Ok(Ran { status, text })
 }
