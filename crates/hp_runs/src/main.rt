@@ -25,6 +25,7 @@ fn main(rt: HostRuntime) -> io::Result<ExitCode> {
         failed = failed.saturating_add(parts::play_all(&rt, file)?);
     }
     failed = failed.saturating_add(cases::play_all(&rt, "checks")?);
+    failed = failed.saturating_add(cases::play_all(&rt, "numbers")?);
     Ok(if failed == 0 {
         ExitCode::SUCCESS
     } else {
