@@ -17,7 +17,7 @@ use std::marker::Model;
 /// Judges a text that it is given piece by piece: whether it is the trace of a run, and else which line is at fault first, and why.
 ///
 /// It keeps the machine that the entries so far have led, their number, and the bytes of the line that hasn't ended, of which there are at most
-/// 12 KiB: a longer line is at fault before it ends. So its memory doesn't grow with the text.
+/// 12 KiB: a longer line is at fault before it ends. Beside that its memory grows by pages of the machine's RAM that entries store to alone.
 #[derive(Drop)]
 pub struct Judge {
     alloc: Global,
