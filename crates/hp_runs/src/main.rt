@@ -5,6 +5,7 @@
 mod cases;
 mod facts;
 mod inputs;
+mod masks;
 mod parts;
 mod runs;
 mod texts;
@@ -25,6 +26,7 @@ fn main(rt: HostRuntime) -> io::Result<ExitCode> {
         failed = failed.saturating_add(parts::play_all(&rt, file)?);
     }
     failed = failed.saturating_add(cases::play_all(&rt, "checks")?);
+    failed = failed.saturating_add(masks::play_all(&rt, "changed_bytes", "an_add.out")?);
     failed = failed.saturating_add(cases::play_all(&rt, "numbers")?);
     Ok(if failed == 0 {
         ExitCode::SUCCESS
