@@ -1,10 +1,10 @@
 -- Steps of the writer: what a failed call leaves, one more digit, one more number.
-use Rattle.std.proofs.Common.{◌≡◌, ℕ, zero, suc, ◌-◌, ◌/◌, ◌%◌, ◌<◌, ◌≤◌, List, [], ◌∷◌, ◌++◌, length, get_or, take, drop, ap, sym, ◌∙◌, append_assoc, append-nil, false, codes}
+use Rattle.std.proofs.Common.{◌≡◌, ℕ, zero, suc, ◌-◌, ◌/◌, ◌%◌, ◌<◌, ◌≤◌, List, [], ◌∷◌, ◌++◌, length, get_or, take, drop, ap, sym, ◌∙◌, append_assoc, append-nil, arith, false, codes}
 use native.Mathlib.Numerals.{unary_clauses}
 use Rattle.std.proofs.Math.Seq.{take-append_seam, take-length}
 use Rattle.std.specs.Fmt.{decimal, digit_glyph}
 use Rattle.hp_model.specs.Text.{hex, numbers_text}
-use Rattle.hp_trace.specs.Pieces.{Begins}
+use Rattle.hp_trace.specs.Pieces.{Begins, four_of}
 
 pub begins_itself : (a : List ℕ) → Begins a a
 begins_itself a = record { rest = []; text = append-nil a }
@@ -42,7 +42,27 @@ unfolding hex
 hex_more out zero value h = elim h [ ]
 hex_more out (suc n) value h = simp unary_clauses (sym (append_assoc out (hex n (value / 16)) (digit_glyph false (value % 16) ∷ [])))
 
-pub ruleset hex_facts = (hex_nothing, hex_more, front_facts)
+-- four digits more
+pub hex_four : (out : List ℕ) (digits value : ℕ) → 4 ≤ digits → out ++ hex digits value ≡ (out ++ hex (digits - 4) (value / 0x10000)) ++ four_of value
+unfolding hex
+hex_four out zero value h = absurd (omega (arith, h))
+hex_four out (suc zero) value h = absurd (omega (arith, h))
+hex_four out (suc (suc zero)) value h = absurd (omega (arith, h))
+hex_four out (suc (suc (suc zero))) value h = absurd (omega (arith, h))
+hex_four out (suc (suc (suc (suc n)))) value h =
+    let less : suc (suc (suc (suc n))) - 4 ≡ n = omega arith in
+    let front : value / 16 / 16 / 16 / 16 ≡ value / 0x10000 = omega arith in
+    let third : value / 16 / 16 / 16 % 16 ≡ value / 0x1000 % 16 = omega arith in
+    let second : value / 16 / 16 % 16 ≡ value / 0x100 % 16 = omega arith in
+    rw (less, front, third, second)
+    (ap (λ (text : List ℕ). out ++ text)
+    (ap (λ (text : List ℕ). text ++ digit_glyph false (value % 16) ∷ []) (ap (λ (text : List ℕ). text ++ digit_glyph false (value / 16 % 16) ∷ [])
+    (append_assoc (hex n (value / 0x10000)) (digit_glyph false (value / 0x1000 % 16) ∷ []) (digit_glyph false (value / 0x100 % 16) ∷ []))
+    ∙ append_assoc (hex n (value / 0x10000)) _ (digit_glyph false (value / 16 % 16) ∷ []))
+    ∙ append_assoc (hex n (value / 0x10000)) _ (digit_glyph false (value % 16) ∷ []))
+    ∙ sym (append_assoc out (hex n (value / 0x10000)) (four_of value)))
+
+pub ruleset hex_facts = (hex_nothing, hex_more, hex_four, front_facts)
 
 -- the numbers after the first, each behind a comma
 abbrev pub after_commas : List ℕ → List ℕ

@@ -1,5 +1,6 @@
 -- The pieces that the writer puts together, seen as pieces of the model's lines, and what a failed call leaves.
-use Rattle.std.specs.Prelude.{◌≡◌, ℕ, List, ◌++◌, map}
+use Rattle.std.specs.Prelude.{◌≡◌, ℕ, ◌/◌, ◌%◌, false, List, [], ◌∷◌, ◌++◌, map}
+use Rattle.std.specs.Fmt.{digit_glyph}
 use Rattle.hp_model.specs.Text.{word, number, hexadecimal, numbers_text, spell_piece, spell}
 use Rattle.hp_model.specs.Text as model
 use Rattle.hp_trace.specs.declared.pieces.Piece.{Piece}
@@ -22,3 +23,8 @@ pieces_text ps = spell (map in_model ps)
 pub record Begins (front whole : List ℕ) : Type 0 where
   pub rest : List ℕ
   pub text : front ++ rest ≡ whole
+
+-- the lowest four digits of a value in hexadecimal
+abbrev pub four_of : ℕ → List ℕ
+four_of value =
+    digit_glyph false (value / 0x1000 % 16) ∷ digit_glyph false (value / 0x100 % 16) ∷ digit_glyph false (value / 16 % 16) ∷ digit_glyph false (value % 16) ∷ []

@@ -3,7 +3,7 @@
 ghost use Rattle.std.specs.Prelude.{◌≡◌, ◌<◌, ◌++◌, OnErr, OnOk, decimal, false, codes};
 ghost use Rattle.std.specs.Fmt.{digit_glyph};
 ghost use Rattle.hp_model.specs.Text.{hex, numbers_text};
-ghost use Rattle.hp_trace.specs.Pieces.{Begins};
+ghost use Rattle.hp_trace.specs.Pieces.{Begins, four_of};
 
 use hp_model::NoMemory;
 use itoa::Buffer;
@@ -20,13 +20,31 @@ fn digit_of(value: u8) -> u8
     }
 }
 
+/// Appends the lowest four digits of a value in hexadecimal.
+#[tactic(auto, using(crate::proofs::Texts::front_facts))]
+fn put_four(value: u64, out: &mut Vec<u8>) -> Result<(), NoMemory>
+    ensures text { OnOk result (out.new.items ≡ out.old.items ++ four_of value) }
+    ensures front { OnErr result (Begins out.old.items out.new.items) }
+{
+    let four = [
+        digit_of((value / 0x1000 % 16) as u8),
+        digit_of((value / 0x100 % 16) as u8),
+        digit_of((value / 16 % 16) as u8),
+        digit_of((value % 16) as u8),
+    ];
+    Ok(out.extend_from_slice(&four)?)
+}
+
 /// Appends the low digits of a value in hexadecimal, with zeros in front.
 #[tactic(auto, using(crate::proofs::Texts::hex_facts))]
 pub fn put_hex(digits: u32, value: u64, out: &mut Vec<u8>) -> Result<(), NoMemory>
     ensures text { OnOk result (out.new.items ≡ out.old.items ++ hex digits value) }
     ensures front { OnErr result (Begins out.old.items out.new.items) }
 {
-    if digits > 0 {
+    if digits >= 4 {
+        put_hex(digits - 4, value / 0x10000, out)?;
+        put_four(value, out)?;
+    } else if digits > 0 {
         put_hex(digits - 1, value / 16, out)?;
         out.push(digit_of((value % 16) as u8))?;
     }
