@@ -5,12 +5,15 @@ use Rattle.hp_model.specs.declared.files.File.{File}
 use Rattle.hp_model.specs.declared.files.HostEvent.{HostEvent}
 use Rattle.hp_model.specs.declared.platforms.Platform.{Platform}
 use Rattle.hp_model.specs.Platform.{IsFit, boot_fits, count_of, counts_fit, features_fit, ids_fit, memory_fits, polls_fit, tiles_fit, tseg_fits, turns_fit}
-use Rattle.hp_model.specs.Schedule.{Scene, both_make, act_all, actors_of, cpus_of, hosts_of, is_stalled, turn_actor, turns_from}
+use Rattle.hp_model.specs.Following.{Carried}
+use Rattle.hp_model.specs.Text.{lines_text}
+use Rattle.hp_platform.specs.Live.{Live}
+use Rattle.hp_model.specs.Schedule.{Scene, Made, both_make, act_all, actors_of, cpus_of, hosts_of, is_stalled, turn_actor, turns_from}
 use Rattle.hp_top.specs.Actors.{Actors, IsAhead, actors_from, to_come}
 use Rattle.hp_top.specs.Stalls.{IsTracking, Stalled}
-use Rattle.hp_top.specs.Turns.{Rises, at_turn, due, past, turn_of}
+use Rattle.hp_top.specs.Turns.{Cuts, Rises, Sends, at_turn, due, lines_of, past, turn_of}
 use Rattle.hp_top.proofs.Rising.{due-is, past-at, past-rises}
-use Rattle.hp_top.proofs.Turning.{act_all-append}
+use Rattle.hp_top.proofs.Turning.{act_all-append, cuts_same, sends_same}
 
 -- of the host events of a turn the first is taken
 pub rises-first : (turn : ℕ) (h : HostEvent) (hs : List HostEvent) → h.turn ≡ turn → Rises turn_of turn (h ∷ hs) → Rises turn_of turn hs
@@ -182,3 +185,16 @@ module _ (s mid new : Actors) (ahead : IsAhead s) (file : mid.file ≡ s.file) (
   walked before none =
       turn_over s new (file_new ∙ file) ahead one_on rises_on (λ t after. ap (at_turn t) hosts_new ∙ later t after) before none
       ∙ ap (λ (g : File). cpus_of g s.turn ++ to_come new) (sym file) ∙ ap (λ (n : ℕ). cpus_of mid.file n ++ to_come new) (sym turn)
+
+-- what they send is what the turns send
+module _ (f : File) (actors : List Actor) (all : actors ≡ actors_from f f.platform.turns 0) where
+  as_turns : (w : Scene) → act_all f.platform w actors ≡ turns_from f f.platform.turns 0 w
+  as_turns w = ap (act_all f.platform w) all ∙ sym (turns_are f f.platform.turns 0 w)
+
+  pub all_sends : (live : Live) (c : Carried) (made : ℕ) (a b : Option (List ℕ)) → Sends f.platform live c (λ w. act_all f.platform w actors) made a b →
+      Sends f.platform live c (λ w. turns_from f f.platform.turns 0 w) made a b
+  all_sends live c made a b sends = sends_same f.platform live c (λ w. act_all f.platform w actors) (λ w. turns_from f f.platform.turns 0 w) made a b as_turns sends
+
+  pub all_cuts : (c : Carried) (a b : Option (List ℕ)) → Cuts c (lines_of (λ w. act_all f.platform w actors)) a b → Cuts c (lines_of (λ w. turns_from f f.platform.turns 0 w)) a b
+  all_cuts c a b cut =
+      cuts_same c (lines_of (λ w. act_all f.platform w actors)) (lines_of (λ w. turns_from f f.platform.turns 0 w)) a b (λ w. ap (λ (m : Made). lines_text m.entries) (as_turns w)) cut

@@ -2,15 +2,65 @@
 
 ghost use Rattle.std.specs.Prelude.{◌≡◌, ◌≤◌, ◌+◌, ◌<◌, ℕ, ◌∷◌, ◌++◌, [], None, IfSome, length};
 ghost use Rattle.hp_model.specs.Platform.{IsFit};
-ghost use Rattle.hp_model.specs.Schedule.{cpus_of, hosts_of as of_turn};
+ghost use Rattle.hp_model.specs.Schedule.{cpus_of, hosts_of as of_turn, turn_actor as actor_in};
 ghost use Rattle.hp_top.specs.Actors.{IsAhead, actors_from, to_come};
 ghost use Rattle.hp_top.specs.Stalls.{IsTracking};
-ghost use Rattle.hp_top.specs.Turns.{Rises, at_turn, due, turn_of};
+ghost use Rattle.hp_top.specs.Turns.{Rises, at_turn, due, past, turn_of};
 
-use crate::running::{actor_of, next_host};
 use crate::stalling::Stalled;
-use hp_model::{Actor, File, HostEvent};
+use hp_model::{Actor, Delivery, File, HostEvent};
 use std::marker::Model;
+
+/// The first of these events if it is due at this turn, and those after it.
+#[tactic(auto, using(crate::proofs::Turning::host_events))]
+fn next_host(hosts: &[HostEvent], turn: u32) -> Option<(Actor, &[HostEvent])>
+    ensures due { IfSome result (λ next. due turn hosts.now ≡ next.0 ∷ due turn next.1.now) }
+    ensures past { IfSome result (λ next. past turn hosts.now ≡ past turn next.1.now) }
+    ensures fewer { IfSome result (λ next. length hosts.now ≡ 1 + length next.1.now) }
+    ensures rises { IfSome result (λ next. Rises turn_of turn hosts.now → Rises turn_of turn next.1.now) }
+    ensures none { result ≡ None → due turn hosts.now ≡ [] }
+    ensures kept { result ≡ None → past turn hosts.now ≡ hosts.now }
+{
+    match hosts {
+        [first, more @ ..] => {
+            if first.turn == turn {
+                Some((first.actor, more))
+            } else {
+                None
+            }
+        }
+        [] => None,
+    }
+}
+
+/// Whose turn a processor's own turn of this number is: its own, or where SMIs may come late that of its SMI.
+fn turn_actor(delivery: Delivery, own: u32, cpu: u32) -> Actor
+    ensures { result ≡ actor_in delivery own cpu }
+{
+    match delivery {
+        Delivery::Late { lag } if u64::from(own) % (u64::from(lag) + 1) == u64::from(lag) => {
+            Actor::Smi(cpu)
+        }
+        Delivery::Prompt | Delivery::Late { lag: _ } => Actor::Cpu(cpu),
+    }
+}
+
+/// The processor's actor whose turn it is; none where a stall covers it.
+fn actor_of(file: &File, stalled: &mut Stalled, turn: u32) -> Option<Actor>
+    requires fit { IsFit file.now.platform }
+    requires tracking { IsTracking file.now turn stalled.old }
+    ensures some { IfSome result (λ a. cpus_of file.now turn ≡ a ∷ []) }
+    ensures none { result ≡ None → cpus_of file.now turn ≡ [] }
+    ensures tracking { IsTracking file.now (turn + 1) stalled.new }
+{
+    let count = file.platform.apic.0.len() as u32;
+    let cpu = turn % count;
+    if stalled.holds(cpu, turn) {
+        None
+    } else {
+        Some(turn_actor(file.platform.delivery, turn / count, cpu))
+    }
+}
 
 /// The actors of a file's turns: in each turn the host's events, and then the processor whose turn it is, or its SMI, unless a stall
 /// covers it.

@@ -1,32 +1,34 @@
 //! The boot and the run of a file: each line is handed to the sink when its entry is made.
 
-ghost use Rattle.std.specs.Prelude.{ℕ, ◌≡◌, ◌≤◌, ◌+◌, ◌^◌, List, ◌∷◌, [], map, IfOk, IfSome, OnOk, OnErr, Option, None, length};
+ghost use Rattle.std.specs.Prelude.{ℕ, ◌≡◌, ◌≤◌, ◌<◌, ◌+◌, ◌-◌, ◌^◌, List, ◌∷◌, map, IfOk, OnOk, OnErr, Option, length};
 ghost use Rattle.std.specs.Vec.Iter.{into_iter_items};
 ghost use Rattle.std.specs.Io.KnownBytes.{Appends};
 ghost use Rattle.hp_model.specs.declared.platforms.Platform.{Platform};
 ghost use Rattle.hp_model.specs.declared.files.VoiceKind.{VoiceKind as AKind};
 ghost use Rattle.hp_model.specs.Following.{Carried};
 ghost use Rattle.hp_model.specs.Platform.{IsFit, count_of};
-ghost use Rattle.hp_model.specs.Schedule.{act, act_all, actors_of, boot_turns as turns_of_boot, cpus_of, hosts_of as of_turn, is_stalled, turn_actor as actor_in, turns_from};
+ghost use Rattle.hp_model.specs.Schedule.{act, act_all, boot_turns as turns_of_boot, hosts_of as of_turn, is_stalled, turns_from};
 ghost use Rattle.hp_model.specs.Voices.{Voice as Told, told_by, told_of};
 ghost use Rattle.hp_agent.specs.Kinds.{own_voice};
 ghost use Rattle.hp_config.specs.Sound.{IsSound};
 ghost use Rattle.hp_model.specs.Text.{head_text, line_text, end_text};
+ghost use Rattle.hp_top.specs.Actors.{IsAhead, actors_from, to_come};
 ghost use Rattle.hp_top.specs.Faults.{StopsFor};
 ghost use Rattle.hp_top.specs.Lives.{StandsFor, Takes};
 ghost use Rattle.hp_top.specs.Sent.{HoldsFront};
 ghost use Rattle.hp_top.specs.Stalls.{IsTracking};
-ghost use Rattle.hp_top.specs.Turns.{Cuts, Rises, Sends, Writes, at_turn, boot_left, carried_start, due, lines_of, past, start_of, turn_of, turns_text, with_voices};
+ghost use Rattle.hp_top.specs.Turns.{Cuts, Rises, Sends, Writes, at_turn, boot_left, carried_start, lines_of, start_of, turn_of, turns_text, with_voices};
 ghost use Rattle.hp_top.specs.Answers.{IsCut, IsWritten};
 ghost use Rattle.hp_top.specs.Handing.{first_for, rest_for};
 
+use crate::acting::Actors;
 use crate::outside::{Sink, WriteStop};
 use crate::sorting::by_turn;
 use crate::stalling::{Stalled, by_start};
 use crate::writing::write_all;
 use hp_agent::{Agent, Agents, Voice, voice_for};
 use hp_model::{
-    Actor, BootFact, Delivery, Entry, File, HostEvent, NoMemory, Platform, Stall, VoiceKind, Voices,
+    Actor, BootFact, Entry, File, HostEvent, NoMemory, Platform, Stall, VoiceKind, Voices,
 };
 use hp_platform::{Live, Turn, a_turn_is_the_schedules};
 use std::alloc::Global;
@@ -113,150 +115,26 @@ fn make_step<A: Agent, K: Sink>(
     }
 }
 
-/// The first of these events if it is due at this turn, and those after it.
-#[tactic(auto, using(crate::proofs::Turning::host_events))]
-pub(crate) fn next_host(hosts: &[HostEvent], turn: u32) -> Option<(Actor, &[HostEvent])>
-    ensures due { IfSome result (λ next. due turn hosts.now ≡ next.0 ∷ due turn next.1.now) }
-    ensures past { IfSome result (λ next. past turn hosts.now ≡ past turn next.1.now) }
-    ensures fewer { IfSome result (λ next. length hosts.now ≡ 1 + length next.1.now) }
-    ensures rises { IfSome result (λ next. Rises turn_of turn hosts.now → Rises turn_of turn next.1.now) }
-    ensures none { result ≡ None → due turn hosts.now ≡ [] }
-    ensures kept { result ≡ None → past turn hosts.now ≡ hosts.now }
-{
-    match hosts {
-        [first, more @ ..] => {
-            if first.turn == turn {
-                Some((first.actor, more))
-            } else {
-                None
-            }
-        }
-        [] => None,
-    }
-}
-
-/// The host events of a turn, which are at the front of these: how many entries they made, and the events after them.
-#[tactic(auto, using(crate::proofs::Turning::host_events))]
-fn make_hosts<'h, A: Agent, K: Sink>(
-    live: &mut Live<A>,
-    hosts: &'h [HostEvent],
-    turn: u32,
-    text: &mut Vec<u8>,
-    out: &mut K,
-) -> Result<(u64, &'h [HostEvent]), WriteStop>
-    ensures bound { IfOk result (λ done. done.0 + length done.1.now ≤ length hosts.now) }
-    ensures rest { IfOk result (λ done. done.1.now ≡ past turn hosts.now) }
-    ensures made { (p : Platform) (c : Carried) → StandsFor p live.old c
-        → IfOk result (λ done. Sends p live.new c (λ w. act_all p w (due turn hosts.now)) done.0 (K.held out.old) (K.held out.new)) }
-    ensures part { (p : Platform) (c : Carried) → StandsFor p live.old c
-        → OnErr result (Cuts c (lines_of (λ w. act_all p w (due turn hosts.now))) (K.held out.old) (K.held out.new)) }
-    ensures cause { StopsFor (K.faults out.old) (K.faults out.new) result }
-{
-    let mut made = 0u64;
-    let mut rest = hosts;
-    'hosts: while let Some((actor, more)) = next_host(rest, turn) {
-        match make_step(live, actor, text, out) {
-            Ok(count) => made += count,
-            Err(stop) => return Err(stop),
-        }
-        rest = more;
-    }
-    Ok((made, rest))
-}
-
-/// Whose turn a processor's own turn of this number is: its own, or where SMIs may come late that of its SMI.
-fn turn_actor(delivery: Delivery, own: u32, cpu: u32) -> Actor
-    ensures { result ≡ actor_in delivery own cpu }
-{
-    match delivery {
-        Delivery::Late { lag } if u64::from(own) % (u64::from(lag) + 1) == u64::from(lag) => {
-            Actor::Smi(cpu)
-        }
-        Delivery::Prompt | Delivery::Late { lag: _ } => Actor::Cpu(cpu),
-    }
-}
-
-/// The processor's actor whose turn it is; none where a stall covers it.
-pub(crate) fn actor_of(file: &File, stalled: &mut Stalled, turn: u32) -> Option<Actor>
-    requires fit { IsFit file.now.platform }
-    requires tracking { IsTracking file.now turn stalled.old }
-    ensures some { IfSome result (λ a. cpus_of file.now turn ≡ a ∷ []) }
-    ensures none { result ≡ None → cpus_of file.now turn ≡ [] }
-    ensures tracking { IsTracking file.now (turn + 1) stalled.new }
-{
-    let count = file.platform.apic.0.len() as u32;
-    let cpu = turn % count;
-    if stalled.holds(cpu, turn) {
-        None
-    } else {
-        Some(turn_actor(file.platform.delivery, turn / count, cpu))
-    }
-}
-
-/// One turn: the host's events, and then the processor whose turn it is, or its SMI, unless a stall covers it. How many entries they
-/// made, and the host events that are left.
-fn make_turn<'h, A: Agent, K: Sink>(
-    live: &mut Live<A>,
-    file: &File,
-    hosts: &'h [HostEvent],
-    stalled: &mut Stalled,
-    turn: u32,
-    text: &mut Vec<u8>,
-    out: &mut K,
-) -> Result<(u64, &'h [HostEvent]), WriteStop>
-    requires fit { IsFit file.now.platform }
-    requires tracking { IsTracking file.now turn stalled.old }
-    requires due { due turn hosts.now ≡ of_turn file.now turn }
-    ensures bound { IfOk result (λ done. done.0 + length done.1.now ≤ length hosts.now + 1) }
-    ensures rest { IfOk result (λ done. done.1.now ≡ past turn hosts.now) }
-    ensures tracking { IfOk result (λ done. IsTracking file.now (turn + 1) stalled.new) }
-    ensures made { (c : Carried) → StandsFor file.now.platform live.old c
-        → IfOk result (λ done. Sends file.now.platform live.new c (λ w. act_all file.now.platform w (actors_of file.now turn)) done.0 (K.held out.old) (K.held out.new)) }
-    ensures part { (c : Carried) → StandsFor file.now.platform live.old c
-        → OnErr result (Cuts c (lines_of (λ w. act_all file.now.platform w (actors_of file.now turn))) (K.held out.old) (K.held out.new)) }
-    ensures cause { StopsFor (K.faults out.old) (K.faults out.new) result }
-{
-    let (made, rest) = match make_hosts(live, hosts, turn, text, out) {
-        Ok(done) => done,
-        Err(stop) => return Err(stop),
-    };
-    let Some(actor) = actor_of(file, stalled, turn) else {
-        return Ok((made, rest));
-    };
-    match make_step(live, actor, text, out) {
-        Ok(count) => Ok((made + count, rest)),
-        Err(stop) => Err(stop),
-    }
-}
-
-/// All turns of the file, and how many entries they made. Takes its host events by turn, and its stalls before their first.
+/// All actors that are still to come, and how many entries they made.
 fn make_turns<A: Agent, K: Sink>(
     live: &mut Live<A>,
-    file: &File,
-    hosts: &[HostEvent],
-    stalled: &mut Stalled,
+    actors: &mut Actors,
     text: &mut Vec<u8>,
     out: &mut K,
 ) -> Result<u64, WriteStop>
-    requires fit { IsFit file.now.platform }
-    requires tracking { IsTracking file.now 0 stalled.old }
-    requires rises { Rises turn_of 0 hosts.now }
-    requires same { (turn : ℕ) → at_turn turn hosts.now ≡ of_turn file.now turn }
-    ensures bound { IfOk result (λ made. made ≤ 2 ^ 63 + 2 ^ 32) }
-    ensures made { (c : Carried) → StandsFor file.now.platform live.old c
-        → IfOk result (λ made. Sends file.now.platform live.new c (λ w. turns_from file.now file.now.platform.turns 0 w) made (K.held out.old) (K.held out.new)) }
-    ensures part { (c : Carried) → StandsFor file.now.platform live.old c
-        → OnErr result (Cuts c (lines_of (λ w. turns_from file.now file.now.platform.turns 0 w)) (K.held out.old) (K.held out.new)) }
+    requires ahead { IsAhead actors.old }
+    requires few { length (to_come actors.old) < 2 ^ 64 - 2 ^ 32 }
+    ensures bound { IfOk result (λ made. made ≤ length (to_come actors.old)) }
+    ensures made { (p : Platform) (c : Carried) → StandsFor p live.old c
+        → IfOk result (λ made. Sends p live.new c (λ w. act_all p w (to_come actors.old)) made (K.held out.old) (K.held out.new)) }
+    ensures part { (p : Platform) (c : Carried) → StandsFor p live.old c
+        → OnErr result (Cuts c (lines_of (λ w. act_all p w (to_come actors.old))) (K.held out.old) (K.held out.new)) }
     ensures cause { StopsFor (K.faults out.old) (K.faults out.new) result }
 {
     let mut made = 0u64;
-    let mut rest = hosts;
-    'turns: for turn in 0..file.platform.turns {
-        match make_turn(live, file, rest, stalled, turn, text, out) {
-            Ok((count, more)) => {
-                made += count;
-                rest = more;
-            }
+    'actors: while let Some(actor) = actors.next() {
+        match make_step(live, actor, text, out) {
+            Ok(count) => made += count,
             Err(stop) => return Err(stop),
         }
     }
@@ -415,16 +293,14 @@ fn make_boot<A: Agent, K: Sink>(
 fn run_turns<A: Agent, K: Sink>(
     live: &mut Live<A>,
     file: &File,
-    hosts: &[HostEvent],
-    stalled: &mut Stalled,
+    actors: &mut Actors,
     booted: u64,
     text: &mut Vec<u8>,
     out: &mut K,
 ) -> Result<(), WriteStop>
-    requires fit { IsFit file.now.platform }
-    requires tracking { IsTracking file.now 0 stalled.old }
-    requires rises { Rises turn_of 0 hosts.now }
-    requires same { (turn : ℕ) → at_turn turn hosts.now ≡ of_turn file.now turn }
+    requires ahead { IsAhead actors.old }
+    requires all { to_come actors.old ≡ actors_from file.now file.now.platform.turns 0 }
+    requires few { length (to_come actors.old) < 2 ^ 64 - 2 ^ 32 }
     requires booted { booted ≤ 29 }
     ensures all { (c : Carried) → StandsFor file.now.platform live.old c
         → OnOk result (Writes c (λ w. turns_text booted (turns_from file.now file.now.platform.turns 0 w)) (K.held out.old) (K.held out.new)) }
@@ -432,7 +308,7 @@ fn run_turns<A: Agent, K: Sink>(
         → OnErr result (Cuts c (λ w. turns_text booted (turns_from file.now file.now.platform.turns 0 w)) (K.held out.old) (K.held out.new)) }
     ensures cause { StopsFor (K.faults out.old) (K.faults out.new) result }
 {
-    let made = match make_turns(live, file, hosts, stalled, text, out) {
+    let made = match make_turns(live, actors, text, out) {
         Ok(made) => made,
         Err(stop) => return Err(stop),
     };
@@ -444,15 +320,13 @@ fn run_turns<A: Agent, K: Sink>(
 fn run_live<A: Agent, K: Sink>(
     live: &mut Live<A>,
     file: &File,
-    hosts: &[HostEvent],
-    stalled: &mut Stalled,
+    actors: &mut Actors,
     text: &mut Vec<u8>,
     out: &mut K,
 ) -> Result<Option<BootFact>, WriteStop>
-    requires fit { IsFit file.now.platform }
-    requires tracking { IsTracking file.now 0 stalled.old }
-    requires rises { Rises turn_of 0 hosts.now }
-    requires same { (turn : ℕ) → at_turn turn hosts.now ≡ of_turn file.now turn }
+    requires ahead { IsAhead actors.old }
+    requires all { to_come actors.old ≡ actors_from file.now file.now.platform.turns 0 }
+    requires few { length (to_come actors.old) < 2 ^ 64 - 2 ^ 32 }
     ensures all { (told : List (Option Told)) → StandsFor file.now.platform live.old (carried_start file.now.platform told)
         → IfOk result (λ fact. IsWritten file.now told fact (K.held out.old) (K.held out.new)) }
     ensures part { (told : List (Option Told)) → StandsFor file.now.platform live.old (carried_start file.now.platform told)
@@ -470,7 +344,7 @@ fn run_live<A: Agent, K: Sink>(
         Some(fact) => return Ok(Some(fact)),
         None => {}
     }
-    match run_turns(live, file, hosts, stalled, booted, text, out) {
+    match run_turns(live, file, actors, booted, text, out) {
         Ok(()) => Ok(None),
         Err(stop) => Err(stop),
     }
@@ -504,18 +378,12 @@ fn run_voices<A: Agent, K: Sink>(
         Ok(stalls) => stalls,
         Err(NoMemory) => return Err(WriteStop::NoMemory),
     };
-    let mut stalled = match stalled_of(alloc, file, stalls.as_slice()) {
+    let stalled = match stalled_of(alloc, file, stalls.as_slice()) {
         Ok(stalled) => stalled,
         Err(NoMemory) => return Err(WriteStop::NoMemory),
     };
-    run_live(
-        &mut live,
-        file,
-        hosts.as_slice(),
-        &mut stalled,
-        &mut text,
-        out,
-    )
+    let mut actors = Actors::new(file, hosts.as_slice(), stalled);
+    run_live(&mut live, file, &mut actors, &mut text, out)
 }
 
 /// Runs the file, with agents for its processors of kind handed: what is written for it, and the value that refused its boot, if
