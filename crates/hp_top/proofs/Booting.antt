@@ -19,7 +19,8 @@ use Rattle.hp_platform.specs.Carrying.{AgreesWith}
 use Rattle.hp_platform.specs.Live.{Live}
 use Rattle.hp_top.specs.Answers.{IsWritten, IsCut}
 use Rattle.hp_top.specs.Sent.{HoldsFront}
-use Rattle.hp_top.specs.Turns.{Sends, Writes, Cuts, lines_of, output, boot_left, turns_text, carried_start, with_voices}
+use Rattle.hp_top.specs.Doing.{Sends}
+use Rattle.hp_top.specs.Turns.{Writes, Cuts, lines_of, output, boot_left, turns_text, carried_start, with_voices}
 use Rattle.hp_top.specs.Lives.{StandsFor}
 use Rattle.hp_top.proofs.Completing.{written}
 use Rattle.hp_top.proofs.Schedule.{after_boot, text_rest, output_rest, head_front, boot_front, refused_sent, turns_front_sent, turns_sent, turns_lines_front, end_front, end_sent}
@@ -38,7 +39,7 @@ module _ (p : Platform) (c : Carried) (part : Scene → Made) (booted : ℕ) (a 
         record {
           scene = m.scene;
           agrees = m.agrees;
-          appended = end_sent (part m.scene) booted a b made d (ap length m.entries ∙ sends.count) (subst (λ (es : List Entry). Appends a b (lines_text es)) (sym m.entries) sends.lines) end;
+          appended = end_sent (part m.scene) booted a b made d (ap length m.entries ∙ sends.so.count) (subst (λ (es : List Entry). Appends a b (lines_text es)) (sym m.entries) sends.so.lines) end;
         }
 
     pub end_cuts : HoldsFront b d (end_text (booted + made)) → Cuts c (λ w. turns_text booted (part w)) a d
@@ -47,7 +48,7 @@ module _ (p : Platform) (c : Carried) (part : Scene → Made) (booted : ℕ) (a 
         record {
           scene = m.scene;
           agrees = m.agrees;
-          front = end_front (part m.scene) booted a b made d (ap length m.entries ∙ sends.count) (subst (λ (es : List Entry). Appends a b (lines_text es)) (sym m.entries) sends.lines) cut;
+          front = end_front (part m.scene) booted a b made d (ap length m.entries ∙ sends.so.count) (subst (λ (es : List Entry). Appends a b (lines_text es)) (sym m.entries) sends.so.lines) cut;
         }
 
 -- a scene that agrees with what is carried at the start is the first of a run
@@ -134,12 +135,12 @@ module _ (f : File) (told : List (Option Voice)) (a b : Option (List ℕ)) where
       fact scene agrees = fact_is f.platform told seen boot.left scene boot.entries o boot.shows agrees found (boots scene agrees)
 
       lines : (scene : Scene) (agrees : AgreesWith boot.left scene) → Appends b c (lines_text (booted f.platform (boots scene agrees).voices).entries)
-      lines scene agrees = subst (λ (es : List Entry). Appends b c (lines_text es)) (sym (boots scene agrees).entries) boot.lines
+      lines scene agrees = subst (λ (es : List Entry). Appends b c (lines_text es)) (sym (boots scene agrees).entries) boot.so.lines
 
       -- what follows them
       rest_is : (scene : Scene) (agrees : AgreesWith boot.left scene) → turns_text made (turns_from f f.platform.turns 0 scene) ≡ after_boot None f (boots scene agrees).voices
       rest_is scene agrees =
-          ap (λ (m : ℕ). turns_text m (turns_from f f.platform.turns 0 scene)) (sym boot.count ∙ ap length (sym (boots scene agrees).entries))
+          ap (λ (m : ℕ). turns_text m (turns_from f f.platform.turns 0 scene)) (sym boot.so.count ∙ ap length (sym (boots scene agrees).entries))
           ∙ ap (λ (w : Scene). turns_text (length (booted f.platform (boots scene agrees).voices).entries) (turns_from f f.platform.turns 0 w)) (sym (boots scene agrees).scene)
 
       whole : (scene : Scene) (agrees : AgreesWith boot.left scene) (d : Option (List ℕ)) → Appends a d (output f (boots scene agrees).voices) → IsWritten f told o a d

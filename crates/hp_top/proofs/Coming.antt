@@ -11,9 +11,11 @@ use Rattle.hp_platform.specs.Live.{Live}
 use Rattle.hp_model.specs.Schedule.{Scene, Made, both_make, act_all, actors_of, cpus_of, hosts_of, is_stalled, turn_actor, turns_from}
 use Rattle.hp_top.specs.Actors.{Actors, IsAhead, actors_from, to_come}
 use Rattle.hp_top.specs.Stalls.{IsTracking, Stalled}
-use Rattle.hp_top.specs.Turns.{Cuts, Rises, Sends, at_turn, due, lines_of, past, turn_of}
+use Rattle.hp_top.specs.Doing.{HasSent, Sends}
+use Rattle.hp_top.specs.Turns.{Cuts, Rises, at_turn, due, lines_of, past, turn_of}
 use Rattle.hp_top.proofs.Rising.{due-is, past-at, past-rises}
-use Rattle.hp_top.proofs.Turning.{act_all-append, cuts_same, sends_same}
+use Rattle.hp_top.proofs.Doing.{does_same}
+use Rattle.hp_top.proofs.Turning.{act_all-append, cuts_same}
 
 -- of the host events of a turn the first is taken
 pub rises-first : (turn : ℕ) (h : HostEvent) (hs : List HostEvent) → h.turn ≡ turn → Rises turn_of turn (h ∷ hs) → Rises turn_of turn hs
@@ -193,7 +195,7 @@ module _ (f : File) (actors : List Actor) (all : actors ≡ actors_from f f.plat
 
   pub all_sends : (live : Live) (c : Carried) (made : ℕ) (a b : Option (List ℕ)) → Sends f.platform live c (λ w. act_all f.platform w actors) made a b →
       Sends f.platform live c (λ w. turns_from f f.platform.turns 0 w) made a b
-  all_sends live c made a b sends = sends_same f.platform live c (λ w. act_all f.platform w actors) (λ w. turns_from f f.platform.turns 0 w) made a b as_turns sends
+  all_sends live c made a b sends = does_same f.platform live c (λ w. act_all f.platform w actors) (λ w. turns_from f f.platform.turns 0 w) (HasSent made a b) as_turns sends
 
   pub all_cuts : (c : Carried) (a b : Option (List ℕ)) → Cuts c (lines_of (λ w. act_all f.platform w actors)) a b → Cuts c (lines_of (λ w. turns_from f f.platform.turns 0 w)) a b
   all_cuts c a b cut =

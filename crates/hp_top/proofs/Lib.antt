@@ -4,6 +4,7 @@ pub mod Completing
 pub mod Counting
 pub mod Decimals
 pub mod Doing
+pub mod Lines
 pub mod Rising
 pub mod Schedule
 pub mod Sending

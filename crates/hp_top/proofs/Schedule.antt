@@ -12,11 +12,11 @@ use Rattle.hp_model.specs.Schedule.{Scene, Made, both_make, act, act_all, hosts_
 use Rattle.hp_model.specs.Voices.{Voice}
 use Rattle.hp_model.specs.Text.{lines_text, end_text, head_text, trace_text}
 use Rattle.hp_top.proofs.Sending.{sent_none, sent_more, sent_all, front_part}
-use Rattle.hp_top.proofs.Turning.{lines_text-append, both-assoc, act_all-append, act_all-one, then_make, sends_same, sends_both, sends_empty, cuts_same, cuts_both, cuts_more}
+use Rattle.hp_top.proofs.Turning.{lines_text-append}
 use Rattle.hp_platform.specs.Live.{Live}
 use Rattle.hp_top.specs.Lives.{StandsFor}
 use Rattle.hp_top.specs.Sent.{IsSent, HoldsFront}
-use Rattle.hp_top.specs.Turns.{Sends, Cuts, lines_of, run_text, boot_text, text_by, output, turns_text, with_voices}
+use Rattle.hp_top.specs.Turns.{run_text, boot_text, text_by, output, turns_text, with_voices}
 
 -- no turn asks for the file's own voices
 turns_rest : (kinds : List VoiceKind) (f : File) (n t : ℕ) (w : Scene) → turns_from (with_voices kinds f) n t w ≡ turns_from f n t w

@@ -18,14 +18,14 @@ use Rattle.hp_platform.specs.Carrying.{AgreesWith, Leads}
 use Rattle.hp_platform.specs.Live.{Live}
 use Rattle.hp_top.specs.Lives.{StandsFor, Takes}
 use Rattle.hp_top.specs.Sent.{HoldsFront}
-use Rattle.hp_top.specs.Turns.{Sends, Cuts, lines_of, due, past, boot_left, DoneActors}
+use Rattle.hp_top.specs.Turns.{Cuts, lines_of, due, past, boot_left}
 use Rattle.hp_top.proofs.Sending.{front_part, front_none}
 
 pub lines_text-append : (es fs : List Entry) → lines_text (es ++ fs) ≡ lines_text es ++ lines_text fs
 lines_text-append [] fs = refl
 lines_text-append (e ∷ es) fs = ap (λ t. line_text e ++ t) (lines_text-append es fs) ∙ sym (append_assoc (line_text e) (lines_text es) (lines_text fs))
 
-lines_text-one : (e : Entry) → lines_text (e ∷ []) ≡ line_text e
+pub lines_text-one : (e : Entry) → lines_text (e ∷ []) ≡ line_text e
 lines_text-one e = append-nil (line_text e)
 
 abbrev made_of : List Entry → Scene → Made
@@ -71,48 +71,8 @@ cuts_none c text a = record { scene = some_scene c; agrees = scene_agrees c; fro
 pub cuts_same : (c : Carried) (text other : Scene → List ℕ) (a b : Option (List ℕ)) → ((w : Scene) → text w ≡ other w) → Cuts c text a b → Cuts c other a b
 cuts_same c text other a b same cut = record { scene = cut.scene; agrees = cut.agrees; front = subst (HoldsFront a b) (same cut.scene) cut.front }
 
-module _ (p : Platform) (live : Live) (c : Carried) (part : Scene → Made) (a b : Option (List ℕ)) where
-  -- an actor made no entry
-  pub sends_none : Takes p live c part turn.Idle → Sends p live c part 0 a a
-  sends_none took = record {
-    entries = [];
-    left = took.acts.left;
-    leads = took.acts.leads;
-    shows = record { platform = took.platform; carries = took.acts.carries };
-    count = refl;
-    lines = Appends-nil a;
-  }
-
-  -- or one, whose line was sent
-  pub sends_one : (e : Entry) → Takes p live c part (turn.Made e) → Appends a b (line_text e) → Sends p live c part 1 a b
-  sends_one e took grown = record {
-    entries = e ∷ [];
-    left = took.acts.left;
-    leads = took.acts.leads;
-    shows = record { platform = took.platform; carries = took.acts.carries };
-    count = refl;
-    lines = subst (Appends a b) (sym (lines_text-one e)) grown;
-  }
-
-  -- or sent in part
-  pub cuts_one : (e : Entry) → Takes p live c part (turn.Made e) → HoldsFront a b (line_text e) → Cuts c (lines_of part) a b
-  cuts_one e took cut =
-      let m = took.acts.leads.made (some_scene took.acts.left) (scene_agrees took.acts.left) in
-      record { scene = m.scene; agrees = m.agrees; front = subst (λ (es : List Entry). HoldsFront a b (lines_text es)) (sym m.entries) (subst (HoldsFront a b) (sym (lines_text-one e)) cut) }
-
-pub sends_same : (p : Platform) (live : Live) (c : Carried) (part other : Scene → Made) (made : ℕ) (a b : Option (List ℕ)) → ((w : Scene) → part w ≡ other w) →
-    Sends p live c part made a b → Sends p live c other made a b
-sends_same p live c part other made a b same sends = record {
-  entries = sends.entries;
-  left = sends.left;
-  leads = leads_same c sends.left part other sends.entries same sends.leads;
-  shows = sends.shows;
-  count = sends.count;
-  lines = sends.lines;
-}
-
 -- a part, and then another that stopped
-front_both : (es fs : List Entry) (a b d : Option (List ℕ)) → Appends a b (lines_text es) → HoldsFront b d (lines_text fs) → HoldsFront a d (lines_text (es ++ fs))
+pub front_both : (es fs : List Entry) (a b d : Option (List ℕ)) → Appends a b (lines_text es) → HoldsFront b d (lines_text fs) → HoldsFront a d (lines_text (es ++ fs))
 front_both es fs a b d first part =
     subst (HoldsFront a d) (sym (lines_text-append es fs))
     (front_part a b d (lines_text fs) [] (lines_text es ++ lines_text fs)
@@ -130,37 +90,8 @@ front_more es fs a b part =
       };
     })
 
-module _ (p : Platform) (mid : Live) (c : Carried) (part more : Scene → Made) (j : ℕ) (a b d : Option (List ℕ)) (first : Sends p mid c part j a b) where
-  -- one part and then another
-  pub sends_both : (new : Live) (k : ℕ) → ((v : Carried) → StandsFor p mid v → Sends p new v more k b d) → Sends p new c (then_make part more) (j + k) a d
-  sends_both new k next =
-      let second = next first.left first.shows in
-      record {
-        entries = first.entries ++ second.entries;
-        left = second.left;
-        leads = leads_then c first.left second.left part more first.entries second.entries first.leads second.leads;
-        shows = second.shows;
-        count = length-append first.entries second.entries ∙ omega (arith, first.count, second.count);
-        lines = subst (Appends a d) (sym (lines_text-append first.entries second.entries))
-            (Appends-trans a b d (lines_text first.entries) (lines_text second.entries) first.lines second.lines);
-      }
-
-  pub cuts_both : ((v : Carried) → StandsFor p mid v → Cuts v (lines_of more) b d) → Cuts c (lines_of (then_make part more)) a d
-  cuts_both next =
-      let cut = next first.left first.shows in
-      let m = first.leads.made cut.scene cut.agrees in
-      record {
-        scene = m.scene;
-        agrees = m.agrees;
-        front = front_both (part m.scene).entries (more (part m.scene).scene).entries a b d
-            (subst (λ (es : List Entry). Appends a b (lines_text es)) (sym m.entries) first.lines)
-            (subst (λ (w : Scene). HoldsFront b d (lines_text (more w).entries)) (sym m.leaves) cut.front);
-      }
-
 pub cuts_more : (c : Carried) (part more : Scene → Made) (a b : Option (List ℕ)) → Cuts c (lines_of part) a b → Cuts c (lines_of (then_make part more)) a b
 cuts_more c part more a b cut = record { scene = cut.scene; agrees = cut.agrees; front = front_more (part cut.scene).entries (more (part cut.scene).scene).entries a b cut.front }
-
-pub ruleset one_actor = (sends_none, sends_one, cuts_one, cuts_none)
 
 pub both-assoc : (l m n : Made) → both_make (both_make l m) n ≡ both_make l (both_make m n)
 both-assoc l m n = ap (λ (es : List Entry). made_of es n.scene) (append_assoc l.entries m.entries n.entries)
@@ -176,60 +107,12 @@ pub act_all-one : (p : Platform) (w : Scene) (x : Actor) → act_all p w (x ∷ 
 unfolding act_all
 act_all-one p w x = ap (λ (es : List Entry). made_of es (act p w x).scene) (append-nil (act p w x).entries)
 
-act_all-cons : (p : Platform) (w : Scene) (x : Actor) (xs : List Actor) → act_all p w (x ∷ xs) ≡ both_make (act p w x) (act_all p (act p w x).scene xs)
+pub act_all-cons : (p : Platform) (w : Scene) (x : Actor) (xs : List Actor) → act_all p w (x ∷ xs) ≡ both_make (act p w x) (act_all p (act p w x).scene xs)
 unfolding act_all
 act_all-cons p w x xs = refl
 
-pub sends_empty : (p : Platform) (c : Carried) (seen : Live) (a : Option (List ℕ)) → StandsFor p seen c → Sends p seen c (λ w. act_all p w []) 0 a a
-unfolding act_all
-sends_empty p c seen a shows = record {
-  entries = [];
-  left = c;
-  leads = record { made = λ scene agrees. record { scene = scene; agrees = agrees; entries = refl; leaves = refl } };
-  shows = shows;
-  count = refl;
-  lines = Appends-nil a;
-}
-
 pub due-first : (turn : ℕ) (h : HostEvent) (hs : List HostEvent) → h.turn ≡ turn → due turn (h ∷ hs) ≡ h.actor ∷ due turn hs
 due-first turn h hs is = rw (eq-eqb h.turn turn is) refl
-
-module _ (p : Platform) (c : Carried) (all rest more : List Actor) (x : Actor) (seen : Live) (made : ℕ) (a b d : Option (List ℕ))
-    (is : rest ≡ x ∷ more) (done : DoneActors p c all rest seen made a b) where
-  -- the next of them acted
-  pub done_more : (new : Live) (count : ℕ) → ((v : Carried) → StandsFor p seen v → Sends p new v (λ w. act p w x) count b d) → DoneActors p c all more new (made + count) a d
-  done_more new count next = record {
-    front = done.front ++ x ∷ [];
-    actors = append_assoc done.front (x ∷ []) more ∙ ap (λ (xs : List Actor). done.front ++ xs) (sym is) ∙ done.actors;
-    sends = sends_same p new c (then_make (λ w. act_all p w done.front) (λ w. act p w x)) (λ w. act_all p w (done.front ++ x ∷ [])) (made + count) a d
-        (λ w. ap (both_make (act_all p w done.front)) (sym (act_all-one p (act_all p w done.front).scene x)) ∙ sym (act_all-append p done.front (x ∷ []) w))
-        (sends_both p seen c (λ w. act_all p w done.front) (λ w. act p w x) made a b d done.sends new count next);
-  }
-
-  -- or it stopped
-  pub done_cuts : ((v : Carried) → StandsFor p seen v → Cuts v (lines_of (λ w. act p w x)) b d) → Cuts c (lines_of (λ w. act_all p w all)) a d
-  done_cuts next =
-      cuts_same c (lines_of (then_make (λ w. act_all p w done.front) (λ w. act_all p w (x ∷ more)))) (lines_of (λ w. act_all p w all)) a d
-      (λ w. ap (λ (m : Made). lines_text m.entries) (sym (act_all-append p done.front (x ∷ more) w) ∙ ap (act_all p w) (ap (λ (xs : List Actor). done.front ++ xs) (sym is) ∙ done.actors)))
-      (cuts_both p seen c (λ w. act_all p w done.front) (λ w. act_all p w (x ∷ more)) made a b d done.sends
-      (λ v shows. cuts_same v (lines_of (then_make (λ w. act p w x) (λ w. act_all p w more))) (lines_of (λ w. act_all p w (x ∷ more))) b d
-      (λ w. ap (λ (m : Made). lines_text m.entries) (sym (act_all-cons p w x more))) (cuts_more v (λ w. act p w x) (λ w. act_all p w more) b d (next v shows))))
-
--- none of them is left
-pub done_all : (p : Platform) (c : Carried) (all rest : List Actor) (seen : Live) (made : ℕ) (a b : Option (List ℕ)) →
-    DoneActors p c all rest seen made a b → rest ≡ [] → Sends p seen c (λ w. act_all p w all) made a b
-done_all p c all rest seen made a b done none =
-    subst (λ (xs : List Actor). Sends p seen c (λ w. act_all p w xs) made a b) (sym (append-nil done.front) ∙ ap (λ (xs : List Actor). done.front ++ xs) (sym none) ∙ done.actors) done.sends
-
--- none of them acted yet
-pub done_start : (p : Platform) (c : Carried) (all : List Actor) (seen : Live) (a : Option (List ℕ)) → StandsFor p seen c → DoneActors p c all all seen 0 a a
-done_start p c all seen a shows = record { front = []; actors = refl; sends = sends_empty p c seen a shows }
-
--- the boot's turns: one is next while some are left
-pub boot_start : (p : Platform) (c : Carried) (all : ℕ) (seen : Live) (a : Option (List ℕ)) → StandsFor p seen c → DoneActors p c (boot_left all) (boot_left (all - 0)) seen 0 a a
-boot_start p c all seen a shows =
-    let none : all ≡ all - 0 = omega arith in
-    subst (λ (n : ℕ). DoneActors p c (boot_left all) (boot_left n) seen 0 a a) none (done_start p c (boot_left all) seen a shows)
 
 pub boot_next : (all n : ℕ) → n < all → boot_left (all - n) ≡ Cpu 0 ∷ boot_left (all - (n + 1))
 unfolding boot_left

@@ -1,10 +1,12 @@
 -- Parts of the schedule, by whatever is said of the entries that they make.
-use Rattle.std.specs.Prelude.{◌≡◌, List, ◌++◌}
+use Rattle.std.specs.Prelude.{◌≡◌, ℕ, List, ◌++◌, length, Option}
+use Rattle.std.specs.Io.KnownBytes.{Appends}
 use Rattle.hp_model.specs.declared.platforms.Platform.{Platform}
 use Rattle.hp_model.specs.declared.entries.Actor.{Actor}
 use Rattle.hp_model.specs.declared.entries.Entry.{Entry}
 use Rattle.hp_model.specs.Following.{Carried}
 use Rattle.hp_model.specs.Schedule.{Scene, Made, act_all}
+use Rattle.hp_model.specs.Text.{lines_text}
 use Rattle.hp_platform.specs.Carrying.{Leads}
 use Rattle.hp_platform.specs.Live.{Live}
 use Rattle.hp_trace.specs.declared.summaries.Summary.{Summary}
@@ -31,3 +33,14 @@ Counted old new es = (before : List Entry) → old ≡ summary before → new �
 
 abbrev pub Sums : Platform → Live → Carried → (Scene → Made) → Summary → Summary → Type 0
 Sums p live c part old new = Does p live c part (Counted old new)
+
+-- so many there are, and their lines were appended
+pub record HasSent (made : ℕ) (old new : Option (List ℕ)) (es : List Entry) : Type 0 where
+  pub count : length es ≡ made
+  pub lines : Appends old new (lines_text es)
+
+abbrev pub Sends : Platform → Live → Carried → (Scene → Made) → ℕ → Option (List ℕ) → Option (List ℕ) → Type 0
+Sends p live c part made old new = Does p live c part (HasSent made old new)
+
+abbrev pub DoneActors : Platform → Carried → List Actor → List Actor → Live → ℕ → Option (List ℕ) → Option (List ℕ) → Type 0
+DoneActors p c all rest live made old new = Did p c all rest live (HasSent made old new)

@@ -21,15 +21,6 @@ use Rattle.hp_platform.specs.Live.{Live}
 use Rattle.hp_top.specs.Sent.{HoldsFront}
 use Rattle.hp_top.specs.Lives.{StandsFor}
 
--- entries were made as a part of the schedule does: what the machine then stands for, how many there are, and their lines in the sink
-pub record Sends (p : Platform) (live : Live) (c : Carried) (part : Scene → Made) (made : ℕ) (old new : Option (List ℕ)) : Type 0 where
-  pub entries : List Entry
-  pub left : Carried
-  pub leads : Leads c part entries left
-  pub shows : StandsFor p live left
-  pub count : length entries ≡ made
-  pub lines : Appends old new (lines_text entries)
-
 -- by voices that agree with what is carried: their text was appended
 pub record Writes (c : Carried) (text : Scene → List ℕ) (old new : Option (List ℕ)) : Type 0 where
   pub scene : Scene
@@ -110,9 +101,3 @@ turns_text booted m = lines_text m.entries ++ end_text (booted + length m.entrie
 -- so many turns of processor 0: those of the boot that are left
 unfoldable pub boot_left : ℕ → List Actor
 boot_left n = replicate n (Cpu 0)
-
--- these actors acted, as far as they did
-pub record DoneActors (p : Platform) (c : Carried) (all rest : List Actor) (live : Live) (made : ℕ) (old new : Option (List ℕ)) : Type 0 where
-  pub front : List Actor
-  pub actors : front ++ rest ≡ all
-  pub sends : Sends p live c (λ w. act_all p w front) made old new

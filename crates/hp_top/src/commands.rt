@@ -88,8 +88,5 @@ pub(crate) fn command_of(words: &[String]) -> Option<Command>
     if are_check(words) {
         return Some(Command::Check);
     }
-    match gen_number(words) {
-        Some(number) => Some(Command::Gen(number)),
-        None => None,
-    }
+    gen_number(words).map(Command::Gen)
 }

@@ -13,11 +13,12 @@ ghost use Rattle.hp_agent.specs.Kinds.{own_voice};
 ghost use Rattle.hp_config.specs.Sound.{IsSound};
 ghost use Rattle.hp_model.specs.Text.{head_text, line_text, end_text};
 ghost use Rattle.hp_top.specs.Actors.{IsAhead, actors_from, to_come};
+ghost use Rattle.hp_top.specs.Doing.{Sends};
 ghost use Rattle.hp_top.specs.Faults.{StopsFor};
 ghost use Rattle.hp_top.specs.Lives.{StandsFor, Takes};
 ghost use Rattle.hp_top.specs.Sent.{HoldsFront};
 ghost use Rattle.hp_top.specs.Stalls.{IsTracking};
-ghost use Rattle.hp_top.specs.Turns.{Cuts, Rises, Sends, Writes, at_turn, boot_left, carried_start, lines_of, start_of, turn_of, turns_text, with_voices};
+ghost use Rattle.hp_top.specs.Turns.{Cuts, Rises, Writes, at_turn, boot_left, carried_start, lines_of, start_of, turn_of, turns_text, with_voices};
 ghost use Rattle.hp_top.specs.Answers.{IsCut, IsWritten};
 ghost use Rattle.hp_top.specs.Handing.{first_for, rest_for};
 
@@ -90,7 +91,7 @@ pub(crate) fn take_turn<A: Agent>(live: &mut Live<A>, actor: Actor) -> Result<Tu
 }
 
 /// What one actor does, and how many entries that made.
-#[tactic(auto, using(crate::proofs::Turning::one_actor))]
+#[tactic(auto, using(crate::proofs::Lines::one_actor))]
 fn make_step<A: Agent, K: Sink>(
     live: &mut Live<A>,
     actor: Actor,

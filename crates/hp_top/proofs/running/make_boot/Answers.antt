@@ -1,6 +1,7 @@
 -- A turn of the boot after those before it.
 use Rattle.std.proofs.Common.{◌∙◌, refl, arith}
-use Rattle.hp_top.proofs.Turning.{boot_start, boot_next, boot_all, done_more, done_cuts, done_all}
+use Rattle.hp_top.proofs.Lines.{boot_start, done_more, done_cuts, done_all}
+use Rattle.hp_top.proofs.Turning.{boot_next, boot_all}
 use Rattle.hp_top.proofs.running.make_boot.Goals as goal
 
 pub turns-init : goal.turns-init

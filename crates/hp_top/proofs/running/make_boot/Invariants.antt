@@ -3,7 +3,8 @@ use Rattle.std.proofs.Common.{◌≡◌, ◌-◌, ◌≤◌}
 use Rattle.hp_model.specs.declared.platforms.Platform.{Platform}
 use Rattle.hp_model.specs.Following.{Carried}
 use Rattle.hp_top.specs.Lives.{StandsFor}
-use Rattle.hp_top.specs.Turns.{DoneActors, boot_left}
+use Rattle.hp_top.specs.Doing.{DoneActors}
+use Rattle.hp_top.specs.Turns.{boot_left}
 use Rattle.hp_top.proofs.running.make_boot.Given as goal
 
 abbrev pub invariant-turns : goal.invariant-turns

@@ -3,7 +3,7 @@ use Rattle.std.proofs.Common.{subst}
 use Rattle.hp_model.specs.Schedule.{act}
 use Rattle.hp_platform.specs.declared.worlds.Turn.{Turn}
 use Rattle.hp_top.specs.Lives.{Takes}
-use Rattle.hp_top.proofs.Turning.{sends_none, sends_one, cuts_one}
+use Rattle.hp_top.proofs.Lines.{sends_none, sends_one, cuts_one}
 use Rattle.hp_top.proofs.running.make_step.Goals as goal
 
 pub returns-in-Ok-Idle-clause-made : goal.returns-in-Ok-Idle-clause-made

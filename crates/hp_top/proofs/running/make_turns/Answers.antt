@@ -1,7 +1,7 @@
 -- An actor after those before it.
 use Rattle.std.proofs.Common.{ap, arith, length, refl, ◌∙◌}
 use Rattle.hp_top.specs.Actors.{to_come}
-use Rattle.hp_top.proofs.Turning.{done_start, done_more, done_cuts, done_all}
+use Rattle.hp_top.proofs.Lines.{done_start, done_more, done_cuts, done_all}
 use Rattle.hp_top.proofs.running.make_turns.Goals as goal
 
 pub actors-init : goal.actors-init

@@ -4,7 +4,7 @@ use Rattle.hp_model.specs.declared.platforms.Platform.{Platform}
 use Rattle.hp_model.specs.Following.{Carried}
 use Rattle.hp_top.specs.Actors.{IsAhead, to_come}
 use Rattle.hp_top.specs.Lives.{StandsFor}
-use Rattle.hp_top.specs.Turns.{DoneActors}
+use Rattle.hp_top.specs.Doing.{DoneActors}
 use Rattle.hp_top.proofs.running.make_turns.Given as goal
 
 abbrev pub invariant-actors : goal.invariant-actors
