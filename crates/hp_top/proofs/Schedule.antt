@@ -1,20 +1,16 @@
 -- A scheduled run, turn after turn, and the parts of its text.
-use Rattle.std.proofs.Common.{◌≡◌, ℕ, zero, suc, ◌+◌, ◌-◌, ◌<◌, List, [], ◌∷◌, ◌++◌, length, Option, Some, None, refl, sym, ◌∙◌, ap, subst, append_assoc, length-append, arith}
+use Rattle.std.proofs.Common.{◌≡◌, ℕ, zero, suc, ◌+◌, List, [], ◌++◌, length, Option, Some, None, refl, sym, ◌∙◌, ap, subst, append_assoc, length-append}
 use Rattle.std.proofs.lemmas.List.{append-nil}
 use Rattle.std.specs.Io.KnownBytes.{Appends}
-use Rattle.hp_model.specs.declared.entries.Actor.{Actor}
 use Rattle.hp_model.specs.declared.entries.Entry.{Entry}
 use Rattle.hp_model.specs.declared.files.File.{File}
 use Rattle.hp_model.specs.declared.files.VoiceKind.{VoiceKind}
 use Rattle.hp_model.specs.declared.outcomes.BootFact.{BootFact}
-use Rattle.hp_model.specs.Following.{Carried}
-use Rattle.hp_model.specs.Schedule.{Scene, Made, both_make, act, act_all, hosts_of, cpus_of, actors_of, turns_from, booted, boot_fact, scheduled}
+use Rattle.hp_model.specs.Schedule.{Scene, Made, both_make, act_all, actors_of, turns_from, booted, boot_fact, scheduled}
 use Rattle.hp_model.specs.Voices.{Voice}
 use Rattle.hp_model.specs.Text.{lines_text, end_text, head_text, trace_text}
 use Rattle.hp_top.proofs.Sending.{sent_none, sent_more, sent_all, front_part}
 use Rattle.hp_top.proofs.Turning.{lines_text-append}
-use Rattle.hp_platform.specs.Live.{Live}
-use Rattle.hp_top.specs.Lives.{StandsFor}
 use Rattle.hp_top.specs.Sent.{IsSent, HoldsFront}
 use Rattle.hp_top.specs.Turns.{run_text, boot_text, text_by, output, turns_text, with_voices}
 

@@ -1,9 +1,8 @@
 -- The parts of a scheduled run, one after another.
-use Rattle.std.proofs.Common.{◌≡◌, ℕ, suc, ◌+◌, ◌-◌, ◌<◌, ◌≤◌, List, [], ◌∷◌, ◌++◌, Option, refl, sym, ◌∙◌, ap, subst, append_assoc, length-append, eq-eqb, ◌≢◌, arith}
+use Rattle.std.proofs.Common.{◌≡◌, ℕ, suc, ◌+◌, ◌-◌, ◌<◌, ◌≤◌, List, [], ◌∷◌, ◌++◌, Option, refl, sym, ◌∙◌, ap, subst, append_assoc, eq-eqb, ◌≢◌, arith}
 use Rattle.std.proofs.lemmas.Bool.{ne_eqb}
 use Rattle.std.proofs.lemmas.List.{append-nil}
 use Rattle.std.specs.Io.KnownBytes.{Appends}
-use Rattle.std.proofs.KnownBytes.{Appends-nil, Appends-trans}
 use Rattle.hp_model.specs.declared.platforms.Platform.{Platform}
 use Rattle.hp_model.specs.declared.entries.Actor.{Actor}
 use Rattle.hp_model.specs.declared.entries.Actor.TheVariants.{Cpu}
@@ -13,10 +12,7 @@ use Rattle.hp_model.specs.Following.{Carried}
 use Rattle.hp_model.specs.Schedule.{Scene, Made, both_make, act, act_all}
 use Rattle.hp_model.specs.Text.{line_text, lines_text}
 use Rattle.hp_model.proofs.Agreeing.{some_voices, some_agree}
-use Rattle.hp_platform.specs.declared.worlds.Turn.TheVariants as turn
 use Rattle.hp_platform.specs.Carrying.{AgreesWith, Leads}
-use Rattle.hp_platform.specs.Live.{Live}
-use Rattle.hp_top.specs.Lives.{StandsFor, Takes}
 use Rattle.hp_top.specs.Sent.{HoldsFront}
 use Rattle.hp_top.specs.Turns.{Cuts, lines_of, due, past, boot_left}
 use Rattle.hp_top.proofs.Sending.{front_part, front_none}

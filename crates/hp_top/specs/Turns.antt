@@ -1,5 +1,5 @@
 -- Parts of a scheduled run, and what is written of the whole.
-use Rattle.std.specs.Prelude.{◌≡◌, ℕ, ◌==◌, ◌≤◌, List, [], ◌∷◌, ◌++◌, length, replicate, map, filter, Option, Some, None, ◌+◌, if◌then◌else◌}
+use Rattle.std.specs.Prelude.{ℕ, ◌==◌, ◌≤◌, List, [], ◌∷◌, ◌++◌, length, replicate, map, filter, Option, Some, None, ◌+◌, if◌then◌else◌}
 use Rattle.std.specs.Io.KnownBytes.{Appends}
 use Rattle.hp_model.specs.declared.platforms.Platform.{Platform}
 use Rattle.hp_model.specs.declared.entries.Actor.{Actor}
@@ -12,14 +12,12 @@ use Rattle.hp_model.specs.declared.files.VoiceKind.{VoiceKind}
 use Rattle.hp_model.specs.declared.outcomes.BootFact.{BootFact}
 use Rattle.hp_model.specs.declared.accesses.Answer.TheVariants.{Quiet}
 use Rattle.hp_model.specs.Following.{Carried}
-use Rattle.hp_model.specs.Schedule.{Scene, Made, act_all, booted, boot_fact, scheduled}
+use Rattle.hp_model.specs.Schedule.{Scene, Made, booted, boot_fact, scheduled}
 use Rattle.hp_model.specs.State.{start}
 use Rattle.hp_model.specs.Voices.{Voice}
 use Rattle.hp_model.specs.Text.{head_text, lines_text, end_text, trace_text}
-use Rattle.hp_platform.specs.Carrying.{AgreesWith, Leads}
-use Rattle.hp_platform.specs.Live.{Live}
+use Rattle.hp_platform.specs.Carrying.{AgreesWith}
 use Rattle.hp_top.specs.Sent.{HoldsFront}
-use Rattle.hp_top.specs.Lives.{StandsFor}
 
 -- by voices that agree with what is carried: their text was appended
 pub record Writes (c : Carried) (text : Scene → List ℕ) (old new : Option (List ℕ)) : Type 0 where
