@@ -1,0 +1,11 @@
+//! Tests of worlds whose turns are made by threads.
+#![tactic(auto)]
+
+#[cfg(test)]
+mod hosts;
+#[cfg(test)]
+mod meetings;
+#[cfg(test)]
+mod shares;
+#[cfg(test)]
+mod worlds;

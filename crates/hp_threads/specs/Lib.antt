@@ -1,0 +1,5 @@
+pub mod Shares
+pub mod Sharing
+pub mod Voicing
+pub mod Running
+pub mod Leaving

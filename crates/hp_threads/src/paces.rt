@@ -1,0 +1,9 @@
+//! What comes before each turn.
+
+use hp_model::Actor;
+
+/// Comes before each turn. Nothing is assumed of it.
+pub trait Pace {
+    /// `turn` counts the turns of the actor's processor, or the host events, of one call from 0.
+    fn before(&self, actor: Actor, turn: u32);
+}
