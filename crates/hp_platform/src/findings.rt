@@ -94,13 +94,17 @@ impl Board {
         ensures due { (s : State) → StandsFor self.now s → due_by result ≡ due_of_cpu self.now.platform s cpu }
         ensures found { IsFinding self.now result }
     {
-        if !self.platform.delivery.is_late() && self.machine.enabled(&Event::TakeSmi(cpu)) {
+        let processor = self.machine.cpu(cpu);
+        if !processor.present {
+            return Finding::Idle;
+        }
+        if !self.platform.delivery.is_late() && processor.can_take_smi() {
             return Finding::Makes(Found::Plain(Event::TakeSmi(cpu)));
         }
-        if self.machine.enabled(&Event::TakeInit(cpu)) {
+        if processor.can_take_init() {
             return Finding::Makes(Found::Plain(Event::TakeInit(cpu)));
         }
-        if is_in_smm(&self.machine.cpu(cpu)) {
+        if is_in_smm(&processor) {
             return self.smm_due(cpu);
         }
         if self.machine.enabled(&Event::Do(cpu, Access::Halt)) {
