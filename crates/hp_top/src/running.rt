@@ -44,6 +44,7 @@ pub(crate) fn boot_turns(p: &Platform) -> u32
 }
 
 /// Makes the line of an entry in the buffer, whose content goes, and hands it to the sink.
+#[inline(never)]
 fn send_line<K: Sink>(e: &Entry, text: &mut Vec<u8>, out: &mut K) -> Result<(), WriteStop>
     ensures all { OnOk result (Appends (K.held out.old) (K.held out.new) (line_text e.now)) }
     ensures part { OnErr result (HoldsFront (K.held out.old) (K.held out.new) (line_text e.now)) }
@@ -105,14 +106,13 @@ fn make_step<A: Agent, K: Sink>(
         → OnErr result (Cuts c (lines_of (λ w. act p w actor)) (K.held out.old) (K.held out.new)) }
     ensures cause { StopsFor (K.faults out.old) (K.faults out.new) result }
 {
-    let entry = match take_turn(live, actor) {
-        Ok(Turn::Made(entry)) => entry,
-        Ok(Turn::Idle) => return Ok(0),
-        Err(NoMemory) => return Err(WriteStop::NoMemory),
-    };
-    match send_line(&entry, text, out) {
-        Ok(()) => Ok(1),
-        Err(stop) => Err(stop),
+    match take_turn(live, actor) {
+        Ok(Turn::Made(entry)) => match send_line(&entry, text, out) {
+            Ok(()) => Ok(1),
+            Err(stop) => Err(stop),
+        },
+        Ok(Turn::Idle) => Ok(0),
+        Err(NoMemory) => Err(WriteStop::NoMemory),
     }
 }
 
