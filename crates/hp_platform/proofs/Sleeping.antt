@@ -29,14 +29,16 @@ none_chosen true false smi init mode smbase base a b c d h = refl
 none_chosen false false smi init mode smbase base a b c d h = refl
 none_chosen late true smi init (Running page) smbase base a b c d h = absurd cc
 none_chosen late true smi init (Smm address) smbase base a b c d h = absurd cc
-none_chosen late true true init Wait smbase base a b c d h = absurd cc
 none_chosen late true true init (Halted page) smbase base a b c d h = absurd cc
-none_chosen late true false true Wait smbase base a b c d h = absurd cc
 none_chosen late true false true (Halted page) smbase base a b c d h = absurd cc
-none_chosen true true false false Wait smbase base a b c d h = refl
-none_chosen false true false false Wait smbase base a b c d h = refl
 none_chosen true true false false (Halted page) smbase base a b c d h = refl
 none_chosen false true false false (Halted page) smbase base a b c d h = refl
+none_chosen true true true init Wait smbase base a b c d h = refl
+none_chosen false true true init Wait smbase base a b c d h = refl
+none_chosen true true false true Wait smbase base a b c d h = refl
+none_chosen false true false true Wait smbase base a b c d h = refl
+none_chosen true true false false Wait smbase base a b c d h = refl
+none_chosen false true false false Wait smbase base a b c d h = refl
 
 pub asleep_idle : (p : Platform) (s : State) (k : ℕ) → is_asleep (at s k) ≡ true → cpu_due p s k ≡ Idle
 asleep_idle p s k h = none_chosen _ (at s k).present (at s k).smi (at s k).init (at s k).mode (at s k).smbase (at s k).base _ _ _ _ h

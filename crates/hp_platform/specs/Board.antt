@@ -117,15 +117,15 @@ IsFinding b finding.Idle = ⊤
 IsFinding b (finding.Makes f) = IsFound b f
 IsFinding b (finding.Asks k) = ⊤
 
--- a processor that is absent, or waits for SIPI or is halted with nothing latched, has nothing to do
-abbrev pub rests : Mode → Bool
-rests Wait = true
-rests (Running page) = false
-rests (Halted page) = true
-rests (Smm address) = false
+-- outside SMM a processor that is absent, that waits for SIPI, or that is halted with nothing latched has nothing to do
+abbrev pub rests : Mode → Bool → Bool
+rests Wait latched = true
+rests (Running page) latched = false
+rests (Halted page) latched = not latched
+rests (Smm address) latched = false
 
 abbrev pub is_asleep : Cpu → Bool
-is_asleep c = not c.present || rests c.mode && not c.smi && not c.init
+is_asleep c = not c.present || rests c.mode (c.smi || c.init)
 
 -- a processor that is in SMM goes on at this instruction address, with this base
 abbrev pub moved_to : ℕ → ℕ → Cpu → Cpu

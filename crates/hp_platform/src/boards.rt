@@ -47,11 +47,16 @@ pub(crate) fn is_in_smm(cpu: &Cpu) -> bool
     cpu.present && matches!(cpu.mode, Mode::Smm(_))
 }
 
-/// Whether a processor is absent, or waits for SIPI or is halted with nothing latched.
+/// Whether a processor is absent, waits for SIPI, or is halted with nothing latched.
 pub(crate) fn is_asleep(cpu: &Cpu) -> bool
     ensures { result ≡ asleep cpu.now }
 {
-    !cpu.present || matches!(cpu.mode, Mode::Wait | Mode::Halted(_)) && !cpu.smi && !cpu.init
+    !cpu.present
+        || match cpu.mode {
+            Mode::Wait => true,
+            Mode::Halted(_) => !(cpu.smi || cpu.init),
+            Mode::Running(_) | Mode::Smm(_) => false,
+        }
 }
 
 /// The APIC ID of a possible processor.

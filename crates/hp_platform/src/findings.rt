@@ -40,10 +40,10 @@ pub(crate) enum Finding {
 
 impl Found {
     /// The step.
-    pub(crate) fn event(&self) -> Event
-        ensures { result ≡ event_of self.now }
+    pub(crate) fn event(&self) -> &Event
+        ensures { result.now ≡ event_of self.now }
     {
-        match *self {
+        match self {
             Found::Boot(event) | Found::Row(_, _, event) | Found::Plain(event) => event,
         }
     }
@@ -54,7 +54,7 @@ impl Board {
         ensures due { (s : State) → StandsFor self.now s → due_by result ≡ makes_if self.now.platform s (event_of found) }
         ensures found { IsFound self.now found → IsFinding self.now result }
     {
-        if self.machine.enabled(&found.event()) {
+        if self.machine.enabled(found.event()) {
             Finding::Makes(found)
         } else {
             Finding::Idle

@@ -95,7 +95,7 @@ fn make(board: &mut Board, steps: &mut Log<Event, Answer>, found: &Found) -> Ent
     ensures event { result.event ≡ event_of found.now }
     ensures made { HasMade board.old board.new steps.old.items steps.new.items result }
 {
-    let event = found.event();
+    let event = *found.event();
     let at = board.address_of(&event);
     let answer = board.make(found);
     *steps = steps.and(&event, &answer);
