@@ -1,0 +1,6 @@
+pub mod Facts
+pub mod Greatest
+pub mod Changes
+pub mod Moves
+pub mod Knowing
+pub mod Soundness
