@@ -42,7 +42,7 @@ shut_ne_open a b e = true≢false (ap is_shut e)
 not_shut : (d : Words) (a : ℕ) → d.monarch.stage ≡ Shut a → IsOpened d → ⊥
 not_shut d a is y = shut_ne_open a y.apic (sym is ∙ y.stage)
 
-abbrev aim_open : Stage → ℕ
+abbrev pub aim_open : Stage → ℕ
 aim_open (Open a) = a
 aim_open s = 0
 

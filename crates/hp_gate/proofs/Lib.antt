@@ -4,3 +4,4 @@ pub mod Changes
 pub mod Moves
 pub mod Knowing
 pub mod Soundness
+pub mod Telling

@@ -81,10 +81,6 @@ may_open slots id me w a m is stored small room word listed = monarch_moves slot
 closes_to : (m : MonarchView) (a r : ℕ) → m.stage ≡ Open a → after_close r m ≡ record m { stage = cond (eqb r (word_of (opened m) a)) Idle (Shut a); closings = m.closings ++ r ∷ [] }
 closes_to m a r is = ap (λ (s : Stage). record m { stage = stage_closed r (opened m) s; closings = m.closings ++ r ∷ [] }) is
 
-abbrev aim_open : Stage → ℕ
-aim_open (Open a) = a
-aim_open s = 0
-
 pub may_close : (slots id : ℕ) (me : M) (a : ℕ) (m : MonarchView) → me.0 ≡ Monarch m → m.stage ≡ Open a
     → Allows Kept slots id me 0 (λ _. closed) (closes (step slots 0 closed 0 none) me)
 may_close slots id me a m is stage = monarch_moves slots id me 0 (λ _. closed)

@@ -8,7 +8,7 @@ use Rattle.hp_model.specs.SharedBytes.{closed}
 use Rattle.hp_gate.specs.Openings.{apics_of, base_of, opened, IsOpening, word_of, Above, Falls, first_of, names}
 use Rattle.hp_gate.specs.Rule.{gate_word, base_word, flag_word, arrived_word, IsUnfinished, HoldsBase, passes_of, flagged_of, arrived_of}
 use Rattle.hp_gate.specs.declared.views.Named.{Named}
-use Rattle.hp_gate.specs.declared.views.Stage.TheVariants.{Open}
+use Rattle.hp_gate.specs.declared.views.Stage.TheVariants.{Idle, Open}
 use Rattle.hp_gate.specs.declared.views.Work.TheVariants.{Free}
 use Rattle.hp_gate.specs.declared.views.MonarchView.{MonarchView}
 use Rattle.hp_gate.specs.declared.views.CpuView.{CpuView}
@@ -65,3 +65,10 @@ pub record IsSound (s : State (Unit {0}) View) : Type 0 where
   -- flag and arrived are the last passes that were flagged and that have arrived
   pub flag : IsLastOf s flagged_of (slice_index s.words flag_word)
   pub arrived : IsLastOf s arrived_of (slice_index s.words arrived_word)
+
+-- gate, flag and arrived are the same in both, and base is while the monarch isn't idle
+pub record SameWords (s t : State (Unit {0}) View) : Type 0 where
+  pub gate : slice_index s.words gate_word ≡ slice_index t.words gate_word
+  pub flag : slice_index s.words flag_word ≡ slice_index t.words flag_word
+  pub arrived : slice_index s.words arrived_word ≡ slice_index t.words arrived_word
+  pub base : (m : MonarchView) → get_elem? s.views 0 ≡ some (Monarch m) → m.stage ≢ Idle → slice_index s.words base_word ≡ slice_index t.words base_word

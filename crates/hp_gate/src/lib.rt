@@ -10,6 +10,6 @@ mod views;
 
 pub use answers::{Closed, Look, Pass};
 pub use gates::Gate;
-pub use laws::each_opening_is_passed_once;
+pub use laws::{each_opening_is_passed_once, views_tell_the_words};
 pub use seats::{CpuSeat, MonarchSeat};
 pub use views::Named;
