@@ -1,7 +1,7 @@
 -- Steps of the writer: what a failed call leaves, one more digit, one more number.
-use Rattle.std.proofs.Common.{◌≡◌, ℕ, zero, suc, ◌-◌, ◌/◌, ◌%◌, ◌<◌, ◌≤◌, List, [], ◌∷◌, ◌++◌, length, get_or, take, drop, refl, ap, sym, ◌∙◌, append_assoc, append-nil, arith, false, codes}
+use Rattle.std.proofs.Common.{◌≡◌, ℕ, zero, suc, ◌+◌, ◌-◌, ◌/◌, ◌%◌, ◌<◌, ◌≤◌, List, [], ◌∷◌, ◌++◌, length, get_or, take, drop, refl, ap, sym, ◌∙◌, append_assoc, append-nil, arith, false, codes}
 use native.Mathlib.Numerals.{unary_clauses}
-use Rattle.std.proofs.lemmas.Fmt.{decimal_digit}
+use Rattle.std.proofs.lemmas.Fmt.{decimal_digit, decimal_step}
 use Rattle.std.proofs.Math.Seq.{take-append_seam, take-length}
 use Rattle.std.specs.Fmt.{decimal, digit_glyph}
 use Rattle.hp_model.specs.Text.{hex, numbers_text}
@@ -99,7 +99,10 @@ in_sixteen out text digits value is h = rw (is, hex_sixteen value) (h ∙ append
 
 pub ruleset widths = (in_two, in_four, in_eight, in_sixteen, front_facts)
 
-pub ruleset decimal_facts = (decimal_digit, front_facts)
+pub two_digits : (n : ℕ) → 10 ≤ n → n < 100 → decimal n ≡ (48 + n / 10) ∷ (48 + n % 10) ∷ []
+two_digits n lo hi = rw (decimal_step n lo (omega arith), decimal_digit (n / 10) (omega arith)) refl
+
+pub ruleset decimal_facts = (decimal_digit, two_digits, front_facts)
 
 pub ruleset word_facts = (append_assoc, append-nil, front_facts)
 

@@ -125,10 +125,13 @@ pub fn put_decimal(value: u64, out: &mut Vec<u8>) -> Result<(), NoMemory>
     ensures front { OnErr result (Begins out.old.items out.new.items) }
 {
     if value < 10 {
-        Ok(out.push(b'0' + value as u8)?)
+        out.push(b'0' + value as u8)?;
+    } else if value < 100 {
+        out.extend_from_slice(&[b'0' + (value / 10) as u8, b'0' + (value % 10) as u8])?;
     } else {
-        put_long(value, out)
+        put_long(value, out)?;
     }
+    Ok(())
 }
 
 /// Appends a comma and a number.
