@@ -10,6 +10,9 @@ pub mod Schedule
 pub mod Sending
 pub mod Serving
 pub mod Starting
+pub mod Tracing
+pub mod Threading
 pub mod Tracking
 pub mod Turning
 pub mod Words
+pub mod Worlds
