@@ -1,5 +1,6 @@
 pub mod Ids
 pub mod Setting
+pub mod Sleeping
 pub mod Standing
 pub mod Leading
 pub mod Shown

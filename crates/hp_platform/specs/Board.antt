@@ -1,10 +1,12 @@
 -- What contracts see of a machine with its firmware, and which states of the model it shows.
-use Rattle.std.specs.Prelude.{◌≡◌, ⊤, ℕ, Bool, true, false, ◌&&◌, ◌==◌, List, Some, if◌then◌else◌}
+use Rattle.std.specs.Prelude.{◌≡◌, ⊤, ℕ, Bool, true, false, ◌&&◌, ◌||◌, ◌==◌, not, List, Some, if◌then◌else◌}
 use Rattle.hp_model.specs.declared.platforms.Platform.{Platform}
 use Rattle.hp_model.specs.declared.entries.Event.{Event}
 use Rattle.hp_model.specs.declared.entries.Event.TheVariants.{Insert, Remove, Do, TakeSmi, TakeInit, Resume, Tell}
 use Rattle.hp_model.specs.declared.labels.Label.{Label}
 use Rattle.hp_model.specs.declared.processors.Cpu.{Cpu}
+use Rattle.hp_model.specs.declared.processors.Mode.{Mode}
+use Rattle.hp_model.specs.declared.processors.Mode.TheVariants.{Wait, Running, Halted, Smm}
 use Rattle.hp_model.specs.declared.turns.Due.{Due}
 use Rattle.hp_model.specs.declared.turns.Due.TheVariants as due
 use Rattle.hp_model.specs.Boot.{is_booting, is_handed}
@@ -114,6 +116,16 @@ abbrev pub IsFinding : Board → Finding → Type 0
 IsFinding b finding.Idle = ⊤
 IsFinding b (finding.Makes f) = IsFound b f
 IsFinding b (finding.Asks k) = ⊤
+
+-- outside SMM a processor that is absent, that waits for SIPI, or that is halted with nothing latched has nothing to do
+abbrev pub rests : Mode → Bool → Bool
+rests Wait latched = true
+rests (Running page) latched = false
+rests (Halted page) latched = not latched
+rests (Smm address) latched = false
+
+abbrev pub is_asleep : Cpu → Bool
+is_asleep c = not c.present || rests c.mode (c.smi || c.init)
 
 -- a processor that is in SMM goes on at this instruction address, with this base
 abbrev pub moved_to : ℕ → ℕ → Cpu → Cpu

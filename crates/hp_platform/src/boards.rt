@@ -10,7 +10,7 @@ ghost use Rattle.hp_model.specs.Runs.{address_of as address_in};
 ghost use Rattle.hp_model.specs.State.{State, at, start};
 ghost use Rattle.hp_machine.specs.Machine.{StandsFor as MachineStandsFor};
 ghost use Rattle.hp_smm.specs.Rows.{row_for};
-ghost use Rattle.hp_platform.specs.Board.{IsSmmCpu, StandsFor};
+ghost use Rattle.hp_platform.specs.Board.{IsSmmCpu, StandsFor, is_asleep as asleep};
 
 use hp_boot::{Boot, BootStage};
 use hp_image::image;
@@ -45,6 +45,18 @@ pub(crate) fn is_in_smm(cpu: &Cpu) -> bool
     ensures { result ≡ stands_in_smm cpu.now }
 {
     cpu.present && matches!(cpu.mode, Mode::Smm(_))
+}
+
+/// Whether a processor is absent, waits for SIPI, or is halted with nothing latched.
+pub(crate) fn is_asleep(cpu: &Cpu) -> bool
+    ensures { result ≡ asleep cpu.now }
+{
+    !cpu.present
+        || match cpu.mode {
+            Mode::Wait => true,
+            Mode::Halted(_) => !(cpu.smi || cpu.init),
+            Mode::Running(_) | Mode::Smm(_) => false,
+        }
 }
 
 /// The APIC ID of a possible processor.

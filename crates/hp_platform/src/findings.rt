@@ -4,12 +4,13 @@ ghost use Rattle.std.specs.Prelude.{◌≡◌, true, IfSome, is_some, length};
 ghost use Rattle.hp_model.specs.Boot.{is_booting, is_handed};
 ghost use Rattle.hp_model.specs.declared.entries.Event.TheVariants.{Do, Resume, Tell};
 ghost use Rattle.hp_model.specs.Firmware.{is_rsm, is_that_access, is_that_outcome, is_wanted, wanted};
+ghost use Rattle.hp_model.specs.declared.turns.Due.TheVariants.{Idle as IdleDue};
 ghost use Rattle.hp_model.specs.State.{State};
 ghost use Rattle.hp_model.specs.Step.{can_do};
 ghost use Rattle.hp_model.specs.Turn.{boot_due as due_in_boot, cpu_due as due_of_cpu, due_of, handed_due as due_after_boot, makes_if, smm_due};
 ghost use Rattle.hp_platform.specs.Board.{IsFinding, IsFound, StandsFor, due_by, event_of, is_step};
 
-use crate::boards::{Board, is_in_smm};
+use crate::boards::{Board, is_asleep, is_in_smm};
 use crate::comparing::{same_access, same_outcome};
 use hp_boot::BootStage;
 use hp_model::{Access, Actor, Event, Label, Outcome, Want};
@@ -39,10 +40,10 @@ pub(crate) enum Finding {
 
 impl Found {
     /// The step.
-    pub(crate) fn event(&self) -> Event
-        ensures { result ≡ event_of self.now }
+    pub(crate) fn event(&self) -> &Event
+        ensures { result.now ≡ event_of self.now }
     {
-        match *self {
+        match self {
             Found::Boot(event) | Found::Row(_, _, event) | Found::Plain(event) => event,
         }
     }
@@ -53,7 +54,7 @@ impl Board {
         ensures due { (s : State) → StandsFor self.now s → due_by result ≡ makes_if self.now.platform s (event_of found) }
         ensures found { IsFound self.now found → IsFinding self.now result }
     {
-        if self.machine.enabled(&found.event()) {
+        if self.machine.enabled(found.event()) {
             Finding::Makes(found)
         } else {
             Finding::Idle
@@ -94,13 +95,14 @@ impl Board {
         ensures due { (s : State) → StandsFor self.now s → due_by result ≡ due_of_cpu self.now.platform s cpu }
         ensures found { IsFinding self.now result }
     {
-        if !self.platform.delivery.is_late() && self.machine.enabled(&Event::TakeSmi(cpu)) {
+        let processor = self.machine.cpu(cpu);
+        if !self.platform.delivery.is_late() && processor.can_take_smi() {
             return Finding::Makes(Found::Plain(Event::TakeSmi(cpu)));
         }
-        if self.machine.enabled(&Event::TakeInit(cpu)) {
+        if processor.can_take_init() {
             return Finding::Makes(Found::Plain(Event::TakeInit(cpu)));
         }
-        if is_in_smm(&self.machine.cpu(cpu)) {
+        if is_in_smm(&processor) {
             return self.smm_due(cpu);
         }
         if self.machine.enabled(&Event::Do(cpu, Access::Halt)) {
@@ -119,6 +121,20 @@ impl Board {
             Actor::Remove(cpu) => self.makes_if(Found::Plain(Event::Remove(cpu))),
             Actor::Cpu(cpu) => self.cpu_due(cpu),
             Actor::Smi(cpu) => self.makes_if(Found::Plain(Event::TakeSmi(cpu))),
+        }
+    }
+
+    /// Whether it is a turn of a processor that sleeps: a short look that spares most turns without a step the long one.
+    #[tactic(auto, using(crate::proofs::Sleeping::asleep_facts))]
+    pub(crate) fn sleeps(&self, actor: Actor) -> bool
+        ensures { (s : State) → StandsFor self.now s → result ≡ true → due_of self.now.platform s actor ≡ IdleDue }
+    {
+        match self.boot.stage() {
+            BootStage::Handed(_) => match actor {
+                Actor::Cpu(cpu) => is_asleep(&self.machine.cpu(cpu)),
+                Actor::Insert(_) | Actor::Remove(_) | Actor::Smi(_) => false,
+            },
+            BootStage::More | BootStage::Refused(_) => false,
         }
     }
 

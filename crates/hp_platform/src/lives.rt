@@ -95,7 +95,7 @@ fn make(board: &mut Board, steps: &mut Log<Event, Answer>, found: &Found) -> Ent
     ensures event { result.event ≡ event_of found.now }
     ensures made { HasMade board.old board.new steps.old.items steps.new.items result }
 {
-    let event = found.event();
+    let event = *found.event();
     let at = board.address_of(&event);
     let answer = board.make(found);
     *steps = steps.and(&event, &answer);
@@ -123,20 +123,9 @@ impl<A: Agent> Live<A> {
         })
     }
 
-    /// One turn of an actor: its step, if the machine and its firmware have one of it now, and the entry of that step.
-    ///
-    /// Before the hand-over processor 0 alone has steps, those of the boot sequence; after a refusal of the boot nobody has.
-    /// After the hand-over the host inserts an absent processor or requests the removal of one that is present and isn't
-    /// processor 0; a processor takes a latched SMI, else a latched INIT, else in SMM does what its handler wants, and outside
-    /// SMM makes the access that its agent says, where it is running. The SMI of a processor is an actor too; where SMIs may
-    /// come late it alone takes them, and a running processor goes on until then. An access of a width that there is none is made as
-    /// `Nop`, and a value is cut to its width. A step that ejects a processor drops its agent.
-    ///
-    /// Where the step is an agent's, that agent alone is asked, and once: as that processor, at the page where it runs, with the
-    /// answer to its last access. `Idle` comes exactly where there is no step of the actor; no agent is asked then. All this is said
-    /// of each agent but one that the step itself drops: what that one has heard ends with it. Room for what the step writes is
-    /// taken first, so after `NoMemory` no agent was asked and nothing has changed but that room.
-    pub fn turn(&mut self, a: Actor) -> Result<Turn, NoMemory>
+    /// A turn of an actor, as `turn` has it, where the actor may have a step.
+    #[inline(never)]
+    fn take_step(&mut self, a: Actor) -> Result<Turn, NoMemory>
         ensures platform { self.new.platform ≡ self.old.platform }
         ensures turned { IfOk result (IsTurned self.old self.new a) }
         ensures no_memory { OnErr result (self.new ≡ self.old) }
@@ -161,6 +150,30 @@ impl<A: Agent> Live<A> {
                 Ok(Turn::Made(entry))
             }
         }
+    }
+
+    /// One turn of an actor: its step, if the machine and its firmware have one of it now, and the entry of that step.
+    ///
+    /// Before the hand-over processor 0 alone has steps, those of the boot sequence; after a refusal of the boot nobody has.
+    /// After the hand-over the host inserts an absent processor or requests the removal of one that is present and isn't
+    /// processor 0; a processor takes a latched SMI, else a latched INIT, else in SMM does what its handler wants, and outside
+    /// SMM makes the access that its agent says, where it is running. The SMI of a processor is an actor too; where SMIs may
+    /// come late it alone takes them, and a running processor goes on until then. An access of a width that there is none is made as
+    /// `Nop`, and a value is cut to its width. A step that ejects a processor drops its agent.
+    ///
+    /// Where the step is an agent's, that agent alone is asked, and once: as that processor, at the page where it runs, with the
+    /// answer to its last access. `Idle` comes exactly where there is no step of the actor; no agent is asked then. All this is said
+    /// of each agent but one that the step itself drops: what that one has heard ends with it. Room for what the step writes is
+    /// taken first, so after `NoMemory` no agent was asked and nothing has changed but that room.
+    pub fn turn(&mut self, a: Actor) -> Result<Turn, NoMemory>
+        ensures platform { self.new.platform ≡ self.old.platform }
+        ensures turned { IfOk result (IsTurned self.old self.new a) }
+        ensures no_memory { OnErr result (self.new ≡ self.old) }
+    {
+        if self.board.sleeps(a) {
+            return Ok(Turn::Idle);
+        }
+        self.take_step(a)
     }
 
     /// Makes an event, if the machine and its firmware have it as a step now, and gives that step's answer. No agent is asked,

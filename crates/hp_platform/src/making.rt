@@ -108,10 +108,10 @@ impl Board {
         ensures answer { (s : State) → StandsFor self.old s → result ≡ answer_of s (event_of found.now) }
         ensures ejected { self.new.machine.ejected ≡ ejected_by self.old.machine.block self.new.machine.block }
     {
-        match *found {
-            Found::Boot(event) => self.make_boot(&event),
-            Found::Row(smm_cpu, label, event) => self.make_row(&smm_cpu, label, &event),
-            Found::Plain(event) => self.make_plain(&event),
+        match found {
+            Found::Boot(event) => self.make_boot(event),
+            Found::Row(smm_cpu, label, event) => self.make_row(smm_cpu, *label, event),
+            Found::Plain(event) => self.make_plain(event),
         }
     }
 }

@@ -137,6 +137,7 @@ impl<'f> Actors<'f> {
     }
 
     /// The next of them.
+    #[inline(always)]
     pub(crate) fn next(&mut self) -> Option<Actor>
         requires ahead { IsAhead self.old }
         ensures ahead { IsAhead self.new }

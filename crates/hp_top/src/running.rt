@@ -65,14 +65,13 @@ fn make_step<A: Agent, K: Sink>(
         → OnErr result (Cuts c (lines_of (λ w. act p w actor)) (K.held out.old) (K.held out.new)) }
     ensures cause { StopsFor (K.faults out.old) (K.faults out.new) result }
 {
-    let entry = match take_turn(live, actor) {
-        Ok(Turn::Made(entry)) => entry,
-        Ok(Turn::Idle) => return Ok(0),
-        Err(NoMemory) => return Err(WriteStop::NoMemory),
-    };
-    match send_line(&entry, text, out) {
-        Ok(()) => Ok(1),
-        Err(stop) => Err(stop),
+    match take_turn(live, actor) {
+        Ok(Turn::Made(entry)) => match send_line(&entry, text, out) {
+            Ok(()) => Ok(1),
+            Err(stop) => Err(stop),
+        },
+        Ok(Turn::Idle) => Ok(0),
+        Err(NoMemory) => Err(WriteStop::NoMemory),
     }
 }
 

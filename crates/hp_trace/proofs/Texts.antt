@@ -1,10 +1,11 @@
 -- Steps of the writer: what a failed call leaves, one more digit, one more number.
-use Rattle.std.proofs.Common.{◌≡◌, ℕ, zero, suc, ◌-◌, ◌/◌, ◌%◌, ◌<◌, ◌≤◌, List, [], ◌∷◌, ◌++◌, length, get_or, take, drop, ap, sym, ◌∙◌, append_assoc, append-nil, arith, false, codes}
+use Rattle.std.proofs.Common.{◌≡◌, ℕ, zero, suc, ◌+◌, ◌-◌, ◌/◌, ◌%◌, ◌<◌, ◌≤◌, List, [], ◌∷◌, ◌++◌, length, get_or, take, drop, refl, ap, sym, ◌∙◌, append_assoc, append-nil, arith, false, codes}
 use native.Mathlib.Numerals.{unary_clauses}
+use Rattle.std.proofs.lemmas.Fmt.{decimal_digit, decimal_step}
 use Rattle.std.proofs.Math.Seq.{take-append_seam, take-length}
 use Rattle.std.specs.Fmt.{decimal, digit_glyph}
 use Rattle.hp_model.specs.Text.{hex, numbers_text}
-use Rattle.hp_trace.specs.Pieces.{Begins, four_of}
+use Rattle.hp_trace.specs.Pieces.{Begins, eight_of, four_of, two_of}
 
 pub begins_itself : (a : List ℕ) → Begins a a
 begins_itself a = record { rest = []; text = append-nil a }
@@ -42,27 +43,68 @@ unfolding hex
 hex_more out zero value h = elim h [ ]
 hex_more out (suc n) value h = simp unary_clauses (sym (append_assoc out (hex n (value / 16)) (digit_glyph false (value % 16) ∷ [])))
 
--- four digits more
-pub hex_four : (out : List ℕ) (digits value : ℕ) → 4 ≤ digits → out ++ hex digits value ≡ (out ++ hex (digits - 4) (value / 0x10000)) ++ four_of value
-unfolding hex
-hex_four out zero value h = absurd (omega (arith, h))
-hex_four out (suc zero) value h = absurd (omega (arith, h))
-hex_four out (suc (suc zero)) value h = absurd (omega (arith, h))
-hex_four out (suc (suc (suc zero))) value h = absurd (omega (arith, h))
-hex_four out (suc (suc (suc (suc n)))) value h =
-    let less : suc (suc (suc (suc n))) - 4 ≡ n = omega arith in
-    let front : value / 16 / 16 / 16 / 16 ≡ value / 0x10000 = omega arith in
-    let third : value / 16 / 16 / 16 % 16 ≡ value / 0x1000 % 16 = omega arith in
-    let second : value / 16 / 16 % 16 ≡ value / 0x100 % 16 = omega arith in
-    rw (less, front, third, second)
-    (ap (λ (text : List ℕ). out ++ text)
-    (ap (λ (text : List ℕ). text ++ digit_glyph false (value % 16) ∷ []) (ap (λ (text : List ℕ). text ++ digit_glyph false (value / 16 % 16) ∷ [])
-    (append_assoc (hex n (value / 0x10000)) (digit_glyph false (value / 0x1000 % 16) ∷ []) (digit_glyph false (value / 0x100 % 16) ∷ []))
-    ∙ append_assoc (hex n (value / 0x10000)) _ (digit_glyph false (value / 16 % 16) ∷ []))
-    ∙ append_assoc (hex n (value / 0x10000)) _ (digit_glyph false (value % 16) ∷ []))
-    ∙ sym (append_assoc out (hex n (value / 0x10000)) (four_of value)))
+pub ruleset hex_facts = (hex_nothing, hex_more, front_facts)
 
-pub ruleset hex_facts = (hex_nothing, hex_more, hex_four, front_facts)
+-- a value's digits, 2, 4, 8 or 16 of them
+pub hex_two : (value : ℕ) → hex 2 value ≡ two_of value
+unfolding hex
+hex_two value = refl
+
+pub hex_four : (value : ℕ) → hex 4 value ≡ four_of value
+unfolding hex
+hex_four value =
+    let third : value / 16 / 16 / 16 ≡ value / 0x1000 = omega arith in
+    let second : value / 16 / 16 ≡ value / 0x100 = omega arith in
+    rw (third, second) refl
+
+pub hex_eight : (value : ℕ) → hex 8 value ≡ eight_of value
+unfolding hex
+hex_eight value =
+    let seventh : value / 16 / 16 / 16 / 16 / 16 / 16 / 16 ≡ value / 0x10000000 = omega arith in
+    let sixth : value / 16 / 16 / 16 / 16 / 16 / 16 ≡ value / 0x1000000 = omega arith in
+    let fifth : value / 16 / 16 / 16 / 16 / 16 ≡ value / 0x100000 = omega arith in
+    let fourth : value / 16 / 16 / 16 / 16 ≡ value / 0x10000 = omega arith in
+    let third : value / 16 / 16 / 16 ≡ value / 0x1000 = omega arith in
+    let second : value / 16 / 16 ≡ value / 0x100 = omega arith in
+    rw (seventh, sixth, fifth, fourth, third, second) refl
+
+-- eight digits more
+hex_more_eight : (n value : ℕ) → hex (suc (suc (suc (suc (suc (suc (suc (suc n)))))))) value ≡ hex n (value / 0x100000000) ++ eight_of value
+unfolding hex
+hex_more_eight n value =
+    let eighth : value / 16 / 16 / 16 / 16 / 16 / 16 / 16 / 16 ≡ value / 0x100000000 = omega arith in
+    let seventh : value / 16 / 16 / 16 / 16 / 16 / 16 / 16 ≡ value / 0x10000000 = omega arith in
+    let sixth : value / 16 / 16 / 16 / 16 / 16 / 16 ≡ value / 0x1000000 = omega arith in
+    let fifth : value / 16 / 16 / 16 / 16 / 16 ≡ value / 0x100000 = omega arith in
+    let fourth : value / 16 / 16 / 16 / 16 ≡ value / 0x10000 = omega arith in
+    let third : value / 16 / 16 / 16 ≡ value / 0x1000 = omega arith in
+    let second : value / 16 / 16 ≡ value / 0x100 = omega arith in
+    rw (eighth, seventh, sixth, fifth, fourth, third, second) (simp append_assoc refl)
+
+pub hex_sixteen : (value : ℕ) → hex 16 value ≡ eight_of (value / 0x100000000) ++ eight_of value
+hex_sixteen value = hex_more_eight 8 value ∙ ap (λ text. text ++ eight_of value) (hex_eight (value / 0x100000000))
+
+-- so many digits are written
+pub in_two : (out text : List ℕ) (digits value : ℕ) → digits ≡ 2 → text ≡ out ++ two_of value → text ≡ out ++ hex digits value
+in_two out text digits value is h = rw (is, hex_two value) h
+
+pub in_four : (out text : List ℕ) (digits value : ℕ) → digits ≡ 4 → text ≡ out ++ four_of value → text ≡ out ++ hex digits value
+in_four out text digits value is h = rw (is, hex_four value) h
+
+pub in_eight : (out text : List ℕ) (digits value : ℕ) → digits ≡ 8 → text ≡ out ++ eight_of value → text ≡ out ++ hex digits value
+in_eight out text digits value is h = rw (is, hex_eight value) h
+
+pub in_sixteen : (out text : List ℕ) (digits value : ℕ) → digits ≡ 16 → text ≡ (out ++ eight_of (value / 0x100000000)) ++ eight_of value → text ≡ out ++ hex digits value
+in_sixteen out text digits value is h = rw (is, hex_sixteen value) (h ∙ append_assoc out (eight_of (value / 0x100000000)) (eight_of value))
+
+pub ruleset widths = (in_two, in_four, in_eight, in_sixteen, front_facts)
+
+pub two_digits : (n : ℕ) → 10 ≤ n → n < 100 → decimal n ≡ (48 + n / 10) ∷ (48 + n % 10) ∷ []
+two_digits n lo hi = rw (decimal_step n lo (omega arith), decimal_digit (n / 10) (omega arith)) refl
+
+pub ruleset decimal_facts = (decimal_digit, two_digits, front_facts)
+
+pub ruleset word_facts = (append_assoc, append-nil, front_facts)
 
 -- the numbers after the first, each behind a comma
 abbrev pub after_commas : List ℕ → List ℕ

@@ -4,8 +4,7 @@ ghost use Rattle.std.specs.Prelude.{◌≡◌, ◌++◌, OnErr, OnOk};
 ghost use Rattle.hp_model.specs.Text.{access_pieces, spell};
 ghost use Rattle.hp_trace.specs.Pieces.{Begins};
 
-use crate::pieces::Piece::{Hex, Number, Word};
-use crate::pieces::put_all;
+use crate::pieces::{Hex, Hex2, Hex4, Hex8, Hex16, Number, Pieces, Word, pieces};
 use hp_model::{Access, NoMemory};
 
 /// Appends an access, and the value that it was answered where it asks for one.
@@ -14,101 +13,67 @@ pub fn put_access(access: Access, seen: u64, out: &mut Vec<u8>) -> Result<(), No
     ensures front { OnErr result (Begins out.old.items out.new.items) }
 {
     match access {
-        Access::Load { addr, width } => put_all(
-            &[
-                Word(b"load "),
-                Number(width as u64),
-                Word(b" "),
-                Hex(8, addr as u64),
-                Word(b" = "),
-                Hex(2 * width as u32, seen),
-            ],
-            out,
-        ),
-        Access::Store { addr, width, value } => put_all(
-            &[
-                Word(b"store "),
-                Number(width as u64),
-                Word(b" "),
-                Hex(8, addr as u64),
-                Word(b" "),
-                Hex(2 * width as u32, value),
-            ],
-            out,
-        ),
+        Access::Load { addr, width } => pieces!(
+            Word(b"load "),
+            Number(width as u64),
+            Word(b" "),
+            Hex8(addr),
+            Word(b" = "),
+            Hex(2 * width as u32, seen)
+        )
+        .put_all(out),
+        Access::Store { addr, width, value } => pieces!(
+            Word(b"store "),
+            Number(width as u64),
+            Word(b" "),
+            Hex8(addr),
+            Word(b" "),
+            Hex(2 * width as u32, value)
+        )
+        .put_all(out),
         Access::Swap {
             addr,
             expected,
             desired,
-        } => put_all(
-            &[
-                Word(b"cas "),
-                Hex(8, addr as u64),
-                Word(b" "),
-                Hex(16, expected),
-                Word(b" "),
-                Hex(16, desired),
-                Word(b" = "),
-                Hex(16, seen),
-            ],
-            out,
-        ),
-        Access::In { port, width } => put_all(
-            &[
-                Word(b"in "),
-                Number(width as u64),
-                Word(b" "),
-                Hex(4, port as u64),
-                Word(b" = "),
-                Hex(2 * width as u32, seen),
-            ],
-            out,
-        ),
-        Access::Out { port, width, value } => put_all(
-            &[
-                Word(b"out "),
-                Number(width as u64),
-                Word(b" "),
-                Hex(4, port as u64),
-                Word(b" "),
-                Hex(2 * width as u32, value as u64),
-            ],
-            out,
-        ),
+        } => pieces!(
+            Word(b"cas "),
+            Hex8(addr),
+            Word(b" "),
+            Hex16(expected),
+            Word(b" "),
+            Hex16(desired),
+            Word(b" = "),
+            Hex16(seen)
+        )
+        .put_all(out),
+        Access::In { port, width } => pieces!(
+            Word(b"in "),
+            Number(width as u64),
+            Word(b" "),
+            Hex4(port),
+            Word(b" = "),
+            Hex(2 * width as u32, seen)
+        )
+        .put_all(out),
+        Access::Out { port, width, value } => pieces!(
+            Word(b"out "),
+            Number(width as u64),
+            Word(b" "),
+            Hex4(port),
+            Word(b" "),
+            Hex(2 * width as u32, value as u64)
+        )
+        .put_all(out),
         Access::CfgRead { reg } => {
-            put_all(
-                &[
-                    Word(b"cfgr "),
-                    Hex(2, reg as u64),
-                    Word(b" = "),
-                    Hex(2, seen),
-                ],
-                out,
-            )
+            pieces!(Word(b"cfgr "), Hex2(reg), Word(b" = "), Hex(2, seen)).put_all(out)
         }
         Access::CfgWrite { reg, value } => {
-            put_all(
-                &[
-                    Word(b"cfgw "),
-                    Hex(2, reg as u64),
-                    Word(b" "),
-                    Hex(2, value as u64),
-                ],
-                out,
-            )
+            pieces!(Word(b"cfgw "), Hex2(reg), Word(b" "), Hex2(value)).put_all(out)
         }
         Access::Icr { high, low } => {
-            put_all(
-                &[
-                    Word(b"icr "),
-                    Hex(8, high as u64),
-                    Word(b" "),
-                    Hex(8, low as u64),
-                ],
-                out,
-            )
+            pieces!(Word(b"icr "), Hex8(high), Word(b" "), Hex8(low)).put_all(out)
         }
-        Access::Halt => put_all(&[Word(b"halt")], out),
-        Access::Nop => put_all(&[Word(b"nop")], out),
+        Access::Halt => pieces!(Word(b"halt")).put_all(out),
+        Access::Nop => pieces!(Word(b"nop")).put_all(out),
     }
 }

@@ -3,10 +3,9 @@
 ghost use Rattle.std.specs.Prelude.{◌≡◌, ◌++◌, OnErr, OnOk, take};
 ghost use Rattle.hp_model.specs.Text.{delivery_pieces, end_text, ext_pieces, head_text, line_of, line_text, spell, truth_text, x2apic_pieces};
 ghost use Rattle.hp_trace.specs.Head.{front_pieces};
-ghost use Rattle.hp_trace.specs.Pieces.{Begins, pieces_text};
+ghost use Rattle.hp_trace.specs.Pieces.{Begins};
 
-use crate::pieces::Piece::{self, Hex, Number, Numbers, Word};
-use crate::pieces::put_all;
+use crate::pieces::{Hex8, Number, Numbers, Pieces, Word, pieces};
 use crate::steps::{put_actor, put_event};
 use hp_model::{Delivery, Entry, Ids, NoMemory, Platform};
 
@@ -30,11 +29,11 @@ fn end_line(out: &mut Vec<u8>) -> Result<(), NoMemory>
 }
 
 #[tactic(auto, using(crate::proofs::Texts::line_facts))]
-fn put_line(pieces: &[Piece], out: &mut Vec<u8>) -> Result<(), NoMemory>
-    ensures text { OnOk result (out.new.items ≡ out.old.items ++ line_of (pieces_text pieces.now)) }
+fn put_line<P: Pieces>(list: &P, out: &mut Vec<u8>) -> Result<(), NoMemory>
+    ensures text { OnOk result (out.new.items ≡ out.old.items ++ line_of (spell (P.pieces list.now))) }
     ensures front { OnErr result (Begins out.old.items out.new.items) }
 {
-    put_all(pieces, out)?;
+    list.put_all(out)?;
     end_line(out)
 }
 
@@ -62,12 +61,12 @@ fn whole_line(written: Result<(), NoMemory>, held: usize, out: &mut Vec<u8>) -> 
 
 /// Appends pieces as a line, or nothing.
 #[tactic(auto, using(crate::proofs::Texts::line_facts))]
-pub(crate) fn append_line(pieces: &[Piece], out: &mut Vec<u8>) -> Result<(), NoMemory>
-    ensures appended { OnOk result (out.new.items ≡ out.old.items ++ line_of (pieces_text pieces.now)) }
+pub(crate) fn append_line<P: Pieces>(list: &P, out: &mut Vec<u8>) -> Result<(), NoMemory>
+    ensures appended { OnOk result (out.new.items ≡ out.old.items ++ line_of (spell (P.pieces list.now))) }
     ensures no_memory { OnErr result (out.new.items ≡ out.old.items) }
 {
     let held = out.len();
-    let written = put_line(pieces, out);
+    let written = put_line(list, out);
     whole_line(written, held, out)
 }
 
@@ -89,30 +88,28 @@ fn put_front(p: &Platform, out: &mut Vec<u8>) -> Result<(), NoMemory>
     ensures text { OnOk result (out.new.items ≡ out.old.items ++ spell (front_pieces p.now)) }
     ensures front { OnErr result (Begins out.old.items out.new.items) }
 {
-    put_all(
-        &[
-            Word(b"platform apic="),
-            Numbers(ids(&p.apic)),
-            Word(b" boot="),
-            Numbers(ids(&p.boot)),
-            Word(b" low="),
-            Hex(8, p.low_memory as u64),
-            Word(b" tseg="),
-            Number(p.tseg_mib as u64),
-            Word(ext_word(p.ext_tseg)),
-            Word(b" features="),
-            Number(p.features),
-            Word(b" polls="),
-            Number(p.polls as u64),
-            Word(b" turns="),
-            Number(p.turns as u64),
-            Word(b" modern="),
-            Word(truth(p.modern)),
-            Word(b" smram="),
-            Word(truth(p.default_smram)),
-        ],
-        out,
+    pieces!(
+        Word(b"platform apic="),
+        Numbers(ids(&p.apic)),
+        Word(b" boot="),
+        Numbers(ids(&p.boot)),
+        Word(b" low="),
+        Hex8(p.low_memory),
+        Word(b" tseg="),
+        Number(p.tseg_mib as u64),
+        Word(ext_word(p.ext_tseg)),
+        Word(b" features="),
+        Number(p.features),
+        Word(b" polls="),
+        Number(p.polls as u64),
+        Word(b" turns="),
+        Number(p.turns as u64),
+        Word(b" modern="),
+        Word(truth(p.modern)),
+        Word(b" smram="),
+        Word(truth(p.default_smram))
     )
+    .put_all(out)
 }
 
 fn put_delivery(delivery: Delivery, out: &mut Vec<u8>) -> Result<(), NoMemory>
@@ -120,8 +117,10 @@ fn put_delivery(delivery: Delivery, out: &mut Vec<u8>) -> Result<(), NoMemory>
     ensures front { OnErr result (Begins out.old.items out.new.items) }
 {
     match delivery {
-        Delivery::Prompt => put_all(&[Word(b" delivery=prompt")], out),
-        Delivery::Late { lag } => put_all(&[Word(b" delivery=late lag="), Number(lag as u64)], out),
+        Delivery::Prompt => pieces!(Word(b" delivery=prompt")).put_all(out),
+        Delivery::Late { lag } => pieces!(Word(b" delivery=late lag="), Number(lag as u64)).put_all(
+            out,
+        ),
     }
 }
 
@@ -132,7 +131,7 @@ fn put_head(p: &Platform, out: &mut Vec<u8>) -> Result<(), NoMemory>
 {
     put_front(p, out)?;
     put_delivery(p.delivery, out)?;
-    put_all(&[Word(x2apic_word(p.x2apic))], out)?;
+    pieces!(Word(x2apic_word(p.x2apic))).put_all(out)?;
     end_line(out)
 }
 
@@ -164,5 +163,5 @@ pub fn end(entries: u64, out: &mut Vec<u8>) -> Result<(), NoMemory>
     ensures appended { OnOk result (out.new.items ≡ out.old.items ++ end_text entries) }
     ensures no_memory { OnErr result (out.new.items ≡ out.old.items) }
 {
-    append_line(&[Word(b"end "), Number(entries)], out)
+    append_line(&pieces!(Word(b"end "), Number(entries)), out)
 }

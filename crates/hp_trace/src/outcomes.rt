@@ -4,18 +4,14 @@ ghost use Rattle.std.specs.Prelude.{◌≡◌, ◌++◌, OnErr, OnOk};
 ghost use Rattle.hp_model.specs.Text.{outcome_pieces, refusal_pieces, spell, three, two, with_status};
 ghost use Rattle.hp_trace.specs.Pieces.{Begins};
 
-use crate::pieces::Piece::{Hex, Number, Word};
-use crate::pieces::put_all;
+use crate::pieces::{Hex2, Number, Pieces, Word, pieces};
 use hp_model::{NoMemory, Outcome, Refusal};
 
 fn put_two(name: &[u8], cpu: u32, second: u64, out: &mut Vec<u8>) -> Result<(), NoMemory>
     ensures text { OnOk result (out.new.items ≡ out.old.items ++ spell (two name.now cpu second)) }
     ensures front { OnErr result (Begins out.old.items out.new.items) }
 {
-    put_all(
-        &[Word(name), Number(cpu as u64), Word(b" "), Number(second)],
-        out,
-    )
+    pieces!(Word(name), Number(cpu as u64), Word(b" "), Number(second)).put_all(out)
 }
 
 fn put_three(
@@ -28,32 +24,22 @@ fn put_three(
     ensures text { OnOk result (out.new.items ≡ out.old.items ++ spell (three name.now cpu apic third)) }
     ensures front { OnErr result (Begins out.old.items out.new.items) }
 {
-    put_all(
-        &[
-            Word(name),
-            Number(cpu as u64),
-            Word(b" "),
-            Number(apic as u64),
-            Word(b" "),
-            Number(third as u64),
-        ],
-        out,
+    pieces!(
+        Word(name),
+        Number(cpu as u64),
+        Word(b" "),
+        Number(apic as u64),
+        Word(b" "),
+        Number(third as u64)
     )
+    .put_all(out)
 }
 
 fn put_with_status(name: &[u8], cpu: u32, status: u8, out: &mut Vec<u8>) -> Result<(), NoMemory>
     ensures text { OnOk result (out.new.items ≡ out.old.items ++ spell (with_status name.now cpu status)) }
     ensures front { OnErr result (Begins out.old.items out.new.items) }
 {
-    put_all(
-        &[
-            Word(name),
-            Number(cpu as u64),
-            Word(b" "),
-            Hex(2, status as u64),
-        ],
-        out,
-    )
+    pieces!(Word(name), Number(cpu as u64), Word(b" "), Hex2(status)).put_all(out)
 }
 
 fn put_refusal(refusal: Refusal, out: &mut Vec<u8>) -> Result<(), NoMemory>

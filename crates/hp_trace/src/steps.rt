@@ -7,8 +7,7 @@ ghost use Rattle.hp_trace.specs.Pieces.{Begins};
 
 use crate::accesses::put_access;
 use crate::outcomes::put_outcome;
-use crate::pieces::Piece::{Hex, Number, Word};
-use crate::pieces::put_all;
+use crate::pieces::{Hex8, Number, Pieces, Word, pieces};
 use hp_model::{Answer, Event, NoMemory};
 
 fn put_cpu(cpu: u32, at: Option<u32>, out: &mut Vec<u8>) -> Result<(), NoMemory>
@@ -16,18 +15,16 @@ fn put_cpu(cpu: u32, at: Option<u32>, out: &mut Vec<u8>) -> Result<(), NoMemory>
     ensures front { OnErr result (Begins out.old.items out.new.items) }
 {
     match at {
-        None => put_all(&[Word(b"p"), Number(cpu as u64), Word(b" ")], out),
+        None => pieces!(Word(b"p"), Number(cpu as u64), Word(b" ")).put_all(out),
         Some(address) => {
-            put_all(
-                &[
-                    Word(b"p"),
-                    Number(cpu as u64),
-                    Word(b" @"),
-                    Hex(8, address as u64),
-                    Word(b" "),
-                ],
-                out,
+            pieces!(
+                Word(b"p"),
+                Number(cpu as u64),
+                Word(b" @"),
+                Hex8(address),
+                Word(b" ")
             )
+            .put_all(out)
         }
     }
 }
@@ -38,7 +35,7 @@ pub fn put_actor(event: Event, at: Option<u32>, out: &mut Vec<u8>) -> Result<(),
     ensures front { OnErr result (Begins out.old.items out.new.items) }
 {
     match event {
-        Event::Insert(_) | Event::Remove(_) => put_all(&[Word(b"host ")], out),
+        Event::Insert(_) | Event::Remove(_) => pieces!(Word(b"host ")).put_all(out),
         Event::Do(cpu, _) | Event::TakeSmi(cpu) | Event::TakeInit(cpu) | Event::Resume(cpu) =>
             put_cpu(cpu, at, out),
         Event::Tell(_) => put_cpu(0, at, out),
@@ -52,14 +49,14 @@ pub fn put_event(event: Event, answer: Answer, out: &mut Vec<u8>) -> Result<(), 
     ensures front { OnErr result (Begins out.old.items out.new.items) }
 {
     match event {
-        Event::Insert(cpu) => put_all(&[Word(b"insert "), Number(cpu as u64)], out),
-        Event::Remove(cpu) => put_all(&[Word(b"remove "), Number(cpu as u64)], out),
+        Event::Insert(cpu) => pieces!(Word(b"insert "), Number(cpu as u64)).put_all(out),
+        Event::Remove(cpu) => pieces!(Word(b"remove "), Number(cpu as u64)).put_all(out),
         Event::Do(_, access) => put_access(access, answer.value(), out),
-        Event::TakeSmi(_) => put_all(&[Word(b"smi")], out),
-        Event::TakeInit(_) => put_all(&[Word(b"init")], out),
-        Event::Resume(_) => put_all(&[Word(b"rsm")], out),
+        Event::TakeSmi(_) => pieces!(Word(b"smi")).put_all(out),
+        Event::TakeInit(_) => pieces!(Word(b"init")).put_all(out),
+        Event::Resume(_) => pieces!(Word(b"rsm")).put_all(out),
         Event::Tell(outcome) => {
-            put_all(&[Word(b"tell ")], out)?;
+            pieces!(Word(b"tell ")).put_all(out)?;
             put_outcome(outcome, out)
         }
     }

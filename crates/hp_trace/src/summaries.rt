@@ -5,7 +5,7 @@ ghost use Rattle.hp_model.specs.declared.entries.Entry.{Entry as AnEntry};
 ghost use Rattle.hp_trace.specs.Summary.{IsSummary, ok_text, summary as summary_of, summary_text, with_entry};
 
 use crate::lines::append_line;
-use crate::pieces::Piece::{Number, Word};
+use crate::pieces::{Number, Pieces, Word, pieces};
 use hp_model::{Entry, Event, NoMemory, Outcome};
 
 /// How many entries a run has, and how many of them tell an outcome of each kind.
@@ -65,7 +65,7 @@ pub fn gen_line(number: u32, s: &Summary, out: &mut Vec<u8>) -> Result<(), NoMem
     ensures no_memory { OnErr result (out.new.items ≡ out.old.items) }
 {
     append_line(
-        &[
+        &pieces!(
             Word(b"gen "),
             Number(number as u64),
             Word(b" entries "),
@@ -75,8 +75,8 @@ pub fn gen_line(number: u32, s: &Summary, out: &mut Vec<u8>) -> Result<(), NoMem
             Word(b" ejected "),
             Number(s.ejected),
             Word(b" refused "),
-            Number(s.refused),
-        ],
+            Number(s.refused)
+        ),
         out,
     )
 }
@@ -87,5 +87,5 @@ pub fn ok_line(entries: u64, out: &mut Vec<u8>) -> Result<(), NoMemory>
     ensures appended { OnOk result (out.new.items ≡ out.old.items ++ ok_text entries) }
     ensures no_memory { OnErr result (out.new.items ≡ out.old.items) }
 {
-    append_line(&[Word(b"ok "), Number(entries)], out)
+    append_line(&pieces!(Word(b"ok "), Number(entries)), out)
 }

@@ -1,0 +1,7 @@
+//! Tests of the gate on atomic words.
+#![tactic(auto)]
+
+#[cfg(test)]
+mod drills;
+#[cfg(test)]
+mod handshakes;
