@@ -11,6 +11,7 @@ use crate::writing::write_all;
 use hp_model::{Entry, Platform};
 
 /// Makes the line of an entry in the buffer, whose content goes, and hands it to the sink.
+#[inline(never)]
 pub(crate) fn send_line<K: Sink>(e: &Entry, text: &mut Vec<u8>, out: &mut K) -> Result<(), WriteStop>
     ensures all { OnOk result (Appends (K.held out.old) (K.held out.new) (line_text e.now)) }
     ensures part { OnErr result (HoldsFront (K.held out.old) (K.held out.new) (line_text e.now)) }
