@@ -24,7 +24,7 @@ use Rattle.hp_top.specs.Turns.{Writes, Cuts, lines_of, output, boot_left, turns_
 use Rattle.hp_top.specs.Lives.{StandsFor}
 use Rattle.hp_top.proofs.Completing.{written}
 use Rattle.hp_top.proofs.Schedule.{after_boot, text_rest, output_rest, head_front, boot_front, refused_sent, turns_front_sent, turns_sent, turns_lines_front, end_front, end_sent}
-use Rattle.hp_top.proofs.Sending.{front_none}
+use Rattle.hp_top.proofs.Sends.{front_none}
 use Rattle.hp_top.proofs.Turning.{some_scene, scene_agrees}
 
 -- the lines of a part, and then the end line

@@ -7,11 +7,11 @@ pub mod Doing
 pub mod Lines
 pub mod Rising
 pub mod Schedule
-pub mod Sending
+pub mod Sends
 pub mod Serving
 pub mod Starting
 pub mod Tracing
-pub mod Threading
+pub mod Threaded
 pub mod Tracking
 pub mod Turning
 pub mod Words

@@ -4,7 +4,7 @@ use Rattle.std.proofs.lemmas.List.{append-nil}
 use Rattle.std.proofs.KnownBytes.{Appends-trans}
 use Rattle.std.specs.Io.KnownBytes.{Appends}
 use Rattle.hp_top.specs.Sent.{IsSent, HoldsFront}
-use Rattle.hp_top.proofs.Sending.{front_part, sent_none}
+use Rattle.hp_top.proofs.Sends.{front_part, sent_none}
 
 module _ (a b : Option (List ℕ)) (first second : List ℕ) where
   -- the first of two parts was sent in part
