@@ -41,7 +41,10 @@ fn an_opening_is_passed_by_whom_it_names(rt: HostRuntime) -> Result<(), Fail> {
         panic!(rt; "{look:?}")
     };
     assert_eq!(rt; gate.name(&mut monarch, 2), 2);
-    assert_eq!(rt; (one.apic(), one.passed(), two.apic(), two.passed()), (1, 1, 2, 0));
+    assert_eq!(rt;
+        (one.apic(), one.passed(), two.apic(), two.passed()),
+        (1, 1, 2, 0)
+    );
     assert_eq!(rt; (monarch.opened(), monarch.idle()), (2, false));
     Ok(())
 }
