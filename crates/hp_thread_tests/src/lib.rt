@@ -4,7 +4,7 @@
 #[cfg(test)]
 mod hosts;
 #[cfg(test)]
-mod meetings;
+mod orders;
 #[cfg(test)]
 mod shares;
 #[cfg(test)]

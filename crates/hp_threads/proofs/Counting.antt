@@ -20,8 +20,7 @@ use Rattle.hp_model.specs.Schedule.{turn_actor}
 use Rattle.hp_platform.specs.declared.worlds.Turn.{Turn}
 use Rattle.hp_platform.specs.declared.worlds.Turn.TheVariants.{Made, Idle}
 use Rattle.hp_platform.specs.World.{IsTurned, World, asked_place, counted, counted_at, idle_place, idle_places, one_more, turns_at, turns_of}
-use Rattle.hp_threads.specs.Shares.{same_actor}
-use Rattle.hp_threads.specs.Sharing.{made_by}
+use Rattle.hp_threads.specs.Sharing.{owned_by, same_actor}
 
 -- where turns are counted
 place_cpu : (count k : ℕ) → k < count → asked_place count (actor.Cpu k) ≡ Some k
@@ -102,8 +101,8 @@ other_smi (Late lag) own k j other = by (own % (lag + 1) == lag)
     by true = ne_eqb k j (λ same. other (sym same))
     by false = refl
 
-pub made_more : (p : Platform) (a : Actor) (es : List Entry) (e : Entry) → made_by p a (es ++ e ∷ []) ≡ made_by p a es + cond (same_actor (owner_of p e.event) a) 1 0
-made_more p a es e = sum_by_push (λ (x : Entry). cond (same_actor (owner_of p x.event) a) 1 0) es e
+pub owned_more : (p : Platform) (a : Actor) (es : List Entry) (e : Entry) → owned_by p a (es ++ e ∷ []) ≡ owned_by p a es + cond (same_actor (owner_of p e.event) a) 1 0
+owned_more p a es e = sum_by_push (λ (x : Entry). cond (same_actor (owner_of p x.event) a) 1 0) es e
 
 -- whose turn it is owns what the turn makes: an SMI has turns of its own only where it may come late
 pub owns : (late : Bool) (a : Actor) (x : Event) → ((j : ℕ) → a ≡ actor.Smi j → late ≡ true) → IsStepBy late a x → actor_of late x ≡ a

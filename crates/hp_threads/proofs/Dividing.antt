@@ -8,7 +8,8 @@ use Rattle.hp_model.specs.declared.entries.Actor.TheVariants.{Cpu, Smi}
 use Rattle.hp_model.specs.declared.platforms.Delivery.{Delivery}
 use Rattle.hp_model.specs.declared.platforms.Delivery.TheVariants.{Prompt, Late}
 use Rattle.hp_model.specs.Schedule.{turn_actor}
-use Rattle.hp_threads.specs.Shares.{same_actor, share, smi_share}
+use Rattle.hp_threads.specs.Shares.{share, smi_share}
+use Rattle.hp_threads.specs.Sharing.{same_actor}
 
 -- whether a processor's own turn of this number is its SMI's
 abbrev is_smi_turn : Delivery → ℕ → Bool

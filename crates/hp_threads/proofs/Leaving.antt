@@ -23,7 +23,7 @@ use Rattle.hp_platform.specs.World.{IsSound, World, idle_place_of, turns_of}
 use Rattle.hp_threads.specs.Leaving.{IsLeft, added}
 use Rattle.hp_threads.specs.Running.{IsKept, IsReady, host_actors}
 use Rattle.hp_threads.specs.Shares.{share, smi_share}
-use Rattle.hp_threads.specs.Sharing.{HadNone, IsOfProcessor, KeepsShare, made_by}
+use Rattle.hp_threads.specs.Sharing.{HadNone, IsOfProcessor, KeepsShare, owned_by}
 use Rattle.hp_threads.specs.Voicing.{IsCarried, carried_from}
 use Rattle.hp_threads.proofs.Counting.{IsAt, cpu_of, turns_cpu}
 use Rattle.hp_threads.proofs.Lists.{get_within}
@@ -128,10 +128,10 @@ module _ (entry w : World) (turns : ℕ) (hosts : List HostEvent) (marks : List 
       by None is = let no : is_some (idle_place_of entry.platform a) ≡ true = has in absurd cc
       by (Some place) is = its_share a (cpu_of (is_late entry.platform.delivery) (count_of entry.platform) a place is)
 
-  few : (a : Actor) → IsOfProcessor entry.platform a → made_by entry.platform a (added entry w) < share entry.platform.delivery a turns →
+  few : (a : Actor) → IsOfProcessor entry.platform a → owned_by entry.platform a (added entry w) < share entry.platform.delivery a turns →
       HadNone entry.platform w.entries (length entry.entries) a
   few a has less =
-      let idle = (keeps a has).fewer (omega (arith, less, ap (made_by entry.platform a) behind)) in
+      let idle = (keeps a has).fewer (omega (arith, less, ap (owned_by entry.platform a) behind)) in
       let was = sound_at.noted.was a idle.place idle.after idle.is_place idle.idle in
       record { after = idle.after; since = idle.since; within = was.within; none = was.none }
 
@@ -141,7 +141,7 @@ module _ (entry w : World) (turns : ℕ) (hosts : List HostEvent) (marks : List 
     entries = kept.entries ∙ ap (λ (es : List Entry). entry.entries ++ es) (sym behind);
     asked = cpus;
     host = kept.host ∙ ap (λ (n : ℕ). slice_index_or entry.asked (count_of entry.platform) 0 + n) all;
-    most = λ a has. let most = (keeps a has).most in omega (arith, ap (made_by entry.platform a) behind, most);
+    most = λ a has. let most = (keeps a has).most in omega (arith, ap (owned_by entry.platform a) behind, most);
     fewer = few;
     follows = λ s is. subst (λ (t : State). Follows entry.platform (carried_from entry t) (added entry w)) (same_Some kept.state s (sym kept.start ∙ is))
         (subst (λ (es : List Entry). Follows entry.platform (carried_from entry kept.state) es) (sym behind) kept.follows);

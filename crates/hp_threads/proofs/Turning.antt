@@ -26,14 +26,14 @@ use Rattle.hp_platform.specs.declared.worlds.Turn.TheVariants.{Made, Idle}
 use Rattle.hp_platform.specs.World.{IsIdle, IsMade, IsSound, IsStepOf, IsTurned, World, agents_of, counted, counted_at, idle_place_of, noted, noted_at}
 use Rattle.hp_platform.proofs.Turning.{taken}
 use Rattle.hp_threads.specs.Running.{IsKept, host_actors}
-use Rattle.hp_threads.specs.Shares.{same_actor, share}
-use Rattle.hp_threads.specs.Sharing.{IsIdleSince, IsShared, KeepsShare, made_by}
+use Rattle.hp_threads.specs.Shares.{share}
+use Rattle.hp_threads.specs.Sharing.{IsIdleSince, IsShared, KeepsShare, owned_by, same_actor}
 use Rattle.hp_threads.specs.Voicing.{IsCarried, carried_from}
 use Rattle.hp_threads.proofs.Lists.{get_within, length-snoc, take_next}
-use Rattle.hp_threads.proofs.Counting.{IsPlaced, counted_here, counted_other, host_proper, idle_host, idle_turn, made_more, no_cpu, no_smi, one_place, other_cpu, other_smi, owns, place_host, place_turn, same-is, turn_no_host, turn_proper}
+use Rattle.hp_threads.proofs.Counting.{IsPlaced, counted_here, counted_other, host_proper, idle_host, idle_turn, owned_more, no_cpu, no_smi, one_place, other_cpu, other_smi, owns, place_host, place_turn, same-is, turn_no_host, turn_proper}
+use Rattle.hp_threads.proofs.Carrying as of_turn
 use Rattle.hp_threads.proofs.Dividing.{cpu_next, smi_next}
 use Rattle.hp_threads.proofs.Hosting.{hosted_idle, hosted_made, hosted_other}
-use Rattle.hp_threads.proofs.Voicing.{TellsMore, carried_more, follows_more, follows_said, last_said, voices_said}
 
 -- what is handed over stays so
 stays_handed : (mib : ℕ) (v : Answer) (g : Stage) → is_handed g ≡ true → is_handed (stage_after mib v g) ≡ true
@@ -42,7 +42,7 @@ stays_handed mib v (Refused fact) is = absurd cc
 stays_handed mib v (Handed requested) is = refl
 
 -- an actor's share: as many entries more as turns of its share
-keeps_on : (entry w w' : World) (es fs : List Entry) (a : Actor) (rose rose' n : ℕ) → KeepsShare entry w es a rose → made_by entry.platform a fs ≡ made_by entry.platform a es + n →
+keeps_on : (entry w w' : World) (es fs : List Entry) (a : Actor) (rose rose' n : ℕ) → KeepsShare entry w es a rose → owned_by entry.platform a fs ≡ owned_by entry.platform a es + n →
     share entry.platform.delivery a rose' ≡ share entry.platform.delivery a rose + n →
     ((place : ℕ) → idle_place_of entry.platform a ≡ Some place → slice_index_or w'.idle place None ≡ slice_index_or w.idle place None) → KeepsShare entry w' fs a rose'
 keeps_on entry w w' es fs a rose rose' n was count part notes = record {
@@ -62,7 +62,7 @@ nothing n = omega arith
 
 -- a processor that had no turn
 shared_same : (entry w w' : World) (turns : ℕ) (es fs : List Entry) (k : ℕ) → IsShared entry w turns es k → slice_index_or w'.asked k 0 ≡ slice_index_or w.asked k 0 →
-    made_by entry.platform (Cpu k) fs ≡ made_by entry.platform (Cpu k) es + 0 → made_by entry.platform (Smi k) fs ≡ made_by entry.platform (Smi k) es + 0 →
+    owned_by entry.platform (Cpu k) fs ≡ owned_by entry.platform (Cpu k) es + 0 → owned_by entry.platform (Smi k) fs ≡ owned_by entry.platform (Smi k) es + 0 →
     ((place : ℕ) → idle_place_of entry.platform (Cpu k) ≡ Some place → slice_index_or w'.idle place None ≡ slice_index_or w.idle place None) →
     ((place : ℕ) → idle_place_of entry.platform (Smi k) ≡ Some place → slice_index_or w'.idle place None ≡ slice_index_or w.idle place None) → IsShared entry w' turns fs k
 shared_same entry w w' turns es fs k was ns own smi notes smi_notes = record {
@@ -106,61 +106,43 @@ module _ (entry old new : World) (turns : ℕ) (hosts : List HostEvent) (marks :
   small : (place rose : ℕ) → slice_index_or old.asked place 0 ≡ slice_index_or entry.asked place 0 + rose → rose < 2 ^ 63 → slice_index_or old.asked place 0 < 2 ^ 64 - 1
   small place rose is little = omega (arith, is, little, kept.ready.small place)
 
+  carried_before : IsCarried p c before
+  carried_before = record { run = kept.carried.run; voices = kept.carried.voices; last = kept.carried.last }
+
   -- an entry more: what is the same whose turn it was
   module _ (a : Actor) (proper : (j : ℕ) → a ≡ Smi j → is_late p.delivery ≡ true) (e : Entry) (made : IsMade before new a e) where
     abbrev fs : List Entry
     fs = kept.added ++ e ∷ []
 
-    abbrev gone : Option ℕ
-    gone = ejected_by c.state.block (after p c.state e.event).state.block
-
-    stepped : IsStepOf before new c.state a e
-    stepped = made.is c.state kept.carried.run
-
-    its_owner : owner_of p e.event ≡ a
-    its_owner = owns (is_late p.delivery) a e.event proper stepped.actor
-
     entries_are : new.entries ≡ entry.entries ++ fs
     entries_are = made.entries ∙ ap (λ (es : List Entry). es ++ e ∷ []) kept.entries ∙ append_assoc entry.entries kept.added (e ∷ [])
 
-    abbrev led : Due → Carried
-    led d = record { state = (after p c.state e.event).state; voices = without_agent gone (voices_by d c); last = last_by d e.answer c.last }
-
-    leads : carried_all p began fs ≡ led (due_of p c.state a)
-    leads = carried_more p began kept.added e ∙ ap (λ (b : Actor). led (due_of p c.state b)) its_owner
+    its_owner : owner_of p e.event ≡ a
+    its_owner = of_turn.its_owner began kept.added before new carried_before a proper e made
 
     handed_on : is_handed (carried_all p began fs).state.stage ≡ true
-    handed_on = ap (λ (d : Carried). is_handed d.state.stage) leads ∙ stays_handed p.tseg_mib (answer_of c.state e.event) c.state.stage kept.handed
+    handed_on = ap (λ (d : Carried). is_handed d.state.stage) (of_turn.leads began kept.added before new carried_before a proper e made)
+        ∙ stays_handed p.tseg_mib (answer_of c.state e.event) c.state.stage kept.handed
 
     follows_on : Follows p began fs
-    follows_on = follows_more p began kept.added e kept.follows
-        (ap (λ (b : Actor). follows_by (due_of p c.state b) c e.event) its_owner
-        ∙ follows_said (agents_of before) (agents_of new) e gone c kept.carried.last kept.carried.voices (due_of p c.state a) stepped.says)
+    follows_on = of_turn.follows_on began kept.added before new carried_before a proper e made kept.follows
 
     carried_on : IsCarried p (carried_all p began fs) new
-    carried_on = subst (λ (d : Carried). IsCarried p d new) (sym leads) (record {
-      run = ap (run p) made.entries ∙ run-more p old.entries e c.state _ kept.carried.run (taken p c.state e stepped.step stepped.answer stepped.address);
-      voices = voices_said (agents_of before) (agents_of new) e gone c kept.carried.last kept.carried.voices (due_of p c.state a) stepped.says;
-      last = last_said (agents_of before) (agents_of new) e gone c kept.carried.last kept.carried.voices (due_of p c.state a) stepped.says;
-    })
+    carried_on = of_turn.carried_on began kept.added before new carried_before a proper e made
 
     -- of each actor as many entries more as it is the one whose turn it was
-    counts : (b : Actor) → made_by p b fs ≡ made_by p b kept.added + cond (same_actor a b) 1 0
-    counts b = made_more p b kept.added e ∙ ap (λ (o : Actor). made_by p b kept.added + cond (same_actor o b) 1 0) its_owner
+    counts : (b : Actor) → owned_by p b fs ≡ owned_by p b kept.added + cond (same_actor a b) 1 0
+    counts b = owned_more p b kept.added e ∙ ap (λ (o : Actor). owned_by p b kept.added + cond (same_actor o b) 1 0) its_owner
 
-    counts_none : (b : Actor) → same_actor a b ≡ false → made_by p b fs ≡ made_by p b kept.added + 0
-    counts_none b other = counts b ∙ ap (λ (t : Bool). made_by p b kept.added + cond t 1 0) other
+    counts_none : (b : Actor) → same_actor a b ≡ false → owned_by p b fs ≡ owned_by p b kept.added + 0
+    counts_none b other = counts b ∙ ap (λ (t : Bool). owned_by p b kept.added + cond t 1 0) other
 
     notes_same : (place : ℕ) → slice_index_or new.idle place None ≡ slice_index_or old.idle place None
     notes_same place = ap (λ (notes : List (Option ℕ)). slice_index_or notes place None) made.idle
 
   -- a turn without an entry
   rested : (a : Actor) → IsIdle before new a → IsCarried p c new
-  rested a idle = record {
-    run = ap (run p) idle.entries ∙ kept.carried.run;
-    voices = subst (λ (vs : List (Option Voice)). TellsMore c.voices vs) (sym idle.voices) kept.carried.voices;
-    last = idle.last ∙ kept.carried.last;
-  }
+  rested a idle = of_turn.rested began kept.added before new carried_before a idle
 
   -- the turn of a processor
   module _ (k : ℕ) (within : k < count) (own : ℕ) (at : slice_index_or old.asked k 0 ≡ slice_index_or entry.asked k 0 + own) (left : own < turns) where
@@ -282,7 +264,7 @@ module _ (entry old new : World) (turns : ℕ) (hosts : List HostEvent) (marks :
         keeps : (b : Actor) → KeepsShare entry old kept.added b own → (t : Bool) → same_actor a b ≡ t → (t ≡ true → a ≡ b) → share p.delivery b (own + 1) ≡ share p.delivery b own + cond (same_actor a b) 1 0 → KeepsShare entry new kept.added b (own + 1)
         keeps b was true is one part = keeps_idle entry old new kept.added b own (own + 1) _ was part (subst (λ (d : Actor). IsIdleSince p new from d) (one refl) idle_since)
         keeps b was false is one part =
-            keeps_on entry old new kept.added kept.added b own (own + 1) 0 was (nothing (made_by p b kept.added)) (part ∙ ap (λ (t : Bool). share p.delivery b own + cond t 1 0) is) (notes_other b is)
+            keeps_on entry old new kept.added kept.added b own (own + 1) 0 was (nothing (owned_by p b kept.added)) (part ∙ ap (λ (t : Bool). share p.delivery b own + cond t 1 0) is) (notes_other b is)
 
         cpu : (j : ℕ) → j < count → (j ≡ k) ⊎ (j ≡ k → ⊥) → IsShared entry new turns kept.added j
         cpu j inside (inl is) = subst (λ (i : ℕ). IsShared entry new turns kept.added i) (sym is) (record {
@@ -293,7 +275,7 @@ module _ (entry old new : World) (turns : ℕ) (hosts : List HostEvent) (marks :
           smi = keeps (Smi k) was_smi (same_actor a (Smi k)) refl (same-is a (Smi k)) (smi_next p.delivery own k);
         })
         cpu j inside (inr other) = shared_same entry old new turns kept.added kept.added j (kept.cpus j inside) (same_there idle.asked j other)
-            (nothing (made_by p (Cpu j) kept.added)) (nothing (made_by p (Smi j) kept.added))
+            (nothing (owned_by p (Cpu j) kept.added)) (nothing (owned_by p (Smi j) kept.added))
             (notes_other (Cpu j) (other_cpu p.delivery own k j other)) (notes_other (Smi j) (other_smi p.delivery own k j other))
 
     turn_counts : (t : Turn) → IsTurned before new a t → new.asked ≡ counted count a old.asked
@@ -381,7 +363,7 @@ module _ (entry old new : World) (turns : ℕ) (hosts : List HostEvent) (marks :
       entries = idle.entries ∙ kept.entries;
       handed = kept.handed;
       cpus = λ j inside. shared_same entry old new turns kept.added kept.added j (kept.cpus j inside) (cpus_same idle.asked j inside)
-          (nothing (made_by p (Cpu j) kept.added)) (nothing (made_by p (Smi j) kept.added)) (λ place there. notes_same_host place) (λ place there. notes_same_host place);
+          (nothing (owned_by p (Cpu j) kept.added)) (nothing (owned_by p (Smi j) kept.added)) (λ place there. notes_same_host place) (λ place there. notes_same_host place);
       host = host_more idle.asked;
       marked = marked_more;
       follows = kept.follows;

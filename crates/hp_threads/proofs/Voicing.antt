@@ -1,4 +1,4 @@
--- One entry more follows its voice.
+-- Entries that follow voices: one more, others behind them, and by fewer voices that are told.
 use Rattle.std.proofs.Common.{◌≡◌, ◌≢◌, ℕ, zero, suc, Bool, true, false, ◌&&◌, ◌==◌, List, [], ◌∷◌, ◌++◌, Option, Some, None, refl, sym, ap, subst, ◌∙◌, eqb-true}
 use Rattle.std.specs.Prelude.{slice_set}
 use Rattle.std.proofs.lemmas.Bool.{and_parts, eqb-false, eq-eqb}
@@ -11,8 +11,11 @@ use Rattle.hp_model.specs.declared.entries.Entry.{Entry}
 use Rattle.hp_model.specs.declared.turns.Due.{Due}
 use Rattle.hp_model.specs.declared.turns.Due.TheVariants as due
 use Rattle.hp_model.specs.Access.{normal, same_access}
+use Rattle.hp_model.specs.Block.{ejected_by}
 use Rattle.hp_model.specs.Following.{Carried, Follows, carried, carried_all, does_that, due_at, follows, follows_by, is_said, last_by, left_of, question_at, voice_told, voices_by, without_agent}
 use Rattle.hp_model.specs.Schedule.{question_in}
+use Rattle.hp_model.specs.State.{State}
+use Rattle.hp_model.specs.Step.{after}
 use Rattle.hp_model.specs.Voices.{Question, Voice, silent, says}
 use Rattle.hp_model.proofs.Same.{same_access-refl}
 use Rattle.hp_agent.specs.Speaking.{Speaks}
@@ -114,3 +117,51 @@ module _ (old new : Agents) (e : Entry) (o : Option ℕ) (c : Carried) (last : o
   last_said due.Idle says = elim says [ ]
   last_said (due.Makes x) says = says.1.last ∙ last
   last_said (due.Asks k) says = says.last ∙ ap (λ (ls : List Answer). slice_set ls k e.answer) last
+
+-- some entries, and then others
+pub carried_both : (p : Platform) (c : Carried) (es fs : List Entry) → carried_all p c (es ++ fs) ≡ carried_all p (carried_all p c es) fs
+unfolding carried_all
+carried_both p c [] fs = refl
+carried_both p c (e ∷ es) fs = carried_both p (carried p c e) es fs
+
+pub follows_both : (p : Platform) (c : Carried) (es fs : List Entry) → Follows p c es → Follows p (carried_all p c es) fs → Follows p c (es ++ fs)
+unfolding follows carried_all
+follows_both p c [] fs first second = second
+follows_both p c (e ∷ es) fs first second =
+    let parts = and_parts (follows_by (due_at p c e) c e.event) (follows p (carried p c e) es) first in
+    both (follows_by (due_at p c e) c e.event) (follows p (carried p c e) (es ++ fs)) parts.0 (follows_both p (carried p c e) es fs parts.1 second)
+
+-- entries that follow voices follow the fewer of them that are told
+abbrev pub carried_of : State → List (Option Voice) → List Answer → Carried
+carried_of s vs last = record { state = s; voices = vs; last = last }
+
+said_fewer : (d : Due) (s : State) (vs ws : List (Option Voice)) (last : List Answer) (x : Event) → TellsMore vs ws → follows_by d (carried_of s ws last) x ≡ true → follows_by d (carried_of s vs last) x ≡ true
+said_fewer due.Idle s vs ws last x more so = refl
+said_fewer (due.Makes e) s vs ws last x more so = refl
+said_fewer (due.Asks k) s vs ws last x more so = by (voice_told vs k) refl
+  where
+    by : (o : Option Voice) → voice_told vs k ≡ o → is_said o (question_in s k last) k x ≡ true
+    by None is = refl
+    by (Some v) is = ap (λ (o : Option Voice). is_said o (question_in s k last) k x) (sym (more k v is)) ∙ so
+
+voices_fewer : (d : Due) (s : State) (vs ws : List (Option Voice)) (last : List Answer) → TellsMore vs ws → TellsMore (voices_by d (carried_of s vs last)) (voices_by d (carried_of s ws last))
+voices_fewer due.Idle s vs ws last more = more
+voices_fewer (due.Makes e) s vs ws last more = more
+voices_fewer (due.Asks k) s vs ws last more =
+    set_tells vs ws k (left_of (voice_told vs k) (question_in s k last)) (left_of (voice_told ws k) (question_in s k last)) more
+    (λ v told. left_is ws k (question_in s k last) ∙ by v (voice_told vs k) refl (sym (left_is vs k (question_in s k last)) ∙ told))
+  where
+    by : (v : Voice) (o : Option Voice) → voice_told vs k ≡ o → left_of o (question_in s k last) ≡ Some v → left_of (voice_told ws k) (question_in s k last) ≡ Some v
+    by v None is left = cc
+    by v (Some u) is left = ap (λ (o : Option Voice). left_of o (question_in s k last)) (more k u is) ∙ left
+
+pub follows_fewer : (p : Platform) (s : State) (vs ws : List (Option Voice)) (last : List Answer) (es : List Entry) → TellsMore vs ws → Follows p (carried_of s ws last) es → Follows p (carried_of s vs last) es
+unfolding follows
+follows_fewer p s vs ws last [] more so = refl
+follows_fewer p s vs ws last (e ∷ es) more so =
+    let d = due_at p (carried_of s vs last) e in
+    let gone = ejected_by s.block (after p s e.event).state.block in
+    let parts = and_parts (follows_by d (carried_of s ws last) e.event) (follows p (carried p (carried_of s ws last) e) es) so in
+    both (follows_by d (carried_of s vs last) e.event) (follows p (carried p (carried_of s vs last) e) es) (said_fewer d s vs ws last e.event more parts.0)
+    (follows_fewer p (after p s e.event).state (without_agent gone (voices_by d (carried_of s vs last))) (without_agent gone (voices_by d (carried_of s ws last))) (last_by d e.answer last) es
+    (gone_tells gone _ _ (voices_fewer d s vs ws last more)) parts.1)

@@ -1,5 +1,5 @@
 -- Which part of a processor's turns each of its actors has: all where SMIs come at once, and else one in lag + 1 is its SMI's (own rule).
-use Rattle.std.specs.Prelude.{ℕ, Bool, false, ◌==◌, ◌+◌, ◌-◌, ◌/◌}
+use Rattle.std.specs.Prelude.{ℕ, ◌+◌, ◌-◌, ◌/◌}
 use Rattle.hp_model.specs.declared.entries.Actor.{Actor}
 use Rattle.hp_model.specs.declared.entries.Actor.TheVariants.{Insert, Remove, Cpu, Smi}
 use Rattle.hp_model.specs.declared.platforms.Delivery.{Delivery}
@@ -16,21 +16,3 @@ share d (Insert k) turns = 0
 share d (Remove k) turns = 0
 share d (Cpu k) turns = turns - smi_share d turns
 share d (Smi k) turns = smi_share d turns
-
-abbrev pub same_actor : Actor → Actor → Bool
-same_actor (Insert k) (Insert j) = k == j
-same_actor (Insert k) (Remove j) = false
-same_actor (Insert k) (Cpu j) = false
-same_actor (Insert k) (Smi j) = false
-same_actor (Remove k) (Insert j) = false
-same_actor (Remove k) (Remove j) = k == j
-same_actor (Remove k) (Cpu j) = false
-same_actor (Remove k) (Smi j) = false
-same_actor (Cpu k) (Insert j) = false
-same_actor (Cpu k) (Remove j) = false
-same_actor (Cpu k) (Cpu j) = k == j
-same_actor (Cpu k) (Smi j) = false
-same_actor (Smi k) (Insert j) = false
-same_actor (Smi k) (Remove j) = false
-same_actor (Smi k) (Cpu j) = false
-same_actor (Smi k) (Smi j) = k == j

@@ -94,11 +94,11 @@ impl<E: Entered, A: Agent> Running<E, A> {
         })
     }
 
-    /// How many turns of a processor were made since entry.
-    pub(crate) fn made(&self, cpu: u32) -> u32
+    /// How many turns of its own a processor had since entry.
+    pub(crate) fn own_turns(&self, cpu: u32) -> u32
         requires cpu { cpu < count_of E.world.platform }
         ensures within { result ≤ E.turns }
-        ensures made { slice_index_or self.now.world.asked cpu 0 ≡ slice_index_or E.world.asked cpu 0 + result }
+        ensures asked { slice_index_or self.now.world.asked cpu 0 ≡ slice_index_or E.world.asked cpu 0 + result }
     {
         self.world.sound();
         let now = self.world.asked(&Actor::Cpu(cpu));
@@ -109,10 +109,10 @@ impl<E: Entered, A: Agent> Running<E, A> {
     pub(crate) fn turn_cpu(&mut self, cpu: u32) -> Result<(), NoMemory>
         requires cpu { cpu < count_of E.world.platform }
         ensures others { OnOk result ((j : ℕ) → j ≢ cpu → slice_index_or self.new.world.asked j 0 ≡ slice_index_or self.old.world.asked j 0) }
-        ensures made { OnOk result (slice_index_or self.old.world.asked cpu 0 < slice_index_or E.world.asked cpu 0 + E.turns → slice_index_or self.new.world.asked cpu 0 ≡ slice_index_or self.old.world.asked cpu 0 + 1) }
+        ensures asked { OnOk result (slice_index_or self.old.world.asked cpu 0 < slice_index_or E.world.asked cpu 0 + E.turns → slice_index_or self.new.world.asked cpu 0 ≡ slice_index_or self.old.world.asked cpu 0 + 1) }
         ensures marks { OnOk result (self.new.marks ≡ self.old.marks) }
     {
-        let own = self.made(cpu);
+        let own = self.own_turns(cpu);
         if own >= self.turns {
             return Ok(());
         }
@@ -126,7 +126,7 @@ impl<E: Entered, A: Agent> Running<E, A> {
     pub(crate) fn turn_host(&mut self, hosts: &[HostEvent]) -> Result<(), NoMemory>
         requires hosts { hosts.now ≡ E.hosts }
         ensures others { OnOk result ((j : ℕ) → j < count_of E.world.platform → slice_index_or self.new.world.asked j 0 ≡ slice_index_or self.old.world.asked j 0) }
-        ensures made { OnOk result (length self.old.marks < length E.hosts → length self.new.marks ≡ length self.old.marks + 1) }
+        ensures marked { OnOk result (length self.old.marks < length E.hosts → length self.new.marks ≡ length self.old.marks + 1) }
     {
         let next = self.marks.len();
         if next >= hosts.len() {
@@ -143,7 +143,7 @@ impl<E: Entered, A: Agent> Running<E, A> {
     /// How many of the host's events were made.
     pub(crate) fn hosted(&self) -> usize
         ensures within { result ≤ length E.hosts }
-        ensures made { result ≡ length self.now.marks }
+        ensures value { result ≡ length self.now.marks }
     {
         self.marks.len()
     }

@@ -11,7 +11,7 @@ ghost use Rattle.hp_model.specs.State.{State};
 ghost use Rattle.hp_threads.specs.Leaving.{IsLeft, added};
 ghost use Rattle.hp_threads.specs.Running.{IsReady, host_actors};
 ghost use Rattle.hp_threads.specs.Shares.{share};
-ghost use Rattle.hp_threads.specs.Sharing.{HadNone, IsOfProcessor, made_by};
+ghost use Rattle.hp_threads.specs.Sharing.{HadNone, IsOfProcessor, owned_by};
 ghost use Rattle.hp_threads.specs.Voicing.{IsCarried, carried_from};
 
 use crate::choosing::turn_actor;
@@ -102,7 +102,7 @@ fn rest_cpu<E: Entered, A: Agent, P: Pace>(
     ensures all { OnOk result (slice_index_or running.new.world.asked cpu 0 ≡ slice_index_or E.world.asked cpu 0 + E.turns) }
     ensures marks { OnOk result (running.new.marks ≡ running.old.marks) }
 {
-    for turn in running.made(cpu)..turns {
+    for turn in running.own_turns(cpu)..turns {
         pace.before(turn_actor(delivery, turn, cpu), turn);
         running.turn_cpu(cpu)?;
     }
@@ -192,9 +192,10 @@ fn run_named<E: Entered + Send, A: Agent + Send, R: Threads + Wait + Sync, P: Pa
     })
 }
 
-/// Makes so many turns of each processor, and the host's events in their order: those of each processor in a thread of its own, and
-/// the events in one more. Where SMIs may come late, one turn in `lag` + 1 of a processor is its SMI's. Before each turn comes `pace`;
-/// a turn is made while a lock round the world is held. In which order turns fall is left open.
+/// Makes so many turns of each processor, and the host's events in their order. One worker a possible processor makes those of that
+/// processor, and one more the events, each in a thread of its own where one can be made. Before each turn comes `pace`, outside the lock;
+/// the turn is made while a lock round the world is held. Where SMIs may come late, one turn in `lag` + 1 of a processor is its SMI's. In
+/// which order turns fall is left open.
 ///
 /// After `NoMemory` the world is dropped.
 pub fn run<A: Agent + Send, R: Threads + Wait + Sync, P: Pace + Sync>(
@@ -213,8 +214,8 @@ pub fn run<A: Agent + Send, R: Threads + Wait + Sync, P: Pace + Sync>(
     ensures made { IfOk result (λ r. r.made ≡ length (added world r.world)) }
     ensures asked { IfOk result (λ r. (k : ℕ) → k < count_of world.platform → slice_index_or r.world.asked k 0 ≡ slice_index_or world.asked k 0 + turns) }
     ensures asked_host { IfOk result (λ r. slice_index_or r.world.asked (count_of world.platform) 0 ≡ slice_index_or world.asked (count_of world.platform) 0 + length hosts.now) }
-    ensures most { IfOk result (λ r. (a : Actor) → IsOfProcessor world.platform a → made_by world.platform a (added world r.world) ≤ share world.platform.delivery a turns) }
-    ensures fewer { IfOk result (λ r. (a : Actor) → IsOfProcessor world.platform a → made_by world.platform a (added world r.world) < share world.platform.delivery a turns → HadNone world.platform r.world.entries (length world.entries) a) }
+    ensures most { IfOk result (λ r. (a : Actor) → IsOfProcessor world.platform a → owned_by world.platform a (added world r.world) ≤ share world.platform.delivery a turns) }
+    ensures fewer { IfOk result (λ r. (a : Actor) → IsOfProcessor world.platform a → owned_by world.platform a (added world r.world) < share world.platform.delivery a turns → HadNone world.platform r.world.entries (length world.entries) a) }
     ensures follows { IfOk result (λ r. (s : State) → run_of world.platform world.entries ≡ Some s → Follows world.platform (carried_from world s) (added world r.world)) }
     ensures carried { IfOk result (λ r. (s : State) → run_of world.platform world.entries ≡ Some s → IsCarried world.platform (carried_all world.platform (carried_from world s) (added world r.world)) r.world) }
     ensures hosted { IfOk result (λ r. IsHosted world.platform r.world.entries (length world.entries) (host_actors hosts.now) r.marks) }

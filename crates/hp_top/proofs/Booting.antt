@@ -19,12 +19,12 @@ use Rattle.hp_platform.specs.Carrying.{AgreesWith}
 use Rattle.hp_platform.specs.Live.{Live}
 use Rattle.hp_top.specs.Answers.{IsWritten, IsCut}
 use Rattle.hp_top.specs.Sent.{HoldsFront}
-use Rattle.hp_top.specs.Doing.{Sends}
+use Rattle.hp_top.specs.Doing.{Does, HasSent, Sends}
 use Rattle.hp_top.specs.Turns.{Writes, Cuts, lines_of, output, boot_left, turns_text, carried_start, with_voices}
 use Rattle.hp_top.specs.Lives.{StandsFor}
 use Rattle.hp_top.proofs.Completing.{written}
 use Rattle.hp_top.proofs.Schedule.{after_boot, text_rest, output_rest, head_front, boot_front, refused_sent, turns_front_sent, turns_sent, turns_lines_front, end_front, end_sent}
-use Rattle.hp_top.proofs.Sending.{front_none}
+use Rattle.hp_top.proofs.Sends.{front_none}
 use Rattle.hp_top.proofs.Turning.{some_scene, scene_agrees}
 
 -- the lines of a part, and then the end line
@@ -65,11 +65,11 @@ start_is : (p : Platform) (told : List (Option Voice)) (w : Scene) → AgreesWit
 start_is p told w agrees = ap (λ (s : State). scene_of s w.voices w.last) agrees.state ∙ ap (scene_of (start p) w.voices) (agrees.last ∙ quiet_is told w.voices agrees.voices)
 
 -- voices by which the boot makes these entries, and leaves this scene
-record BootsTo (p : Platform) (told : List (Option Voice)) (es : List Entry) (left : Scene) : Type 0 where
-  voices : List Voice
-  agree : Agree told voices
-  entries : (booted p voices).entries ≡ es
-  scene : (booted p voices).scene ≡ left
+pub record BootsTo (p : Platform) (told : List (Option Voice)) (es : List Entry) (left : Scene) : Type 0 where
+  pub voices : List Voice
+  pub agree : Agree told voices
+  pub entries : (booted p voices).entries ≡ es
+  pub scene : (booted p voices).scene ≡ left
 
 module _ (p : Platform) (told : List (Option Voice)) (n : ℕ) (is : n ≡ boot_turns p) where
   pub boot_is : (w : Scene) → AgreesWith (carried_start p told) w → booted p w.voices ≡ act_all p w (boot_left n)
@@ -78,9 +78,9 @@ module _ (p : Platform) (told : List (Option Voice)) (n : ℕ) (is : n ≡ boot_
       ap (λ (m : ℕ). act_all p (scene_start p w.voices) (boot_left m)) (sym is)
       ∙ ap (λ (v : Scene). act_all p v (boot_left n)) (sym (start_is p told w agrees))
 
-  boots_to : (seen : Live) (made : ℕ) (a b : Option (List ℕ)) (boot : Sends p seen (carried_start p told) (λ w. act_all p w (boot_left n)) made a b) (scene : Scene) → AgreesWith boot.left scene →
+  pub boots_to : (seen : Live) (So : List Entry → Type 0) (boot : Does p seen (carried_start p told) (λ w. act_all p w (boot_left n)) So) (scene : Scene) → AgreesWith boot.left scene →
       BootsTo p told boot.entries scene
-  boots_to seen made a b boot scene agrees =
+  boots_to seen So boot scene agrees =
       let m = boot.leads.made scene agrees in
       record {
         voices = m.scene.voices;
@@ -126,7 +126,7 @@ module _ (f : File) (told : List (Option Voice)) (a b : Option (List ℕ)) where
     module _ (seen : Live) (made : ℕ) (boot : Sends f.platform seen (carried_start f.platform told) (λ w. act_all f.platform w (boot_left n)) made b c)
         (o : Option BootFact) (found : o ≡ fact_of seen.state.stage) where
       boots : (scene : Scene) → AgreesWith boot.left scene → BootsTo f.platform told boot.entries scene
-      boots scene agrees = boots_to f.platform told n is seen made b c boot scene agrees
+      boots scene agrees = boots_to f.platform told n is seen (HasSent made b c) boot scene agrees
 
       abbrev Fact : List Voice → Type 0
       Fact vs = o ≡ boot_fact f.platform vs

@@ -68,7 +68,7 @@ module _ (whole : (f : File) (vs : List Voice) → IsSome (run f.platform (sched
     (safety : (p : Platform) (es : List Entry) (s : State) → IsFit p → run p es ≡ Some s → IsSafe p es)
     (stops : (p : Platform) (vs : List Voice) (fact : BootFact) → boot_fact p vs ≡ Some fact → StopsAt fact (booted p vs).entries)
     (alone : (f : File) (all vs : List Voice) → Agree (told_of f (map (λ v. Some v) all)) vs → vs ≡ voices_of f all) where
-  safe_run : (p : Platform) (es : List Entry) → IsFit p → IsSome (run p es) → IsSafe p es
+  pub safe_run : (p : Platform) (es : List Entry) → IsFit p → IsSome (run p es) → IsSafe p es
   safe_run p es fit some = by (run p es) refl some
     where
       by : (o : Option State) → run p es ≡ o → IsSome o → IsSafe p es
@@ -83,7 +83,7 @@ module _ (whole : (f : File) (vs : List Voice) → IsSome (run f.platform (sched
       by None = whole f vs
       by (Some fact) = boot f.platform vs
 
-  are_voices : (f : File) (handed : List (Option Voice)) (vs : List Voice) → Agree (told_of f handed) vs → AreVoices f handed vs
+  pub are_voices : (f : File) (handed : List (Option Voice)) (vs : List Voice) → Agree (told_of f handed) vs → AreVoices f handed vs
   are_voices f handed vs agree = record { agree = agree; exact = λ all told. alone f all vs (subst (λ (os : List (Option Voice)). Agree (told_of f os) vs) told agree) }
 
   cut_run : (bytes : List ℕ) (handed : List (Option Voice)) (old new : Option (List ℕ)) (f : File) → IsReadAs bytes (Ok f) → IsSound f → IsCut f (told_of f handed) old new → IsCutRun bytes handed old new

@@ -7,9 +7,12 @@ pub mod Doing
 pub mod Lines
 pub mod Rising
 pub mod Schedule
-pub mod Sending
+pub mod Sends
 pub mod Serving
 pub mod Starting
+pub mod Tracing
+pub mod Threaded
 pub mod Tracking
 pub mod Turning
 pub mod Words
+pub mod Worlds

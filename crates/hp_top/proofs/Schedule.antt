@@ -9,7 +9,7 @@ use Rattle.hp_model.specs.declared.outcomes.BootFact.{BootFact}
 use Rattle.hp_model.specs.Schedule.{Scene, Made, both_make, act_all, actors_of, turns_from, booted, boot_fact, scheduled}
 use Rattle.hp_model.specs.Voices.{Voice}
 use Rattle.hp_model.specs.Text.{lines_text, end_text, head_text, trace_text}
-use Rattle.hp_top.proofs.Sending.{sent_none, sent_more, sent_all, front_part}
+use Rattle.hp_top.proofs.Sends.{sent_none, sent_more, sent_all, front_part}
 use Rattle.hp_top.proofs.Turning.{lines_text-append}
 use Rattle.hp_top.specs.Sent.{IsSent, HoldsFront}
 use Rattle.hp_top.specs.Turns.{run_text, boot_text, text_by, output, turns_text, with_voices}

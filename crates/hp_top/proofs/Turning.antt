@@ -15,7 +15,7 @@ use Rattle.hp_model.proofs.Agreeing.{some_voices, some_agree}
 use Rattle.hp_platform.specs.Carrying.{AgreesWith, Leads}
 use Rattle.hp_top.specs.Sent.{HoldsFront}
 use Rattle.hp_top.specs.Turns.{Cuts, lines_of, due, past, boot_left}
-use Rattle.hp_top.proofs.Sending.{front_part, front_none}
+use Rattle.hp_top.proofs.Sends.{front_part, front_none}
 
 pub lines_text-append : (es fs : List Entry) → lines_text (es ++ fs) ≡ lines_text es ++ lines_text fs
 lines_text-append [] fs = refl

@@ -17,6 +17,12 @@ are_check [] = false
 are_check (word ∷ []) = bytes_eq word (codes "check")
 are_check (word ∷ (other ∷ words)) = false
 
+-- or `threads` alone
+abbrev pub are_threads : List (List ℕ) → Bool
+are_threads [] = false
+are_threads (word ∷ []) = bytes_eq word (codes "threads")
+are_threads (word ∷ (other ∷ words)) = false
+
 -- a decimal number from 1 to 1000, without a sign or a leading zero
 pub record IsNumber (word : List ℕ) (n : ℕ) : Type 0 where
   pub text : word ≡ decimal n

@@ -13,4 +13,6 @@ pub mod Lives
 pub mod Scripted
 pub mod Sent
 pub mod Stalls
+pub mod Threaded
 pub mod Turns
+pub mod Worlds

@@ -2,7 +2,7 @@
 
 ghost use Rattle.std.specs.Prelude.{◌≡◌, ℕ, None, IfSome, codes, map, string_bytes};
 ghost use Rattle.std.specs.Str.{bytes_eq};
-ghost use Rattle.hp_top.specs.Commands.{AreGen, AreWords, Asks, are_check as are_the_check, are_run as are_the_run};
+ghost use Rattle.hp_top.specs.Commands.{AreGen, AreWords, Asks, are_check as are_the_check, are_run as are_the_run, are_threads as are_the_threads};
 
 use crate::numbers::number_of;
 
@@ -51,6 +51,22 @@ fn are_check(words: &[String]) -> bool
 {
     match words {
         [word] => is_check(word.as_str()),
+        _ => false,
+    }
+}
+
+fn is_threads(word: &str) -> bool
+    ensures { result ≡ bytes_eq word.now (codes "threads") }
+{
+    word == "threads"
+}
+
+/// Or `threads` alone.
+pub(crate) fn are_threads(words: &[String]) -> bool
+    ensures { result ≡ are_the_threads (map string_bytes words.now) }
+{
+    match words {
+        [word] => is_threads(word.as_str()),
         _ => false,
     }
 }

@@ -11,7 +11,6 @@ ghost use Rattle.hp_model.specs.Schedule.{act, act_all, boot_turns as turns_of_b
 ghost use Rattle.hp_model.specs.Voices.{Voice as Told, told_by, told_of};
 ghost use Rattle.hp_agent.specs.Kinds.{own_voice};
 ghost use Rattle.hp_config.specs.Sound.{IsSound};
-ghost use Rattle.hp_model.specs.Text.{head_text, line_text, end_text};
 ghost use Rattle.hp_top.specs.Actors.{IsAhead, actors_from, to_come};
 ghost use Rattle.hp_top.specs.Doing.{Sends};
 ghost use Rattle.hp_top.specs.Faults.{StopsFor};
@@ -24,12 +23,12 @@ ghost use Rattle.hp_top.specs.Handing.{first_for, rest_for};
 
 use crate::acting::Actors;
 use crate::outside::{Sink, WriteStop};
+use crate::sending::{send_end, send_head, send_line};
 use crate::sorting::by_turn;
 use crate::stalling::{Stalled, by_start};
-use crate::writing::write_all;
 use hp_agent::{Agent, Agents, Voice, voice_for};
 use hp_model::{
-    Actor, BootFact, Entry, File, HostEvent, NoMemory, Platform, Stall, VoiceKind, Voices,
+    Actor, BootFact, File, HostEvent, NoMemory, Platform, Stall, VoiceKind, Voices,
 };
 use hp_platform::{Live, Turn, a_turn_is_the_schedules};
 use std::alloc::Global;
@@ -41,46 +40,6 @@ pub(crate) fn boot_turns(p: &Platform) -> u32
     ensures most { result ≤ 29 }
 {
     if p.tseg_mib == 48 { 29 } else { 27 }
-}
-
-/// Makes the line of an entry in the buffer, whose content goes, and hands it to the sink.
-#[inline(never)]
-fn send_line<K: Sink>(e: &Entry, text: &mut Vec<u8>, out: &mut K) -> Result<(), WriteStop>
-    ensures all { OnOk result (Appends (K.held out.old) (K.held out.new) (line_text e.now)) }
-    ensures part { OnErr result (HoldsFront (K.held out.old) (K.held out.new) (line_text e.now)) }
-    ensures cause { StopsFor (K.faults out.old) (K.faults out.new) result }
-{
-    text.clear();
-    if hp_trace::line(e, text).is_err() {
-        return Err(WriteStop::NoMemory);
-    }
-    write_all(out, text.as_slice())
-}
-
-/// The header, likewise.
-fn send_head<K: Sink>(p: &Platform, text: &mut Vec<u8>, out: &mut K) -> Result<(), WriteStop>
-    ensures all { OnOk result (Appends (K.held out.old) (K.held out.new) (head_text p.now)) }
-    ensures part { OnErr result (HoldsFront (K.held out.old) (K.held out.new) (head_text p.now)) }
-    ensures cause { StopsFor (K.faults out.old) (K.faults out.new) result }
-{
-    text.clear();
-    if hp_trace::head(p, text).is_err() {
-        return Err(WriteStop::NoMemory);
-    }
-    write_all(out, text.as_slice())
-}
-
-/// The end line, likewise.
-fn send_end<K: Sink>(entries: u64, text: &mut Vec<u8>, out: &mut K) -> Result<(), WriteStop>
-    ensures all { OnOk result (Appends (K.held out.old) (K.held out.new) (end_text entries)) }
-    ensures part { OnErr result (HoldsFront (K.held out.old) (K.held out.new) (end_text entries)) }
-    ensures cause { StopsFor (K.faults out.old) (K.faults out.new) result }
-{
-    text.clear();
-    if hp_trace::end(entries, text).is_err() {
-        return Err(WriteStop::NoMemory);
-    }
-    write_all(out, text.as_slice())
 }
 
 /// An actor's turn, which makes what the schedule makes of that actor.
@@ -142,7 +101,7 @@ fn make_turns<A: Agent, K: Sink>(
     Ok(made)
 }
 
-fn hosts_in(file: &File) -> &[HostEvent]
+pub(crate) fn hosts_in(file: &File) -> &[HostEvent]
     ensures { result.now ≡ file.now.hosts }
 {
     file.hosts.0.as_slice()
@@ -197,7 +156,7 @@ fn agent_for<A: Agent>(
 
 /// An agent of each of these kinds, for processors of this platform: those of kind handed get these, in their order, as long as there
 /// are some. Those that are left over are dropped.
-fn agents_of<A: Agent>(
+pub(crate) fn agents_of<A: Agent>(
     alloc: Global,
     p: &Platform,
     kinds: Vec<VoiceKind>,

@@ -8,7 +8,7 @@ ghost use Rattle.hp_top.specs.Sent.{HoldsFront};
 use crate::outside::{Sink, WriteStop};
 
 /// Writes the whole text. After an error the sink has grown by a front of it.
-#[tactic(auto, using(crate::proofs::Sending::sending))]
+#[tactic(auto, using(crate::proofs::Sends::sending))]
 pub(crate) fn write_all<K: Sink>(out: &mut K, text: &[u8]) -> Result<(), WriteStop>
     ensures all { OnOk result (Appends (K.held out.old) (K.held out.new) text.now) }
     ensures part { OnErr result (HoldsFront (K.held out.old) (K.held out.new) text.now) }

@@ -5,3 +5,5 @@
 mod edge;
 #[cfg(test)]
 mod handed;
+#[cfg(test)]
+mod meetings;
