@@ -1,6 +1,9 @@
 //! In which order a worker's pace and its turns come: the pace of a turn comes before it, and the worker makes the turn before the
 //! pace of the next one.
 
+ghost use Rattle.std.specs.Prelude.{◌≡◌, true, All};
+ghost use Rattle.hp_model.specs.Hosting.{is_host};
+
 use crate::worlds::{handed_over, repeated};
 use hp_agent::{PenAgent, Voice};
 use hp_model::{Access, Actor, Entry, Event, HostEvent};
@@ -128,7 +131,9 @@ fn try_between<R: Threads + Wait + Abort + Sync>(
     other: Other,
     header: &Header,
     hosts: &[HostEvent],
-) -> Result<(), Fail> {
+) -> Result<(), Fail>
+    requires { All (λ h. is_host h.actor ≡ true) hosts.now }
+{
     let mut voices: Vec<Option<Voice<PenAgent>>> = Vec::new(alloc);
     voices.push(Some(Voice::Script(repeated(alloc, Access::Nop, 8)?)))?;
     voices.push(Some(Voice::Script(repeated(alloc, Access::Nop, 8)?)))?;

@@ -59,7 +59,7 @@ run_from-front p s (e ∷ front) rest some = by (λ t. run_from-front p t front 
     by further None some = cc
     by further (Some t) some = further t some
 
-run-front : (p : Platform) (es front rest : List Entry) → es ≡ front ++ rest → IsSome (run p es) → IsSome (run p front)
+pub run-front : (p : Platform) (es front rest : List Entry) → es ≡ front ++ rest → IsSome (run p es) → IsSome (run p front)
 unfolding run
 run-front p es front rest is some = run_from-front p (start p) front rest (subst (λ (fs : List Entry). IsSome (run_from p (start p) fs)) is some)
 

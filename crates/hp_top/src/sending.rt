@@ -1,6 +1,6 @@
 //! A trace, handed to the sink line by line.
 
-ghost use Rattle.std.specs.Prelude.{◌++◌, length, OnOk, OnErr};
+ghost use Rattle.std.specs.Prelude.{◌≡◌, ◌∷◌, ◌++◌, [], length, None, IfSome, OnOk, OnErr};
 ghost use Rattle.std.specs.Io.KnownBytes.{Appends};
 ghost use Rattle.hp_model.specs.Text.{end_text, head_text, line_text, lines_text, trace_text};
 ghost use Rattle.hp_top.specs.Faults.{StopsFor};
@@ -50,7 +50,19 @@ pub(crate) fn send_end<K: Sink>(entries: u64, text: &mut Vec<u8>, out: &mut K) -
     write_all(out, text.as_slice())
 }
 
+/// The first of entries and those after it.
+fn first_of(entries: &[Entry]) -> Option<(&Entry, &[Entry])>
+    ensures some { IfSome result (λ r. entries.now ≡ r.0.now ∷ r.1.now) }
+    ensures none { result ≡ None → entries.now ≡ [] }
+{
+    match entries {
+        [entry, more @ ..] => Some((entry, more)),
+        [] => None,
+    }
+}
+
 /// The lines of entries, one after another.
+#[tactic(auto, using(crate::proofs::Sends::lines))]
 pub(crate) fn send_lines<K: Sink>(
     entries: &[Entry],
     text: &mut Vec<u8>,
@@ -61,7 +73,7 @@ pub(crate) fn send_lines<K: Sink>(
     ensures cause { StopsFor (K.faults out.old) (K.faults out.new) result }
 {
     let mut rest = entries;
-    'lines: while let [entry, more @ ..] = rest {
+    'lines: while let Some((entry, more)) = first_of(rest) {
         match send_line(entry, text, out) {
             Ok(()) => rest = more,
             Err(stop) => return Err(stop),
@@ -71,6 +83,7 @@ pub(crate) fn send_lines<K: Sink>(
 }
 
 /// The header and the lines of entries.
+#[tactic(auto, using(crate::proofs::Sends::lines))]
 pub(crate) fn send_front<K: Sink>(
     p: &Platform,
     entries: &[Entry],
@@ -88,6 +101,7 @@ pub(crate) fn send_front<K: Sink>(
 }
 
 /// The whole trace of entries.
+#[tactic(auto, using(crate::proofs::Sends::lines))]
 pub(crate) fn send_trace<K: Sink>(
     p: &Platform,
     entries: &[Entry],

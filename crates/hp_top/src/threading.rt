@@ -37,10 +37,8 @@ fn boot_turn<A: Agent>(world: &mut World<A>) -> Result<(), NoMemory>
         → OnOk result ((place : ℕ) → slice_index_or world.new.asked place 0 < most + 1) }
 {
     a_turn_is_the_schedules();
-    match world.turn(Actor::Cpu(0)) {
-        Ok(_) => Ok(()),
-        Err(NoMemory) => Err(NoMemory),
-    }
+    let _made = world.turn(Actor::Cpu(0))?;
+    Ok(())
 }
 
 /// So many turns of processor 0.

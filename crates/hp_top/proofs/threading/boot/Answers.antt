@@ -24,3 +24,6 @@ turns-preserved g c = record {
 pub returns-clause-boots : goal.returns-clause-boots
 returns-clause-boots g c = λ p told b.
     subst (λ (xs : List Actor). IsBooting p told (boot_left c.args.turns) xs c.turns.world) (boot_all c.args.turns c.turns._turn (omega arith)) (c.turns.invariant.boots p told b)
+
+pub returns-clause-small : goal.returns-clause-small
+returns-clause-small g c = λ most few place. let less = c.turns.invariant.small most few place in omega (arith, less, c.turns.auto._turn-end)

@@ -4,9 +4,9 @@ use Rattle.hp_threads.proofs.Counting.{turned_small}
 use Rattle.hp_top.proofs.Worlds.{booting_more}
 use Rattle.hp_top.proofs.threading.boot_turn.Goals as goal
 
-pub returns-in-Ok-clause-boots : goal.returns-in-Ok-clause-boots
-returns-in-Ok-clause-boots g c = λ p told all more b.
-    booting_more c.a_turn_is_the_schedules.ensures p told all more c.args.world.now c.turn.new.self c.turn.ensures.platform b _ c.in-Ok.ensures
+pub returns-clause-boots : goal.returns-clause-boots
+returns-clause-boots g c = λ p told all more b.
+    booting_more c.a_turn_is_the_schedules.ensures p told all more c.args.world.now c.turn.new.self c.turn.ensures.platform b _ c.in_ok-_made.ensures.turned
 
-pub returns-in-Ok-clause-small : goal.returns-in-Ok-clause-small
-returns-in-Ok-clause-small g c = λ most few. turned_small c.args.world.now c.turn.new.self (Cpu 0) _ most c.in-Ok.ensures few
+pub returns-clause-small : goal.returns-clause-small
+returns-clause-small g c = λ most few. turned_small c.args.world.now c.turn.new.self (Cpu 0) _ most c.in_ok-_made.ensures.turned few
