@@ -50,6 +50,9 @@ class Run:
             _, (_, width, address, value) = self.firmware.put("", "release", slot, 1)
             self.machine.memory.store(True, address, width, value)
         self.agents = agents_of(file)
+        self.hosts = {}
+        for turn, what, place in file.hosts:
+            self.hosts.setdefault(turn, []).append((what, place))
         # of each processor in SMM: its handler, and what that wants now
         self.handlers, self.wanted = {}, {}
         self.lines = [header(self.platform)]
@@ -78,8 +81,8 @@ class Run:
 
     def turn(self, number):
         """A turn: the host's events, then the processor's, or its SMI's."""
-        for turn, what, place in self.file.hosts:
-            if turn == number and self.machine.host(what, place):
+        for what, place in self.hosts.get(number, []):
+            if self.machine.host(what, place):
                 self.note("host", f"{what} {place}")
         count = len(self.platform.apic)
         place = number % count
