@@ -172,9 +172,7 @@ class FwCfg:
     def item(self):
         """The bytes of the selected item."""
         if self.key == 0x19:
-            names = (size.to_bytes(4) + key.to_bytes(2) + bytes(2) + f"etc/smi/{name}".encode().ljust(56, b"\0")
-                     for name, size, key in FILES)
-            return len(FILES).to_bytes(4) + b"".join(names)
+            return len(FILES).to_bytes(4) + b"".join(listed(*file) for file in FILES)
         supported = self.supported.to_bytes(8, "little")
         return {0x20: bytes([self.negotiated is not None]), 0x21: bytes(self.request), 0x22: supported}.get(self.key, b"")
 
@@ -222,6 +220,11 @@ class FwCfg:
             self.take(length if length <= 256 else 0)
             return length > 256
         return False
+
+
+def listed(name, size, key):
+    """A file of the directory."""
+    return size.to_bytes(4) + key.to_bytes(2) + bytes(2) + f"etc/smi/{name}".encode().ljust(56, b"\0")
 
 
 def turned(word):

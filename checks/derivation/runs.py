@@ -2,8 +2,8 @@
 
 from agents import Agent, agents_of, script
 from files import Refused
-from firmware import INDICES, Firmware, BootRefused, boot
-from machine import RUNNING, SMM, Machine
+from firmware import INDICES, BootRefused, Firmware, boot
+from machine import RUNNING, SMM, WAIT, Machine
 
 
 def header(platform):
@@ -19,24 +19,22 @@ def header(platform):
     )
 
 
+# how many digits the place of an access has, and which accesses have a width of their own
+DIGITS = {"load": 8, "store": 8, "cas": 8, "in": 4, "out": 4, "cfgr": 2, "cfgw": 2}
+WIDTHS = {"cas": 8, "cfgr": 1, "cfgw": 1}
+
+
 def step_text(access, answer):
     """A step, with its answer."""
     kind, *rest = access
-    if kind in ("load", "store"):
-        values, width, digits = rest[2:], rest[0], 8
-    elif kind in ("in", "out"):
-        values, width, digits = rest[2:], rest[0], 4
-    elif kind == "cas":
-        values, width, digits = rest[1:], 8, 8
-    elif kind in ("cfgr", "cfgw"):
-        values, width, digits = rest[1:], 1, 2
-    elif kind == "icr":
+    if kind == "icr":
         return f"icr {rest[0]:08x} {rest[1]:08x}"
-    else:
+    if kind not in DIGITS:
         return " ".join(map(str, access))
-    front = f"{kind} {width}" if len(rest) > 1 and kind in ("load", "store", "in", "out") else kind
-    place = rest[1] if kind in ("load", "store", "in", "out") else rest[0]
-    text = f"{front} {place:0{digits}x}" + "".join(f" {value:0{2 * width}x}" for value in values)
+    width = WIDTHS.get(kind) or rest.pop(0)
+    front = kind if kind in WIDTHS else f"{kind} {width}"
+    place, *values = rest
+    text = f"{front} {place:0{DIGITS[kind]}x}" + "".join(f" {value:0{2 * width}x}" for value in values)
     return text if answer is None else f"{text} = {answer:0{2 * width}x}"
 
 
@@ -104,7 +102,7 @@ class Run:
             self.enter(place, cpu)
         elif cpu.init and not cpu.smi:
             self.note(f"p{place}", "init")
-            cpu.init, cpu.mode = False, "wait"
+            cpu.init, cpu.mode = False, WAIT
         elif cpu.mode == RUNNING:
             agent = self.agents[place]
             agent.answer = self.make(place, agent.ask(cpu.page))
