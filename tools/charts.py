@@ -4,7 +4,7 @@ from dataclasses import dataclass
 
 import svg
 from legends import legend
-from names import is_hole, label_at, name_of
+from names import is_hole, label_at, reached
 from replay import ABSENT, DEFAULT, HALTED, RUNNING, TSEG, WAITING
 from words import entry_words, is_done, outcome_words, platform_words, refuses_boot
 
@@ -104,7 +104,8 @@ class Chart:
 
     def row_words(self, row):
         """A step, and how often it was made."""
-        return entry_words(self.platform, row.entry) + (f"  ×{row.count}" if row.count > 1 else "")
+        words = entry_words(self.platform, row.entry, self.replay.registers.get(row.entry.number))
+        return words + (f"  ×{row.count}" if row.count > 1 else "")
 
     def left(self, processor):
         """The left edge of a lane."""
@@ -215,8 +216,7 @@ class Chart:
 
 def shared_place(platform, entry):
     """The name of the shared bytes that an entry reaches, None where it reaches none."""
-    reaches = entry.kind in ("load", "store", "cas") and not is_hole(platform, entry)
-    return name_of(platform, entry) if reaches else None
+    return None if is_hole(platform, entry) else reached(platform, entry)
 
 
 def finds(store, entry):

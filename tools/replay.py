@@ -6,71 +6,15 @@ and whom a write of the register block ejects.
 
 from dataclasses import dataclass
 
+from blocks import Block
 from names import DEFAULT_SMBASE, TILE, interrupt_of
+from registers import Registers
 
 ABSENT, WAITING, RUNNING, HALTED, DEFAULT, TSEG = "absent", "waiting", "running", "halted", "default", "tseg"
 
-APM_CNT, SMI_EN, BLOCK = 0xB2, 0x630, 0xCD8
+APM_CNT, SMI_EN = 0xB2, 0x630
 APMC_EN = 1 << 5
 BROADCAST = 1
-
-
-@dataclass
-class Slot:
-    """What the register block keeps of one processor."""
-
-    enabled: bool
-    inserting: bool = False
-    removing: bool = False
-    ejecting: bool = False
-
-    @property
-    def has_event(self):
-        """The search finds it."""
-        return self.inserting or self.removing or self.ejecting
-
-
-class Block:
-    """The processor hot-plug register block, as far as ejects depend on it."""
-
-    def __init__(self, platform):
-        self.can_switch = platform.modern
-        self.modern = False
-        self.selector = 0
-        self.slots = [Slot(enabled=place in platform.boot) for place in range(len(platform.apic))]
-
-    def write(self, offset, value):
-        """Writes a register, and answers the processor that this ejects, None where it ejects none."""
-        if not self.modern:
-            self.modern = self.can_switch and offset == 0 and value == 0
-        elif offset == 0:
-            self.selector = value
-        elif self.selector < len(self.slots):
-            if offset == 4:
-                return self.control(value & 0xFF)
-            if offset == 5 and value & 0xFF == 0:
-                self.search()
-        return None
-
-    def control(self, value):
-        """The lowest of bits 1 to 4 acts alone."""
-        slot = self.slots[self.selector]
-        if value & 2:
-            slot.inserting = False
-        elif value & 4:
-            slot.removing = False
-        elif self.selector and slot.enabled and value & 8:
-            slot.enabled = slot.ejecting = False
-            return self.selector
-        elif self.selector and slot.enabled and value & 16:
-            slot.ejecting = True
-        return None
-
-    def search(self):
-        """Command 0: the next processor with an event, from the selector upward and round."""
-        count = len(self.slots)
-        places = ((self.selector + step) % count for step in range(count))
-        self.selector = next((place for place in places if self.slots[place].has_event), self.selector)
 
 
 class Machine:
@@ -110,29 +54,18 @@ class Machine:
 
     def changed(self, entry, landing):
         """The same, before it is noted."""
+        ejected = self.block.step(entry)
+        if ejected is not None:
+            return {ejected: ABSENT}
         if entry.kind == "insert":
-            self.block.slots[entry.processor].enabled = self.block.slots[entry.processor].inserting = True
             return {entry.processor: WAITING}
-        if entry.kind == "remove":
-            self.block.slots[entry.processor].removing = True
-            return {}
-        if entry.kind == "out":
-            return self.written(entry)
+        if entry.kind == "out" and is_at(entry, SMI_EN, 4):
+            self.smi_enabled = bool(entry.value("value") & APMC_EN)
         if entry.kind == "icr":
             kind, hit = self.hits(entry) or (None, [])
             return {place: RUNNING for place in hit if kind == "SIPI" and self.modes[place] == WAITING}
         mode = {"smi": landing, "init": WAITING, "halt": HALTED, "rsm": RUNNING}.get(entry.kind)
         return {entry.actor: mode} if mode else {}
-
-    def written(self, entry):
-        """A port write."""
-        port, value = entry.value("place"), entry.value("value")
-        if is_at(entry, SMI_EN, 4):
-            self.smi_enabled = bool(value & APMC_EN)
-        if BLOCK <= port < BLOCK + 12:
-            ejected = self.block.write(port - BLOCK, value)
-            return {} if ejected is None else {ejected: ABSENT}
-        return {}
 
 
 def is_at(entry, port, width):
@@ -171,10 +104,11 @@ def is_default(address):
 
 @dataclass
 class Replay:
-    """A trace, played: each processor's changes of mode by entry number, and of each entry whom it hits with what."""
+    """A trace, played: each processor's changes of mode by entry number, whom each entry hits with what, and at which register it is."""
 
     changes: list
     hits: dict
+    registers: dict
 
     def spans(self, processor, first, last):
         """The modes of a processor over these entries, as number, number behind, mode."""
@@ -191,11 +125,15 @@ def replay(platform, entries):
     machine = Machine(platform)
     changes = [[(1, mode)] for mode in machine.modes]
     found = landings(platform, entries)
-    hits = {}
+    registers = Registers(platform)
+    hits, at = {}, {}
     for entry in entries:
+        register = registers.step(entry)
+        if register:
+            at[entry.number] = register
         hit = machine.hits(entry)
         if hit:
             hits[entry.number] = hit
         for place, mode in machine.step(entry, found.get(entry.number)).items():
             changes[place].append((entry.number + (entry.kind == "rsm"), mode))
-    return Replay(changes, hits)
+    return Replay(changes, hits, at)
