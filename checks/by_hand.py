@@ -121,3 +121,23 @@ STAYS = [
     ("p0 in 4 0cd8 = 00000003", "p0 in cpu_bitmap = 00000003 (p0, p1)"),
     ("p0 in 1 0cdc = 00", "p0 in status = 00"),
 ]
+
+# what `--why` puts behind a line: the first sentence of the row's reason in docs/HANDLERS.md. The front of examples/eject.out
+# and its lines at these labels, with the line as it is annotated
+REASON_COLUMN = 48
+REASONS = [
+    ("p0 out selector 00000000 (to the modern form)", "switches the register block to its modern form"),
+    ("p0 cfgw MCH_ESMRAMC 01 (T_EN, TSEG_1MB)", "T_EN and the size of TSEG: 1, 2, 8 or 48 MiB"),
+    ("p0 out SMI_EN 00000021 (GBL_SMI_EN, APMC_EN)", "SMI_EN: GBL_SMI_EN and APMC_EN"),
+    ("p0 out APM_CNT 04 (CPU_HOTPLUG)", ""),
+    ("p0 smi", ""),
+    ("p0 S2  icr SMI others", "calls all others into SMM, also where broadcast wasn't negotiated"),
+    ("p0 C3  in command_data = 00000001 (p1)", "who was found"),
+    ("p0 C4  in status = 11 (enabled, fw_remove)", "after C3: the status of the one that was found"),
+    ("p1 R2  load map[1] = 01", "one that is to park doesn't look at release"),
+    ("p1 R6  store parked[1] 01", "tells that it parked"),
+    ("p0 E4b out control 08 (eject)", "the eject, once the processor has parked"),
+    ("p0 T   tell ejected processor=1 apic=1 slot=1", "after all that the outcome speaks of"),
+    ("p0 E7  rsm", "the monarch's record stays as it is; its next SMI entry begins anew"),
+]
+LONGEST_REASON = 100
