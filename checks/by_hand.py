@@ -141,3 +141,93 @@ REASONS = [
     ("p0 E7  rsm", "the monarch's record stays as it is; its next SMI entry begins anew"),
 ]
 LONGEST_REASON = 100
+
+# the boot of a platform with a TSEG of 1 MiB and all features, as docs/FORMATS.md has it
+BOOT = """\
+p0 out 4 0cd8 00000000
+p0 out 4 0cd8 00000000
+p0 out 1 0cdd 00
+p0 in 4 0cd8 = 00000000
+p0 cfgw 9c ff
+p0 cfgr 9c = 01
+p0 store 4 0009f000 004e4550
+p0 store 4 00038000 53000001
+p0 store 4 00038004 53000002
+p0 store 4 00038008 53000003
+p0 store 4 0003800c 53000004
+p0 store 4 00038010 53000005
+p0 store 4 00038014 53000006
+p0 store 8 00030000 ffffffffffffffff
+p0 cfgw 9c 02
+p0 cfgw 9e 01
+p0 cfgw 9d 18
+p0 store 8 00001000 080000000a002200
+p0 store 8 00001008 1010000000000000
+p0 out 4 0518 00100000
+p0 load 8 00001010 = 0000000000000007
+p0 store 8 00001000 0800000018002100
+p0 store 8 00001010 0000000000000007
+p0 out 4 0518 00100000
+p0 out 2 0510 0020
+p0 in 1 0511 = 01
+p0 out 4 0630 00000021
+"""
+# four sessions. A write to the register block disturbs one where it is made outside SMM between S2 (@07f28008) and E5
+# (@07f2808c), at any port from 0cd8 to 0ce3: not before S2, not after E5, no read, no other port, none in SMM
+FOUR_SESSIONS = (
+    LEGACY.replace("modern=false", "modern=true").replace("delivery=prompt", "delivery=late lag=3")
+    + BOOT
+    + """\
+host insert 2
+p1 out 4 0cd8 00000002
+p0 smi
+p0 @07f28000 store 1 07f04000 01
+p1 out 1 0cdd 00
+p0 @07f28008 icr 00000000 000c0200
+p1 in 4 0ce0 = 00000002
+p1 store 1 0009f010 01
+p0 @07f28088 tell gateheld 2 17 1
+p0 @07f2808c store 1 07f04000 00
+p1 out 1 0cdc 02
+p0 @07f28094 rsm
+p0 smi
+p0 @07f28008 icr 00000000 000c0200
+p1 out 4 0cda 00000000
+p1 out 1 0ce3 00
+p1 out 1 0ce4 00
+p0 @07f28018 out 1 0cdd 00
+p0 @07f28088 tell foreign 2 0
+p0 @07f28088 tell added 2 17 2
+p0 @07f2808c store 1 07f04000 00
+p0 @07f28094 rsm
+p0 smi
+p0 @07f28094 rsm
+p0 smi
+p0 @07f28008 icr 00000000 000c0200
+p1 out 1 0cdc 10
+host remove 1
+"""
+)
+FOUR_SUMMED_UP = """\
+platform    3 possible processors, 128 MiB of RAM, TSEG of 1 MiB at 07f00000, SMIs late, lag 3
+entries     55: 27 of the boot, 2 of the host, 13 outside SMM, 13 in SMM; no end line
+boot        handed over after 27 accesses
+processors  3 possible: 2 at boot, 1 inserted, 1 asked to go, 0 ejected, 3 at the end
+sessions    4: 2 undisturbed, 2 disturbed; the last one isn't at its end
+            session 1, entries 30 to 39, undisturbed: GateHeld p2
+            session 2, entries 40 to 49, disturbed by p1 in entry 42 and 1 more: Foreign p2, added p2
+            session 4, entries 52 on, disturbed by p1 in entry 54: nothing told
+outcomes    3: 1 added, 0 ejected, 2 refused
+refusals    1 GateHeld: an insert event while the add of another APIC ID isn't complete
+            1 Foreign: the APIC ID that was read isn't the processor's, or the processor is 0
+"""
+# a boot that is cut, one that is refused, and one that is handed over and has nothing after it
+BOOTS = [
+    (MODERN + "".join(f"{line}\n" for line in BOOT.splitlines()[:5]), "boot        not at its end: 5 of 27 accesses"),
+    (
+        LEGACY + "p0 out 4 0cd8 00000000\np0 out 4 0cd8 00000000\np0 out 1 0cdd 00\np0 in 4 0cd8 = 00000003\n",
+        "boot        refused, NotModern: command data 2 read 00000003",
+    ),
+    (MODERN + BOOT + "end 27\n", "boot        handed over after 27 accesses"),
+    (MODERN + "end 0\n", "boot        not at its end: 0 of 27 accesses"),
+]
