@@ -97,6 +97,33 @@ def landings(platform, entries):
     return found
 
 
+class Latches:
+    """Each processor's SMI latch: it is set by a hit, and cleared by the SMI's entry and by an eject."""
+
+    def __init__(self):
+        self.since, self.spans = {}, {}
+
+    def step(self, entry, hit, changed):
+        """Goes on by an entry, whom it hits with what, and whose mode it changes to what."""
+        gone = [place for place, mode in changed.items() if mode == ABSENT]
+        for place in [*gone, *([entry.actor] if entry.kind == "smi" else [])]:
+            self.clear(place, entry.number)
+        if hit and hit[0] == "SMI":
+            for place in hit[1]:
+                self.since.setdefault(place, entry.number)
+
+    def clear(self, place, number):
+        """The latch is cleared by this entry."""
+        if place in self.since:
+            self.spans.setdefault(place, []).append((self.since.pop(place), number))
+
+    def closed(self, entries):
+        """All spans, those that go on up to the last entry."""
+        for place in list(self.since):
+            self.clear(place, entries[-1].number + 1)
+        return self.spans
+
+
 def is_default(address):
     """An instruction address at the default SMBASE."""
     return DEFAULT_SMBASE <= address < DEFAULT_SMBASE + TILE
@@ -104,11 +131,15 @@ def is_default(address):
 
 @dataclass
 class Replay:
-    """A trace, played: each processor's changes of mode by entry number, whom each entry hits with what, and at which register it is."""
+    """A trace, played: each processor's changes of mode by entry number, whom each entry hits with what, at which register it is.
+
+    And for each processor from which entry to which an SMI is latched.
+    """
 
     changes: list
     hits: dict
     registers: dict
+    latched: dict
 
     def spans(self, processor, first, last):
         """The modes of a processor over these entries, as number, number behind, mode."""
@@ -119,6 +150,18 @@ class Replay:
             if begin < end:
                 yield begin, end, mode
 
+    def pending(self, processor, first, last):
+        """Where an SMI is latched that the processor, outside SMM, hasn't taken yet, as number and number behind."""
+        found = []
+        for begin, end in self.latched.get(processor, []):
+            for begun, ended, mode in self.spans(processor, max(begin, first), min(end - 1, last)):
+                if mode in (DEFAULT, TSEG):
+                    continue
+                if found and found[-1][1] == begun:
+                    begun, _ = found.pop()
+                found.append((begun, ended))
+        return found
+
 
 def replay(platform, entries):
     """A mode changes with the entry that changes it, but for RSM, which is still made in SMM."""
@@ -126,7 +169,7 @@ def replay(platform, entries):
     changes = [[(1, mode)] for mode in machine.modes]
     found = landings(platform, entries)
     registers = Registers(platform)
-    hits, at = {}, {}
+    hits, at, latches = {}, {}, Latches()
     for entry in entries:
         register = registers.step(entry)
         if register:
@@ -134,6 +177,8 @@ def replay(platform, entries):
         hit = machine.hits(entry)
         if hit:
             hits[entry.number] = hit
-        for place, mode in machine.step(entry, found.get(entry.number)).items():
+        changed = machine.step(entry, found.get(entry.number))
+        latches.step(entry, hit, changed)
+        for place, mode in changed.items():
             changes[place].append((entry.number + (entry.kind == "rsm"), mode))
-    return Replay(changes, hits, at)
+    return Replay(changes, hits, at, latches.closed(entries))

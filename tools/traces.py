@@ -67,7 +67,11 @@ OUTCOMES = {
 NUMBER, STATUS = re.compile(N), re.compile(r"[0-9a-f]{2}")
 
 
-class NoTrace(Exception):
+class Refused(Exception):
+    """What is asked for can't be had, and why."""
+
+
+class NoTrace(Refused):
     """What is read is no trace: in which line, counted from 1, and why."""
 
     def __init__(self, line, why):
@@ -271,7 +275,7 @@ def guarded(name, work):
             raise OSError("standard output is closed")
         work()
         sys.stdout.flush()
-    except (NoTrace, OSError) as fault:
+    except (Refused, OSError) as fault:
         with contextlib.suppress(OSError):
             if sys.stdout:
                 sys.stdout.flush()

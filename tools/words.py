@@ -4,6 +4,7 @@ from names import interrupt_of, is_hole, outcome_of, reached
 from replay import ABSENT, DEFAULT, HALTED, RUNNING, TSEG, WAITING
 
 CLOSED = "f" * 16
+FEW = 4
 DONE = {"added", "ejected"}
 MODES = {
     RUNNING: "outside SMM",
@@ -26,6 +27,15 @@ def platform_words(platform):
         f"{count} possible processor{'s' * (count > 1)}, {platform.low >> 20} MiB of RAM, "
         f"TSEG of {platform.tseg_mib} MiB at {platform.tseg:08x}, {delivery}"
     )
+
+
+def places_words(places):
+    """Some processors: a few by name, many by the first and the last, and how many between them aren't meant."""
+    if len(places) <= FEW:
+        return ", ".join(f"p{place}" for place in sorted(places))
+    first, last = min(places), max(places)
+    missing = last - first + 1 - len(places)
+    return f"p{first} to p{last}" + (f", but {missing}" if missing else "")
 
 
 def in_words(name):
