@@ -20,7 +20,7 @@ FILL = {
 }
 SENT = arrow_sample("sent", "interrupt command, or SMI of APM_CNT")
 FOUND = arrow_sample("found", "a shared byte's store, and the load that finds it")
-LATCHED = bar_sample(svg.BAR, 11, svg.SENT, "an SMI is latched, and not taken yet")
+LATCHED = bar_sample(svg.BAR, 11, svg.SENT, "latched SMI, not taken yet")
 
 ROW, LEGEND, LEFT, GAP, MARGIN, INSET, LABEL = 16, 60, 58, 46, 16, 8, 36
 HEADS = 29  # from the legend to the first row
@@ -217,7 +217,7 @@ class Chart:
         if entry.kind == "tell":
             yield svg.flag(x + LABEL, y, outcome_words(entry), svg.GOOD if is_done(entry) else svg.BAD)
         else:
-            yield svg.text(x + LABEL, y, self.row_words(row))
+            yield svg.text(x + LABEL, y, self.row_words(row), colour=svg.BAD if is_hole(self.platform, entry) else svg.INK)
         yield from self.marked(row, y)
 
     def marked(self, row, y):
