@@ -20,7 +20,7 @@ FILL = {
 }
 SENT = arrow_sample("sent", "interrupt command, or SMI of APM_CNT")
 FOUND = arrow_sample("found", "a shared byte's store, and the load that finds it")
-LATCHED = bar_sample(svg.BAR, 11, svg.SENT, "latched SMI, not taken yet")
+LATCHED = bar_sample(svg.BAR, 11, svg.SENT, "latched SMI")
 
 ROW, LEGEND, LEFT, GAP, MARGIN, INSET, LABEL = 16, 60, 58, 46, 16, 8, 36
 HEADS = 29  # from the legend to the first row

@@ -16,7 +16,7 @@ FILL = {
 }
 SESSION = bar_sample(13, 5, svg.SESSION, "session of the monarch")
 DISTURBED = bar_sample(13, 5, svg.BAD, "disturbed session; a tick where it is disturbed")
-LATCHED = bar_sample(13, 2, svg.SENT, "latched SMI, not taken yet")
+LATCHED = bar_sample(13, 2, svg.SENT, "latched SMI")
 LEGEND, LEFT, WIDTH, FLAG, LEVELS = 62, 56, 900, 14, 6
 STRIP = 24  # of the sessions, below the lanes: their bars and numbers
 # how high a lane is, by how many there are at most
