@@ -231,3 +231,45 @@ BOOTS = [
     (MODERN + BOOT + "end 27\n", "boot        handed over after 27 accesses"),
     (MODERN + "end 0\n", "boot        not at its end: 0 of 27 accesses"),
 ]
+
+# a session of 512 processors, all there at boot, with a TSEG of 48 MiB: it begins at 05000000, and slot k's tile at 05020000 +
+# k * 10000. All follow the call. Processor 7 isn't seen, at three looks
+MANY = 512
+SLOTS = range(1, MANY)
+
+
+def many_processors():
+    """The trace."""
+    places = ",".join(map(str, range(MANY)))
+    yield f"platform apic={places} boot={places} low=08000000 tseg=48 features=7 polls=3 turns=0 modern=true smram=true delivery=prompt x2apic=true"
+    yield from BOOT.replace("9c 02\n", "9c 02\np0 cfgw 50 ff\np0 cfgr 50 = 30\n").replace("9e 01", "9e 07").splitlines()
+    yield "p0 out 1 00b2 05"
+    yield "p0 smi"
+    yield from (f"p{slot} smi" for slot in SLOTS)
+    yield "p0 @05028000 store 1 05004000 01"
+    for slot in SLOTS:
+        yield f"p0 @05028004 store 1 {0x5001000 + slot:08x} 00"
+        yield f"p{slot} @{0x5028000 + slot * 0x10000:08x} store 1 {0x5000000 + slot:08x} 01"
+    yield "p0 @05028008 icr 00000000 000c0200"
+    for slot in SLOTS:
+        yield from [f"p0 @0502800c load 1 {0x5000000 + slot:08x} = {'00' if slot == 7 else '01'}"] * (3 if slot == 7 else 1)
+    yield "p0 @05028010 in 1 00b2 = 05"
+    yield "p0 @0502808c store 1 05004000 00"
+    yield from (f"p0 @05028090 store 1 {0x5001000 + slot:08x} 01" for slot in SLOTS)
+    yield "p0 @05028094 rsm"
+
+
+# what its chart says: two lanes, each sweep over the slots in one row, and what the others do beside the row before
+MANY_CHARTED = [
+    "p0, the monarch",
+    "511 others",
+    "p1 to p511",
+    "boot: 29 accesses",
+    "APM_CNT ← 5",
+    "takes the SMI ×511",
+    "release[1 to 511] ← 0  ×511",
+    "R1 ×511",
+    "arrived[1 to 511] → 1 of 510, 0 of 1  ×513",
+    "release[1 to 511] ← 1  ×511",
+]
+MANY_WIDTH, MANY_HEIGHT = 800, 320
