@@ -75,7 +75,7 @@ class Block:
         return None
 
     def order(self, command):
-        """A command; the first one is the search: the next processor with an event, from the selector upward and round."""
+        """A command. The search finds the next processor with an event, from the selector upward and round."""
         self.command = command
         if command == GET_PENDING:
             count = len(self.slots)

@@ -163,7 +163,8 @@ class Chart:
 
     def shade(self, processor, begin, end, mode):
         """A box over these rows of a lane."""
-        return svg.box(self.left(processor), self.y(begin), self.widths[processor], ROW * (end - begin), FILL[mode], svg.LINE)
+        x, y, width = self.left(processor), self.y(begin), self.widths[processor]
+        return svg.box(x, y, width, ROW * (end - begin), FILL[mode], svg.LINE)
 
     def crowded(self):
         """The lane of the crowd: how many of it are in which mode, over all stretches of rows in which that stays."""
@@ -217,7 +218,8 @@ class Chart:
         if entry.kind == "tell":
             yield svg.flag(x + LABEL, y, outcome_words(entry), svg.GOOD if is_done(entry) else svg.BAD)
         else:
-            yield svg.text(x + LABEL, y, self.row_words(row), colour=svg.BAD if is_hole(self.platform, entry) else svg.INK)
+            colour = svg.BAD if is_hole(self.platform, entry) else svg.INK
+            yield svg.text(x + LABEL, y, self.row_words(row), colour=colour)
         yield from self.marked(row, y)
 
     def marked(self, row, y):

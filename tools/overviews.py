@@ -116,7 +116,7 @@ class Overview:
                 shown = right
 
     def all_sessions(self):
-        """A bar for each session below the lanes, its number where there is room, and a tick for each entry that disturbs it."""
+        """A bar a session below the lanes, its number where there is room, and a tick for each entry that disturbs it."""
         free, y = 0.0, self.bottom + 5
         if self.sessions:
             yield svg.text(LEFT - 8, y + 6, "sessions", SMALL, svg.FAINT, "end", font=svg.SANS)

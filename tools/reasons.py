@@ -1,4 +1,4 @@
-"""Why a step stands where it does: one short reason for each label and each access of the boot, read from docs/HANDLERS.md."""
+"""Why a step stands where it does: a short reason for each label and each access of the boot, from docs/HANDLERS.md."""
 
 import os
 import re

@@ -121,8 +121,8 @@ class Registers:
     def configured(self, name, value, is_write):
         """What a value of a lock register says."""
         if name == "MCH_ESMRAMC":
-            other = bits_of(value & ~7, {})
-            return ", ".join([*(["T_EN"] if value & 1 else []), TSEG_SIZES[value >> 1 & 3], *([other] if other else [])])
+            words = ["T_EN" if value & 1 else "", TSEG_SIZES[value >> 1 & 3], bits_of(value & ~7, {})]
+            return ", ".join(filter(None, words))
         if name == "MCH_SMRAM":
             return bits_of(value, BITS[name])
         if is_write and value == QUERY:
@@ -165,7 +165,7 @@ class Registers:
         return Register(name)
 
     def in_legacy(self, name, value, is_write):
-        """The same in the legacy form: a write of 0 at the first port goes over to the modern one, and a read has a bit a processor."""
+        """The same in the legacy form: a write of 0 at the first port leaves it, and a read has a bit a processor."""
         if name == "command_data_2":
             there = [f"p{place}" for place in range(32) if value >> place & 1]
             return Register(BITMAP, ", ".join(there))
@@ -174,7 +174,7 @@ class Registers:
         return Register(name, "ignored in the legacy form" if is_write else "")
 
     def data(self, value):
-        """What command data reads: whom the search has found, or an APIC ID; nothing is said of one that the width has cut."""
+        """What command data reads: whom the search has found, or an APIC ID; nothing where the width has cut it."""
         selected = self.block.selector
         if self.block.command == GET_PENDING and value == selected:
             return self.place(value)

@@ -131,9 +131,9 @@ def is_default(address):
 
 @dataclass
 class Replay:
-    """A trace, played: each processor's changes of mode by entry number, whom each entry hits with what, at which register it is.
+    """A trace, played: each processor's changes of mode by entry number, and from which entry to which it has an SMI latched.
 
-    And for each processor from which entry to which an SMI is latched.
+    And of each entry whom it hits with what, and at which register it is.
     """
 
     changes: list

@@ -1,4 +1,4 @@
-"""The rows of a chart: one an entry, where a loop's rounds, a sweep over many slots and the steps of a crowd are folded."""
+"""The rows of a chart: one an entry. Rounds of a loop, sweeps over many slots and the steps of a crowd are folded."""
 
 from collections import Counter
 from dataclasses import dataclass, field
@@ -17,7 +17,7 @@ CALM, PEN_BYTE = {"smi", "halt", "nop"}, "pen_byte"
 
 @dataclass
 class Row:
-    """An entry and how often it was made. A note stands for entries that are folded up to that one, `words` for a sweep.
+    """An entry and how often it was made. A note stands for entries folded up to that one, `words` for a sweep.
 
     `others` counts what the crowd does from this row to the next.
     """

@@ -1,8 +1,8 @@
 """The monarch's sessions in a trace: where each begins and ends, what it tells, and who disturbs it.
 
 A session is the entries from an SMI entry of processor 0 to its RSM. Its monarch has called all others in from its entry
-at S2 to that at E5; a write to a port of the register block by a processor outside SMM meanwhile disturbs the session. `Sessions.antt` of hp_model
-defines both words.
+at S2 to that at E5; a write to a port of the register block by a processor outside SMM meanwhile disturbs the session.
+`Sessions.antt` of hp_model defines both words.
 """
 
 from dataclasses import dataclass, field

@@ -20,9 +20,11 @@ class Shown:
 
     def cut(self, first, last):
         """Shows these entries alone, both by number; None is the first or the last there is."""
-        kept = [entry for entry in self.entries if (first or 1) <= entry.number and (last is None or entry.number <= last)]
+        count = len(self.entries)
+        span = range(first or 1, (count if last is None else last) + 1)
+        kept = [entry for entry in self.entries if entry.number in span]
         if not kept and (first, last) != (None, None):
-            raise Refused(f"nothing to show: the trace has entries 1 to {len(self.entries)}")
+            raise Refused(f"nothing to show: the trace has entries 1 to {count}")
         self.entries = kept
 
     def cut_to_session(self, number):

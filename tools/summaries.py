@@ -28,6 +28,7 @@ BOOT_FACTS = {
     ("cfgr", "50"): ("NoExtTseg", "register 50"),
     ("in", "0511"): ("NotNegotiated", "features-ok"),
 }
+KINDS = ["of the boot", "of the host", "outside SMM", "in SMM"]
 KEY = 12
 
 
@@ -72,7 +73,7 @@ class Summary:
 
     def entries(self):
         """How many entries of which kind, and whether the trace has its end."""
-        kinds = ", ".join(f"{self.counts[kind]} {kind}" for kind in ("of the boot", "of the host", "outside SMM", "in SMM"))
+        kinds = ", ".join(f"{self.counts[kind]} {kind}" for kind in KINDS)
         return f"{sum(self.counts.values())}: {kinds}" + ("" if self.has_end else "; no end line")
 
     def boot(self):
