@@ -1,4 +1,4 @@
-"""Names for what a trace has as numbers: labels, shared bytes, registers, interrupt commands, the numbers of outcomes.
+"""Names for what a trace has as numbers: labels, shared bytes, interrupt commands, the numbers of outcomes.
 
 All addresses are computed from the trace's header, as docs/HANDLERS.md has them: the default area's are fixed, those in
 TSEG follow from the end of RAM, the size of TSEG and a slot.
@@ -35,28 +35,6 @@ ARRAYS = ["arrived", "release", "map", "parked"]
 ARRAY = 0x1000
 SESSION = 0x4000
 
-# port, read or write: the register block takes an access of any width at a register's first port
-BLOCK = {
-    (0xCD8, "out"): "selector",
-    (0xCD8, "in"): "command_data_2",
-    (0xCDC, "out"): "control",
-    (0xCDC, "in"): "status",
-    (0xCDD, "out"): "command",
-    (0xCE0, "out"): "command_data",
-    (0xCE0, "in"): "command_data",
-}
-# port and width in bytes; each answers at these alone
-PORTS = {
-    (0xB2, 1): "APM_CNT",
-    (0xB3, 1): "APM_STS",
-    (0x620, 1): "gpe_status",
-    (0x630, 4): "SMI_EN",
-    (0x510, 2): "fw_cfg_selector",
-    (0x511, 1): "fw_cfg_data",
-    (0x514, 4): "fw_cfg_dma_high",
-    (0x518, 4): "fw_cfg_dma_low",
-}
-CONFIGURATION = {0x50: "ext_tseg", 0x9C: "F_SMBASE", 0x9D: "SMRAM", 0x9E: "ESMRAMC"}
 
 @dataclass
 class Interrupt:
@@ -96,15 +74,11 @@ def place_at(platform, address, width):
     return label and f"cell[{label}]"
 
 
-def name_of(platform, entry):
-    """The name of what an entry's access is at, None where that has none."""
-    place = entry.value("place")
-    width = int(entry.text.get("width") or 8)
-    if entry.kind in ("load", "store", "cas"):
-        return place_at(platform, place, width)
-    if entry.kind in ("in", "out"):
-        return BLOCK.get((place, entry.kind)) or PORTS.get((place, width))
-    return CONFIGURATION.get(place) if entry.kind in ("cfgr", "cfgw") else None
+def reached(platform, entry):
+    """The name of the memory that an entry's access reaches, None where it has none, or reaches no memory."""
+    if entry.kind not in ("load", "store", "cas"):
+        return None
+    return place_at(platform, entry.value("place"), int(entry.text.get("width") or 8))
 
 
 def is_hole(platform, entry):

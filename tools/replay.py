@@ -6,71 +6,15 @@ and whom a write of the register block ejects.
 
 from dataclasses import dataclass
 
+from blocks import Block
 from names import DEFAULT_SMBASE, TILE, interrupt_of
+from registers import Registers
 
 ABSENT, WAITING, RUNNING, HALTED, DEFAULT, TSEG = "absent", "waiting", "running", "halted", "default", "tseg"
 
-APM_CNT, SMI_EN, BLOCK = 0xB2, 0x630, 0xCD8
+APM_CNT, SMI_EN = 0xB2, 0x630
 APMC_EN = 1 << 5
 BROADCAST = 1
-
-
-@dataclass
-class Slot:
-    """What the register block keeps of one processor."""
-
-    enabled: bool
-    inserting: bool = False
-    removing: bool = False
-    ejecting: bool = False
-
-    @property
-    def has_event(self):
-        """The search finds it."""
-        return self.inserting or self.removing or self.ejecting
-
-
-class Block:
-    """The processor hot-plug register block, as far as ejects depend on it."""
-
-    def __init__(self, platform):
-        self.can_switch = platform.modern
-        self.modern = False
-        self.selector = 0
-        self.slots = [Slot(enabled=place in platform.boot) for place in range(len(platform.apic))]
-
-    def write(self, offset, value):
-        """Writes a register, and answers the processor that this ejects, None where it ejects none."""
-        if not self.modern:
-            self.modern = self.can_switch and offset == 0 and value == 0
-        elif offset == 0:
-            self.selector = value
-        elif self.selector < len(self.slots):
-            if offset == 4:
-                return self.control(value & 0xFF)
-            if offset == 5 and value & 0xFF == 0:
-                self.search()
-        return None
-
-    def control(self, value):
-        """The lowest of bits 1 to 4 acts alone."""
-        slot = self.slots[self.selector]
-        if value & 2:
-            slot.inserting = False
-        elif value & 4:
-            slot.removing = False
-        elif self.selector and slot.enabled and value & 8:
-            slot.enabled = slot.ejecting = False
-            return self.selector
-        elif self.selector and slot.enabled and value & 16:
-            slot.ejecting = True
-        return None
-
-    def search(self):
-        """Command 0: the next processor with an event, from the selector upward and round."""
-        count = len(self.slots)
-        places = ((self.selector + step) % count for step in range(count))
-        self.selector = next((place for place in places if self.slots[place].has_event), self.selector)
 
 
 class Machine:
@@ -110,29 +54,18 @@ class Machine:
 
     def changed(self, entry, landing):
         """The same, before it is noted."""
+        ejected = self.block.step(entry)
+        if ejected is not None:
+            return {ejected: ABSENT}
         if entry.kind == "insert":
-            self.block.slots[entry.processor].enabled = self.block.slots[entry.processor].inserting = True
             return {entry.processor: WAITING}
-        if entry.kind == "remove":
-            self.block.slots[entry.processor].removing = True
-            return {}
-        if entry.kind == "out":
-            return self.written(entry)
+        if entry.kind == "out" and is_at(entry, SMI_EN, 4):
+            self.smi_enabled = bool(entry.value("value") & APMC_EN)
         if entry.kind == "icr":
             kind, hit = self.hits(entry) or (None, [])
             return {place: RUNNING for place in hit if kind == "SIPI" and self.modes[place] == WAITING}
         mode = {"smi": landing, "init": WAITING, "halt": HALTED, "rsm": RUNNING}.get(entry.kind)
         return {entry.actor: mode} if mode else {}
-
-    def written(self, entry):
-        """A port write."""
-        port, value = entry.value("place"), entry.value("value")
-        if is_at(entry, SMI_EN, 4):
-            self.smi_enabled = bool(value & APMC_EN)
-        if BLOCK <= port < BLOCK + 12:
-            ejected = self.block.write(port - BLOCK, value)
-            return {} if ejected is None else {ejected: ABSENT}
-        return {}
 
 
 def is_at(entry, port, width):
@@ -164,6 +97,33 @@ def landings(platform, entries):
     return found
 
 
+class Latches:
+    """Each processor's SMI latch: it is set by a hit, and cleared by the SMI's entry and by an eject."""
+
+    def __init__(self):
+        self.since, self.spans = {}, {}
+
+    def step(self, entry, hit, changed):
+        """Goes on by an entry, whom it hits with what, and whose mode it changes to what."""
+        gone = [place for place, mode in changed.items() if mode == ABSENT]
+        for place in [*gone, *([entry.actor] if entry.kind == "smi" else [])]:
+            self.clear(place, entry.number)
+        if hit and hit[0] == "SMI":
+            for place in hit[1]:
+                self.since.setdefault(place, entry.number)
+
+    def clear(self, place, number):
+        """The latch is cleared by this entry."""
+        if place in self.since:
+            self.spans.setdefault(place, []).append((self.since.pop(place), number))
+
+    def closed(self, entries):
+        """All spans, those that go on up to the last entry."""
+        for place in list(self.since):
+            self.clear(place, entries[-1].number + 1)
+        return self.spans
+
+
 def is_default(address):
     """An instruction address at the default SMBASE."""
     return DEFAULT_SMBASE <= address < DEFAULT_SMBASE + TILE
@@ -171,10 +131,15 @@ def is_default(address):
 
 @dataclass
 class Replay:
-    """A trace, played: each processor's changes of mode by entry number, and of each entry whom it hits with what."""
+    """A trace, played: each processor's changes of mode by entry number, and from which entry to which it has an SMI latched.
+
+    And of each entry whom it hits with what, and at which register it is.
+    """
 
     changes: list
     hits: dict
+    registers: dict
+    latched: dict
 
     def spans(self, processor, first, last):
         """The modes of a processor over these entries, as number, number behind, mode."""
@@ -185,17 +150,35 @@ class Replay:
             if begin < end:
                 yield begin, end, mode
 
+    def pending(self, processor, first, last):
+        """Where an SMI is latched that the processor, outside SMM, hasn't taken yet, as number and number behind."""
+        found = []
+        for begin, end in self.latched.get(processor, []):
+            for begun, ended, mode in self.spans(processor, max(begin, first), min(end - 1, last)):
+                if mode in (DEFAULT, TSEG):
+                    continue
+                if found and found[-1][1] == begun:
+                    begun, _ = found.pop()
+                found.append((begun, ended))
+        return found
+
 
 def replay(platform, entries):
     """A mode changes with the entry that changes it, but for RSM, which is still made in SMM."""
     machine = Machine(platform)
     changes = [[(1, mode)] for mode in machine.modes]
     found = landings(platform, entries)
-    hits = {}
+    registers = Registers(platform)
+    hits, at, latches = {}, {}, Latches()
     for entry in entries:
+        register = registers.step(entry)
+        if register:
+            at[entry.number] = register
         hit = machine.hits(entry)
         if hit:
             hits[entry.number] = hit
-        for place, mode in machine.step(entry, found.get(entry.number)).items():
+        changed = machine.step(entry, found.get(entry.number))
+        latches.step(entry, hit, changed)
+        for place, mode in changed.items():
             changes[place].append((entry.number + (entry.kind == "rsm"), mode))
-    return Replay(changes, hits)
+    return Replay(changes, hits, at, latches.closed(entries))

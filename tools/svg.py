@@ -4,13 +4,14 @@ import html
 
 INK, FAINT, LINE = "#1b1f24", "#6e7781", "#c9ced4"
 GOOD, BAD, HOST, SENT = "#1a7f4b", "#b3261e", "#6a4c9c", "#b3261e"
-FOUND = "#1a6b3c"
+FOUND, SESSION = "#1a6b3c", "#7d8fa6"
 MONO = "DejaVu Sans Mono, Menlo, Consolas, monospace"
 SANS = "DejaVu Sans, Verdana, Helvetica, Arial, sans-serif"
 # the width of a character over its size: of each in MONO, and about in SANS
 ADVANCE = 0.602
 NARROW, WIDE = set(" ,.:;'fijlrt1I"), set("mwABCDEGHMNOQSTUVW")
 HATCHED = "url(#hatched)"
+BAR = 4  # of a latched SMI
 
 
 def text(x, y, words, size=11, colour=INK, anchor="start", bold=False, font=MONO):

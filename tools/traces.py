@@ -9,7 +9,11 @@ import sys
 from dataclasses import dataclass
 
 MIB = 0x100000
-TSEG_SIZES = (1, 2, 8, 48)
+# how many processors have room in a TSEG of so many MiB
+ROOM = {1: 14, 2: 30, 8: 126, 48: 512}
+LOWEST, HIGHEST, LOWEST_EXT = 0x1000000, 0x80000000, 0x4000000
+GREATEST_ID, GREATEST_WIDE_ID = 254, 0xFFFFFFFE
+FEATURES, POLLS, TURNS, LAG = range(8), range(1, 4097), range(200001), range(1, 1001)
 
 # a decimal below 2^32, and so of at most ten digits, with no zero in front
 N = r"(?:0|[1-9]\d{0,9})"
@@ -67,7 +71,11 @@ OUTCOMES = {
 NUMBER, STATUS = re.compile(N), re.compile(r"[0-9a-f]{2}")
 
 
-class NoTrace(Exception):
+class Refused(Exception):
+    """What is asked for can't be had, and why."""
+
+
+class NoTrace(Refused):
     """What is read is no trace: in which line, counted from 1, and why."""
 
     def __init__(self, line, why):
@@ -150,17 +158,25 @@ def read_header(line):
         lag=int(found["lag"] or 0),
         x2apic=found["x2apic"] is not None,
     )
-    if not is_platform(platform):
+    if not is_platform(platform, found):
         raise NoTrace(1, "no platform has these numbers")
     return platform
 
 
-def is_platform(platform):
-    """There may be such a machine: what would mislead who reads the entries by it is looked at."""
-    are_distinct = len(set(platform.apic)) == len(platform.apic)
-    boot = platform.boot
-    is_boot = boot == sorted({0, *boot}) and boot[-1] < len(platform.apic)
-    return are_distinct and is_boot and platform.tseg_mib in TSEG_SIZES and platform.tseg >= 0
+def is_platform(platform, found):
+    """There may be such a machine, by the rules of docs/FORMATS.md on platforms."""
+    return all(
+        [
+            len(set(platform.apic)) == len(platform.apic),
+            max(platform.apic) <= (GREATEST_WIDE_ID if platform.x2apic else GREATEST_ID),
+            platform.boot == sorted({0, *platform.boot}) and platform.boot[-1] < len(platform.apic),
+            platform.low % MIB == 0 and LOWEST <= platform.low <= HIGHEST,
+            len(platform.apic) <= ROOM.get(platform.tseg_mib, 0),
+            platform.tseg_mib != 48 or platform.low >= LOWEST_EXT,
+            platform.features in FEATURES and int(found["polls"]) in POLLS and int(found["turns"]) in TURNS,
+            found["lag"] is None or platform.lag in LAG,
+        ]
+    )
 
 
 def read_step(kind, rest):
@@ -181,8 +197,14 @@ def is_outcome(outcome, numbers):
     names = OUTCOMES.get(outcome, ())
     if len(names) != len(numbers):
         return False
-    forms = (STATUS if name == "status" else NUMBER for name in names)
-    return all(form.fullmatch(digits) for form, digits in zip(forms, numbers, strict=True))
+    return all(is_number(name, digits) for name, digits in zip(names, numbers, strict=True))
+
+
+def is_number(name, digits):
+    """A status byte has two hexadecimal digits; all others are decimal, and below 2^32."""
+    if name == "status":
+        return STATUS.fullmatch(digits) is not None
+    return NUMBER.fullmatch(digits) is not None and int(digits) < 2**32
 
 
 def is_by(actor, address, kind):
@@ -271,7 +293,7 @@ def guarded(name, work):
             raise OSError("standard output is closed")
         work()
         sys.stdout.flush()
-    except (NoTrace, OSError) as fault:
+    except (Refused, OSError) as fault:
         with contextlib.suppress(OSError):
             if sys.stdout:
                 sys.stdout.flush()

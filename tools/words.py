@@ -1,9 +1,10 @@
 """What pictures say of a platform and of an entry."""
 
-from names import interrupt_of, is_hole, name_of, outcome_of
+from names import interrupt_of, is_hole, outcome_of, reached
 from replay import ABSENT, DEFAULT, HALTED, RUNNING, TSEG, WAITING
 
 CLOSED = "f" * 16
+FEW = 4
 DONE = {"added", "ejected"}
 MODES = {
     RUNNING: "outside SMM",
@@ -14,8 +15,8 @@ MODES = {
     ABSENT: "absent",
 }
 PLAIN = {"smi": "takes the SMI", "init": "takes INIT", "halt": "halts", "rsm": "RSM", "nop": "nop"}
-# the value with which the boot goes on
-CHECKED = {"command_data_2": 0, "F_SMBASE": 1, "ext_tseg": 0x30, "fw_cfg_data": 1}
+# of the boot's reads that are checked, the value with which it goes on
+CHECKED = {("in", "0cd8"): 0, ("cfgr", "9c"): 1, ("cfgr", "50"): 0x30, ("in", "0511"): 1}
 
 
 def platform_words(platform):
@@ -28,9 +29,18 @@ def platform_words(platform):
     )
 
 
+def places_words(places):
+    """Some processors: a few by name, many by the first and the last, and how many between them aren't meant."""
+    if len(places) <= FEW:
+        return ", ".join(f"p{place}" for place in sorted(places))
+    first, last = min(places), max(places)
+    missing = last - first + 1 - len(places)
+    return f"p{first} to p{last}" + (f", but {missing}" if missing else "")
+
+
 def in_words(name):
     """A name as it stands in a picture."""
-    return name.replace("_", " ").replace("smbase", "SMBASE").replace("fw cfg", "fw_cfg") if name.islower() else name
+    return name.replace("_", " ").replace("smbase", "SMBASE") if name.islower() else name
 
 
 def number(digits):
@@ -51,19 +61,28 @@ def interrupt_words(platform, entry):
     return f"{interrupt.kind}{page} to {to}"
 
 
-def entry_words(platform, entry):
-    """One step, without who makes it."""
+def entry_words(platform, entry, register):
+    """One step, without who makes it; `register` is the register that it is at, if it is at one."""
     if entry.kind in PLAIN:
         return PLAIN[entry.kind]
     if entry.kind == "icr":
         return interrupt_words(platform, entry)
+    if register:
+        return register_words(entry, register)
     return access_words(platform, entry) + (", a hole" if is_hole(platform, entry) else "")
+
+
+def register_words(entry, register):
+    """A register's value as words, else as its digits."""
+    is_read = entry.kind in ("in", "cfgr")
+    value = register.words or number(entry.text["answer" if is_read else "value"])
+    return f"{in_words(register.name)} {'→' if is_read else '←'} {value}"
 
 
 def access_words(platform, entry):
     """A read of a place as `place → value`, a write as `place ← value`, an exchange as a question."""
     text = entry.text
-    place = in_words(name_of(platform, entry) or text["place"])
+    place = in_words(reached(platform, entry) or text["place"])
     if entry.kind == "cas":
         passed = text["answer"] == text["expected"]
         found = f"yes, now {number(text['value'])}" if passed else f"no, {number(text['answer'])}"
@@ -89,4 +108,4 @@ def refuses_boot(platform, entries):
     if not entries or entries[-1].number >= platform.boot_count:
         return False
     value = entries[-1].value("answer")
-    return value is not None and CHECKED.get(name_of(platform, entries[-1]), value) != value
+    return value is not None and CHECKED.get((entries[-1].kind, entries[-1].text.get("place")), value) != value
