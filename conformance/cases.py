@@ -15,6 +15,8 @@ HOST = re.compile(r"(?P<never>never )?host (?P<what>insert|remove) (?P<place>\d+
 # a processor's steps that QEMU can be asked by qtest; the others need instructions that run
 PLAYED = {"in", "out", "load", "store", "cfgr", "cfgw"}
 MEMORY = {"load", "store"}
+# QEMU has its BIOS there, and other versions of it another one
+ROM = range(0xC0000, 0x100000)
 
 
 class Faulty(Exception):
@@ -105,8 +107,8 @@ def access_of(text):
     if not found:
         raise ValueError("neither a line of a trace nor a word of a case")
     words, wanted = wanted_of(found["step"].split())
-    is_hidden = found["smm"] and words[0] in MEMORY
-    return (words, wanted) if words[0] in PLAYED and not is_hidden else ([], None)
+    is_elsewhere = words[0] in MEMORY and (found["smm"] or int(words[2], 16) in ROM)
+    return (words, wanted) if words[0] in PLAYED and not is_elsewhere else ([], None)
 
 
 class Reader:
