@@ -1,6 +1,7 @@
 """Recorded answers: what a version of QEMU said to each case and trace, line by line."""
 
 import re
+import zlib
 from dataclasses import dataclass
 from pathlib import Path
 
@@ -14,12 +15,12 @@ ANSWER = re.compile(r" *(?P<number>\d+) (?P<text>.*?) +(?P<verdict>SAME|DIFF .+)
 
 
 class Stale(Exception):
-    """Recorded answers that aren't those of the case files as they are: record them anew."""
+    """No recorded answers are those of a case as it is: record them anew."""
 
 
 @dataclass
 class Answers:
-    """Those of one version: number and package as QEMU prints them, the day, and by case a verdict for each compared line."""
+    """Those of one version: number and package as QEMU prints them, the day, and by case its sum and a verdict for each compared line."""
 
     number: str
     package: str
@@ -37,6 +38,11 @@ def everything():
     return cases() + traces()
 
 
+def sum_of(case):
+    """Tells whether a case is as it was: over the lines that say something to QEMU, and their numbers."""
+    return f"{zlib.crc32(''.join(f'{line.number} {line.text} {line.machine}' for line in case.lines).encode()):08x}"
+
+
 def is_compared(line):
     """Whether a line of a case has an answer to be held against."""
     return line.kind in ("insert", "remove") or line.wanted is not None and bool(line.words)
@@ -44,7 +50,7 @@ def is_compared(line):
 
 def lines_of(case, played):
     """The recorded form of a case."""
-    yield f"== {case.name}"
+    yield f"== {case.name} {sum_of(case)}"
     for one in compared(played):
         yield f"{one.line.number:>5} {one}"
 
@@ -64,11 +70,11 @@ def read(path):
     verdicts, name = {}, None
     for text in lines[2:]:
         if text.startswith("== "):
-            name = text[3:]
-            verdicts[name] = []
+            _, name, told = text.split()
+            verdicts[name] = (told, {})
         elif text:
             found = ANSWER.fullmatch(text)
-            verdicts[name].append((int(found["number"]), found["text"], found["verdict"]))
+            verdicts[name][1][int(found["number"])] = found["verdict"]
     return Answers(first["number"], first["package"].strip(" ()"), day["day"], verdicts)
 
 
@@ -78,9 +84,6 @@ def recorded():
 
 
 def by_line(answers, case):
-    """The verdict on each compared line of a case, by its number."""
-    wanted = [(line.number, line.text) for line in case.lines if is_compared(line)]
-    found = [(number, text) for number, text, _ in answers.verdicts.get(case.name, [])]
-    if wanted != found:
-        raise Stale(f"{case.name}: QEMU {answers.number}'s answers are those of other lines: run conformance/record")
-    return {number: verdict for number, _, verdict in answers.verdicts[case.name]}
+    """The verdict on each compared line of a case, by its number; None where the case was another one then."""
+    told, verdicts = answers.verdicts.get(case.name, (None, None))
+    return verdicts if told == sum_of(case) else None
