@@ -1,11 +1,10 @@
 -- What threads make of a file, and how the call ends.
-use Rattle.std.proofs.Common.{◌≡◌, ◌<◌, ℕ, Bool, true, false, List, [], ◌++◌, length, map, Option, Some, None, IsSome, Ok, inl, inr, ◌⊎◌, refl, sym, ◌∙◌, ap, subst}
+use Rattle.std.proofs.Common.{◌≡◌, ℕ, Bool, true, false, List, ◌++◌, length, map, Option, Some, None, IsSome, Ok, inl, inr, ◌⊎◌, refl, sym, ◌∙◌, ap, subst}
 use Rattle.std.specs.Prelude.{All, slice_index_or}
 use Rattle.std.proofs.lemmas.List.Folds.{list_all_at}
 use Rattle.std.proofs.lemmas.Option.{same_Some}
-use Rattle.std.specs.Io.KnownBytes.{Appends, Keeps}
+use Rattle.std.specs.Io.KnownBytes.{Appends}
 use Rattle.hp_model.specs.declared.accesses.Answer.{Answer}
-use Rattle.hp_model.specs.declared.entries.Actor.{Actor}
 use Rattle.hp_model.specs.declared.entries.Entry.{Entry}
 use Rattle.hp_model.specs.declared.files.File.{File}
 use Rattle.hp_model.specs.declared.files.HostEvent.{HostEvent}
@@ -35,7 +34,7 @@ use Rattle.hp_top.specs.declared.statuses.Status.{Status}
 use Rattle.hp_top.specs.declared.statuses.Status.TheVariants.{Done, BadWords, ReadFault, TooLong, NotToml, Rule, BootRefused, WriteFault, TraceRefused, NoMemory}
 use Rattle.hp_top.specs.Answers.{IsDoneOrNoMemory, IsWritten}
 use Rattle.hp_top.specs.Sent.{HoldsFront}
-use Rattle.hp_top.specs.Threaded.{EndsThreaded, EndsThreadsRun, IsBootFront, IsCutBoot, IsCutThreads, IsThreaded, IsThreadedCut, IsThreadedFront, IsThreadedTrace, turns_each}
+use Rattle.hp_top.specs.Threaded.{EndsThreaded, EndsThreadsRun, IsCutBoot, IsCutThreads, IsThreaded, IsThreadedCut, IsThreadedTrace, turns_each}
 use Rattle.hp_top.specs.Turns.{boot_text, carried_start, with_voices}
 use Rattle.hp_top.specs.Worlds.{IsBooted, IsStopped}
 use Rattle.hp_top.proofs.Booting.{written_rest}

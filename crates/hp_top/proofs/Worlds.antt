@@ -25,7 +25,6 @@ use Rattle.hp_threads.specs.Voicing.{IsCarried}
 use Rattle.hp_threads.proofs.Carrying as of_turn
 use Rattle.hp_threads.proofs.Voicing.{carried_more}
 use Rattle.hp_top.specs.Doing.{Did, Does}
-use Rattle.hp_top.specs.Lives.{StandsFor}
 use Rattle.hp_top.specs.Turns.{boot_left, carried_start}
 use Rattle.hp_top.specs.Worlds.{IsBooted, IsBooting, machine_of}
 use Rattle.hp_top.proofs.Booting.{BootsTo, boots_to}

@@ -27,9 +27,7 @@ use crate::sending::{send_end, send_head, send_line};
 use crate::sorting::by_turn;
 use crate::stalling::{Stalled, by_start};
 use hp_agent::{Agent, Agents, Voice, voice_for};
-use hp_model::{
-    Actor, BootFact, File, HostEvent, NoMemory, Platform, Stall, VoiceKind, Voices,
-};
+use hp_model::{Actor, BootFact, File, HostEvent, NoMemory, Platform, Stall, VoiceKind, Voices};
 use hp_platform::{Live, Turn, a_turn_is_the_schedules};
 use std::alloc::Global;
 use std::vec::IntoIter;

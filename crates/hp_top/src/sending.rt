@@ -12,7 +12,11 @@ use hp_model::{Entry, Platform};
 
 /// Makes the line of an entry in the buffer, whose content goes, and hands it to the sink.
 #[inline(never)]
-pub(crate) fn send_line<K: Sink>(e: &Entry, text: &mut Vec<u8>, out: &mut K) -> Result<(), WriteStop>
+pub(crate) fn send_line<K: Sink>(
+    e: &Entry,
+    text: &mut Vec<u8>,
+    out: &mut K,
+) -> Result<(), WriteStop>
     ensures all { OnOk result (Appends (K.held out.old) (K.held out.new) (line_text e.now)) }
     ensures part { OnErr result (HoldsFront (K.held out.old) (K.held out.new) (line_text e.now)) }
     ensures cause { StopsFor (K.faults out.old) (K.faults out.new) result }
@@ -25,7 +29,11 @@ pub(crate) fn send_line<K: Sink>(e: &Entry, text: &mut Vec<u8>, out: &mut K) -> 
 }
 
 /// The header, likewise.
-pub(crate) fn send_head<K: Sink>(p: &Platform, text: &mut Vec<u8>, out: &mut K) -> Result<(), WriteStop>
+pub(crate) fn send_head<K: Sink>(
+    p: &Platform,
+    text: &mut Vec<u8>,
+    out: &mut K,
+) -> Result<(), WriteStop>
     ensures all { OnOk result (Appends (K.held out.old) (K.held out.new) (head_text p.now)) }
     ensures part { OnErr result (HoldsFront (K.held out.old) (K.held out.new) (head_text p.now)) }
     ensures cause { StopsFor (K.faults out.old) (K.faults out.new) result }
@@ -38,7 +46,11 @@ pub(crate) fn send_head<K: Sink>(p: &Platform, text: &mut Vec<u8>, out: &mut K) 
 }
 
 /// The end line, likewise.
-pub(crate) fn send_end<K: Sink>(entries: u64, text: &mut Vec<u8>, out: &mut K) -> Result<(), WriteStop>
+pub(crate) fn send_end<K: Sink>(
+    entries: u64,
+    text: &mut Vec<u8>,
+    out: &mut K,
+) -> Result<(), WriteStop>
     ensures all { OnOk result (Appends (K.held out.old) (K.held out.new) (end_text entries)) }
     ensures part { OnErr result (HoldsFront (K.held out.old) (K.held out.new) (end_text entries)) }
     ensures cause { StopsFor (K.faults out.old) (K.faults out.new) result }

@@ -12,7 +12,7 @@ ghost use Rattle.hp_model.specs.Voices.{Voice as Told, told_by, told_of};
 ghost use Rattle.hp_config.specs.Rules.{hosts_are_hosts};
 ghost use Rattle.hp_config.specs.Sound.{IsSound};
 ghost use Rattle.hp_top.specs.Faults.{Rose};
-ghost use Rattle.hp_top.specs.Threaded.{EndsThreaded, IsThreaded};
+ghost use Rattle.hp_top.specs.Threaded.{EndsThreaded, IsThreaded, turns_each};
 ghost use Rattle.hp_top.specs.Turns.{boot_left, with_voices};
 ghost use Rattle.hp_top.specs.Worlds.{HasEntries, IsBooted, IsBooting};
 
@@ -75,6 +75,15 @@ fn booted_world<A: Agent>(
     Ok(world)
 }
 
+/// How many turns each processor has: those of the file, over the possible processors, rounded down.
+fn turns_of_each(file: &File) -> u32
+    requires { IsFit file.now.platform }
+    ensures { result ≡ turns_each file.now.platform }
+{
+    let count = file.platform.apic.0.len() as u32;
+    file.platform.turns / count
+}
+
 /// Makes the turns of a world that is handed over: of each processor as many as the file's come to over all of them.
 fn run_booted<A: Agent + Send, R: Threads + Wait + Sync, P: Pace + Sync>(
     rt: &R,
@@ -91,15 +100,7 @@ fn run_booted<A: Agent + Send, R: Threads + Wait + Sync, P: Pace + Sync>(
     ensures platform { IfOk result (λ w. w.platform ≡ file.now.platform) }
     ensures threaded { (told : List (Option Told)) → IsBooted file.now.platform told world → IfOk result (λ w. IsThreaded file.now told w.entries) }
 {
-    let count = file.platform.apic.0.len() as u32;
-    let finished = run(
-        rt,
-        alloc,
-        world,
-        hosts_in(file),
-        file.platform.turns / count,
-        pace,
-    )?;
+    let finished = run(rt, alloc, world, hosts_in(file), turns_of_each(file), pace)?;
     Ok(finished.world)
 }
 
@@ -150,12 +151,7 @@ fn write_boot<A: Agent, K: Sink>(
 }
 
 /// The whole trace of a world that threads ran.
-fn write_run<A: Agent, K: Sink>(
-    alloc: Global,
-    file: &File,
-    world: &World<A>,
-    out: &mut K,
-) -> Status
+fn write_run<A: Agent, K: Sink>(alloc: Global, file: &File, world: &World<A>, out: &mut K) -> Status
     requires platform { world.now.platform ≡ file.now.platform }
     ensures ends { (told : List (Option Told)) → IsThreaded file.now told world.now.entries
         → EndsThreaded file.now told (K.held out.old) (K.held out.new) result }

@@ -73,13 +73,7 @@ fn complete<A: Agent + Send, R: Threads + Wait + Sync, K: Sink, P: Pace + Sync>(
 }
 
 /// Reads the file to its end, and runs it.
-fn serve_threads<
-    A: Agent + Send,
-    R: Threads + Wait + Sync,
-    S: Source,
-    K: Sink,
-    P: Pace + Sync,
->(
+fn serve_threads<A: Agent + Send, R: Threads + Wait + Sync, S: Source, K: Sink, P: Pace + Sync>(
     rt: &R,
     alloc: Global,
     src: &mut S,
