@@ -10,7 +10,6 @@ pub mod Schedule
 pub mod Sends
 pub mod Serving
 pub mod Starting
-pub mod Tracing
 pub mod Threaded
 pub mod Tracking
 pub mod Turning
