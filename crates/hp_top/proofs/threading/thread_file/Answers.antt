@@ -7,8 +7,8 @@ use Rattle.hp_top.specs.Threaded.{EndsThreaded}
 use Rattle.hp_top.proofs.Threaded.{ends_rest}
 use Rattle.hp_top.proofs.threading.thread_file.Goals as goal
 
-pub thread_voices-requires : goal.thread_voices-requires
-thread_voices-requires g c = subst IsSound (sym c.take_voices-rest.ensures) c.requires
+pub thread_voices-requires-after_bounds : goal.thread_voices-requires-after_bounds
+thread_voices-requires-after_bounds g c κs within = subst IsSound (sym c.take_voices-rest.ensures) c.requires
 
 pub returns-clause-ends : goal.returns-clause-ends
 returns-clause-ends g c =
