@@ -80,7 +80,18 @@ def read(path):
 
 def recorded():
     """All files of answers, the oldest version first."""
-    return sorted((read(path) for path in FOLDER.glob("*.txt")), key=lambda answers: answers.order)
+    return sorted((read(path) for path in FOLDER.glob("qemu-*.txt")), key=lambda answers: answers.order)
+
+
+def read_running(path):
+    """The number of a version, and what it came to by rule, where processors ran."""
+    lines = Path(path).read_text(encoding="ascii").splitlines()
+    return FIRST.fullmatch(lines[0])["number"], dict(zip(lines[3::2], (line.strip() for line in lines[4::2]), strict=True))
+
+
+def recorded_running():
+    """The same of each version."""
+    return dict(read_running(path) for path in sorted(FOLDER.glob("processors-*.txt")))
 
 
 def by_line(answers, case):

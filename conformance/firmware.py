@@ -47,7 +47,18 @@ BEGIN, ENDS = "in 1 00b2 = 04", ("# back in the shell", "# no prompt after the S
 LEVEL = 0x4000
 # where a row begins that has no port to compare
 BEGINS = {"NB", "T", "E5"}
-MEMORY = "not traced"
+MEMORY, NONE = "not traced", "none"
+# what was done before the SMI of a story's session, by the story's name
+STORIES = [
+    ("no_event", 0, "nothing"),
+    ("no_event", 1, "the removal of 1 was requested"),
+    ("no_event", 2, "the eject of 1 was handed over"),
+    ("eject_and_add", 0, "the eject of 1 was handed over, 3 was inserted"),
+    ("disabled", 0, "1 was inserted, and ejected again"),
+    ("both", 0, "1 was inserted, and its eject handed over"),
+    ("not_known", 0, "1 was inserted, its event cleared, and its eject handed over"),
+    ("no_unplug", 0, "the eject of 1 was handed over, where hot-unplug isn't offered"),
+]
 
 
 @dataclass
@@ -59,20 +70,34 @@ class Row:
     there: str
 
 
+@dataclass
+class Session:
+    """What the real firmware did in one SMI, and whether it came back from it."""
+
+    steps: list
+    is_back: bool = False
+
+
+def is_told(step):
+    """Whether a trace event tells of such a step."""
+    return step.split()[0] in ("in", "out", "icr")
+
+
 def story(name):
-    """The sessions of a story: the accesses of each, from the read of the SMI command on."""
+    """The sessions of a story, each from the read of the SMI command on."""
     sessions, is_in = [], False
     for line in (FOLDER / name).read_text(encoding="ascii").splitlines():
         found = STORY.fullmatch(line)
         text = found["text"] if found else ""
         if text == BEGIN:
-            sessions.append([])
+            sessions.append(Session([]))
             is_in = True
-        if text.startswith(ENDS):
+        if text.startswith(ENDS) and is_in:
+            sessions[-1].is_back = text.startswith(ENDS[0])
             is_in = False
         step = STEP.match(text)
         if is_in and step:
-            sessions[-1].append(step[0])
+            sessions[-1].steps.append(step[0])
     return sessions
 
 
@@ -105,11 +130,11 @@ def plain(step):
 
 
 def alone(entries):
-    """Rows of what only the handlers here do: an interrupt command by itself, and other steps in a row as deeds."""
+    """Rows of what only the handlers here do: what a trace event would tell by itself, and other steps in a row as deeds."""
     rows = []
     for label, step in entries:
-        if step.startswith("icr"):
-            rows.append(Row([label], f"`{step}`", "none"))
+        if is_told(step):
+            rows.append(Row([label], f"`{step}`", NONE))
         elif label in BEGINS or not rows or rows[-1].there != MEMORY:
             rows.append(Row([label], "", MEMORY))
         elif label not in rows[-1].labels:
@@ -129,7 +154,7 @@ def beside(entries, steps):
                 rows.append(Row([label], f"`{step}`", "the same" if step == other else f"`{other}`"))
             continue
         rows += alone(entries[here:here_end])
-        rows += [Row([], "none", f"`{step}`") for step in steps[there:there_end]]
+        rows += [Row([], NONE, f"`{step}`") for step in steps[there:there_end]]
     return rows
 
 
@@ -138,4 +163,29 @@ def sessions():
     first, second = (story(name) for name in SAME_BOTH)
     if first != second:
         raise ValueError("the two stories have other accesses")
-    return [beside(entries, steps) for entries, steps in zip(trace(OURS), first, strict=True)]
+    return [beside(entries, session.steps) for entries, session in zip(trace(OURS), first, strict=True)]
+
+
+@dataclass
+class Outcome:
+    """A session in short: labels of accesses that both make, those of either alone, what is told, and whether OVMF came back."""
+
+    before: str
+    name: str
+    both: list
+    here: list
+    there: list
+    told: list
+    is_back: bool
+
+
+def outcomes():
+    """The sessions of all other stories."""
+    for name, place, before in STORIES:
+        entries, session = trace(f"{name}.out")[place], story(f"{name}.txt")[place]
+        rows = beside(entries, session.steps)
+        alone = [row.labels[0] for row in rows if row.there == NONE]
+        both = [row.labels[0] for row in rows if row.there not in (NONE, MEMORY) and row.here != NONE]
+        there = [row.there for row in rows if row.here == NONE]
+        told = [step.removeprefix("tell ") for label, step in entries if label == "T"]
+        yield Outcome(before, name, both, alone, there, told, session.is_back)

@@ -148,7 +148,7 @@ class Qemu:
         line, self.messages = self.messages.split(b"\n", 1)
         return json.loads(line)
 
-    def command(self, name, **arguments):
+    def command(self, name, /, **arguments):
         """A QMP command and its answer; events before it are dropped."""
         text = json.dumps({"execute": name, **({"arguments": arguments} if arguments else {})})
         try:
