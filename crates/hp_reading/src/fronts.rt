@@ -3,22 +3,23 @@
 ghost use Rattle.std.specs.Prelude.{◌≡◌, ◌≤◌, ◌<◌, ◌^◌, length, IfSome, option_map};
 ghost use Rattle.hp_reading.specs.Forms.{past as text_past, hex_digit, hex_onto, hex_front, is_decimal as decimal_digit, decimal_onto, decimal_front};
 
-/// What follows a word at the front of the text.
-#[tactic(auto, unfolding(crate::specs::Forms::past))]
+/// What follows a word at the front of the text. It is inlined where the word is written, so that its bytes are compared one after the
+/// other with no loop: most words that a line is tried against differ in their first byte.
+#[inline(always)]
+#[tactic(auto, using(crate::proofs::Words::word_steps))]
 pub fn past<'a>(text: &'a [u8], word: &[u8]) -> Option<&'a [u8]>
     ensures { option_map (λ rest. rest.now) result ≡ text_past word.now text.now }
 {
-    match word {
-        [] => Some(text),
-        [first, others @ ..] => match text {
-            [byte, rest @ ..] => if *first == *byte {
-                past(rest, others)
-            } else {
-                None
-            },
-            [] => None,
-        },
+    if text.len() < word.len() {
+        return None;
     }
+    for at in 0..word.len() {
+        if text[at] != word[at] {
+            return None;
+        }
+    }
+    let (_, rest) = text.split_at(word.len());
+    Some(rest)
 }
 
 fn digit_of(byte: u8) -> Option<u8>
