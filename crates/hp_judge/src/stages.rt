@@ -1,8 +1,8 @@
 //! How far a text has led.
 
-ghost use Rattle.std.specs.Prelude.{◌≡◌, ◌+◌, false, Err, IfOk, OnErr};
+ghost use Rattle.std.specs.Prelude.{◌≡◌, ◌+◌, true, false, Err, IfOk, OnErr};
 ghost use Rattle.hp_reading.specs.Header.{head_of};
-ghost use Rattle.hp_judge.specs.Bytes.{after_byte, overlong};
+ghost use Rattle.hp_judge.specs.Bytes.{after_byte, after_bytes, has_no_feed, overlong};
 ghost use Rattle.hp_judge.specs.Judging.{cause_of, fault_told};
 ghost use Rattle.hp_judge.specs.Stages.{IsCounted, IsHeld, Tells, end_by, judged, standing, told_by};
 ghost use Rattle.hp_judge.specs.Standing.{after_line, by_end, by_head, is_refused as is_over, refused as refused_at, refusing, verdict, without_end};
@@ -14,7 +14,7 @@ use hp_reading::{end_number, headers_are_read_as_spelled, read_entry, read_head}
 use std::alloc::Global;
 
 /// No line of the grammar has so many bytes.
-const LONGEST: usize = 12288;
+pub(crate) const LONGEST: usize = 12288;
 
 /// How far the lines have led that have ended.
 #[derive(Drop)]
@@ -108,7 +108,7 @@ fn tell(walk: &mut Walk, entries: u64, line: &[u8]) -> Result<Told, NoMemory>
 
 /// A line has ended.
 #[tactic(auto, unfolding(crate::specs::Standing::after_line))]
-fn end_line(alloc: Global, stage: &mut Stage, line: &[u8]) -> Result<(), NoMemory>
+pub(crate) fn end_line(alloc: Global, stage: &mut Stage, line: &[u8]) -> Result<(), NoMemory>
     requires { IsHeld stage.old }
     ensures held { IsHeld stage.new }
     ensures led { IfOk result (λ _. standing stage.new ≡ after_line (standing stage.old) line.now) }
@@ -154,30 +154,38 @@ fn is_refused(stage: &Stage) -> bool
     matches!(stage, Stage::Refused(_))
 }
 
-/// Takes the next byte of the text, behind these bytes of a line that hasn't ended. After `NoMemory` nothing has changed.
-pub(crate) fn take_byte(
-    alloc: Global,
-    stage: &mut Stage,
-    rest: &mut Vec<u8>,
-    byte: u8,
-) -> Result<(), NoMemory>
-    requires { IsHeld stage.old }
+/// Takes bytes of a line that they don't end, behind those that are kept of it. After `NoMemory` nothing has changed.
+pub(crate) fn keep(stage: &mut Stage, rest: &mut Vec<u8>, bytes: &[u8]) -> Result<(), NoMemory>
+    requires held { IsHeld stage.old }
+    requires free { has_no_feed bytes.now ≡ true }
     ensures held { IsHeld stage.new }
-    ensures led { IfOk result (λ _. judged stage.new rest.new.items ≡ after_byte (judged stage.old rest.old.items) byte) }
+    ensures led { IfOk result (λ _. judged stage.new rest.new.items ≡ after_bytes (judged stage.old rest.old.items) bytes.now) }
     ensures no_memory { OnErr result ((stage.new ≡ stage.old) × (rest.new.items ≡ rest.old.items)) }
 {
     if is_refused(stage) {
         return Ok(());
     }
-    if byte == b'\n' {
-        end_line(alloc, stage, rest.as_slice())?;
-        rest.clear();
-    } else if rest.as_slice().len() < LONGEST {
-        rest.push(byte)?;
+    if bytes.len() <= LONGEST.saturating_sub(rest.as_slice().len()) {
+        rest.extend_from_slice(bytes)?;
     } else {
         *stage = over(stage);
         rest.clear();
     }
+    Ok(())
+}
+
+/// Takes the line feed behind the bytes that are kept. After `NoMemory` nothing has changed.
+pub(crate) fn end_kept(alloc: Global, stage: &mut Stage, rest: &mut Vec<u8>) -> Result<(), NoMemory>
+    requires { IsHeld stage.old }
+    ensures held { IsHeld stage.new }
+    ensures led { IfOk result (λ _. judged stage.new rest.new.items ≡ after_byte (judged stage.old rest.old.items) 10) }
+    ensures no_memory { OnErr result ((stage.new ≡ stage.old) × (rest.new.items ≡ rest.old.items)) }
+{
+    if is_refused(stage) {
+        return Ok(());
+    }
+    end_line(alloc, stage, rest.as_slice())?;
+    rest.clear();
     Ok(())
 }
 
