@@ -69,6 +69,18 @@ fn headed(alloc: Global, line: &[u8]) -> Result<Stage, NoMemory>
     }
 }
 
+/// Line 1 has ended. That is once a text, and a function of its own keeps its locals out of what each line goes through.
+#[inline(never)]
+fn begin(alloc: Global, stage: &mut Stage, line: &[u8]) -> Result<(), NoMemory>
+    requires { IsHeld stage.old }
+    ensures held { IsHeld stage.new }
+    ensures led { IfOk result (λ _. standing stage.new ≡ by_head (head_of line.now)) }
+    ensures no_memory { OnErr result (stage.new ≡ stage.old) }
+{
+    *stage = headed(alloc, line)?;
+    Ok(())
+}
+
 /// Why a line that is no entry's isn't the end line of so many entries; None where it is.
 fn end_fault(entries: u64, number: Option<u64>) -> Option<Why>
     ensures { end_by entries result ≡ by_end entries number }
@@ -115,7 +127,10 @@ pub(crate) fn end_line(alloc: Global, stage: &mut Stage, line: &[u8]) -> Result<
     ensures no_memory { OnErr result (stage.new ≡ stage.old) }
 {
     let next = match stage {
-        Stage::Heading => headed(alloc, line)?,
+        Stage::Heading => {
+            begin(alloc, stage, line)?;
+            return Ok(());
+        }
         Stage::Going(walk, entries) => match tell(walk, *entries, line)? {
             Told::Step => {
                 *entries += 1;
