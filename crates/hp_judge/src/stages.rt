@@ -118,6 +118,19 @@ fn tell(walk: &mut Walk, entries: u64, line: &[u8]) -> Result<Told, NoMemory>
     }
 }
 
+/// The line behind so many entries is the end line, or at fault. That too is once a text.
+#[inline(never)]
+fn settle(stage: &mut Stage, entries: u64, fault: Option<Why>)
+    requires { IsCounted entries }
+    ensures held { IsHeld stage.new }
+    ensures led { standing stage.new ≡ end_by entries fault }
+{
+    *stage = match fault {
+        Some(why) => Stage::Refused(behind(entries, why)),
+        None => Stage::Ended(entries),
+    };
+}
+
 /// A line has ended.
 #[tactic(auto, unfolding(crate::specs::Standing::after_line))]
 pub(crate) fn end_line(alloc: Global, stage: &mut Stage, line: &[u8]) -> Result<(), NoMemory>
@@ -126,23 +139,25 @@ pub(crate) fn end_line(alloc: Global, stage: &mut Stage, line: &[u8]) -> Result<
     ensures led { IfOk result (λ _. standing stage.new ≡ after_line (standing stage.old) line.now) }
     ensures no_memory { OnErr result (stage.new ≡ stage.old) }
 {
-    let next = match stage {
-        Stage::Heading => {
-            begin(alloc, stage, line)?;
-            return Ok(());
-        }
+    match stage {
+        Stage::Heading => begin(alloc, stage, line)?,
         Stage::Going(walk, entries) => match tell(walk, *entries, line)? {
-            Told::Step => {
-                *entries += 1;
-                return Ok(());
+            Told::Step => *entries += 1,
+            Told::Last => {
+                let before = *entries;
+                settle(stage, before, None);
             }
-            Told::Last => Stage::Ended(*entries),
-            Told::Fault(why) => Stage::Refused(behind(*entries, why)),
+            Told::Fault(why) => {
+                let before = *entries;
+                settle(stage, before, Some(why));
+            }
         },
-        Stage::Ended(entries) => Stage::Refused(behind(*entries, Why::End)),
-        Stage::Refused(_) => return Ok(()),
-    };
-    *stage = next;
+        Stage::Ended(entries) => {
+            let before = *entries;
+            settle(stage, before, Some(Why::End));
+        }
+        Stage::Refused(_) => {}
+    }
     Ok(())
 }
 
