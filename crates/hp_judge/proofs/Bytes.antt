@@ -9,11 +9,10 @@ use Rattle.hp_reading.specs.Fault.{Cause, Fault, Line, End}
 use Rattle.hp_reading.specs.Header.{head_of}
 use Rattle.hp_reading.specs.Lines.{entry_of, end_of}
 use Rattle.hp_reading.specs.Trace.{Cut, onto, with_byte, cut}
-use Rattle.hp_reading.proofs.Feeds.{has_none}
 use Rattle.hp_reading.proofs.HeaderLengths.{headers_are_short}
 use Rattle.hp_reading.proofs.Lengths.{lines_are_short, most_in, spell_short}
 use Rattle.hp_reading.proofs.TraceLines.{ends_are_read}
-use Rattle.hp_judge.specs.Bytes.{Judged, nothing_judged, longest, overlong, lengthened, after_byte, after_bytes, verdict_behind}
+use Rattle.hp_judge.specs.Bytes.{Judged, nothing_judged, longest, overlong, lengthened, after_byte, after_bytes, has_no_feed, verdict_behind}
 use Rattle.hp_judge.specs.Standing.{Standing, heading, going, ended, refused, refusing, is_refused, by_head, by_end, by_line, after_line, after_lines, verdict, verdict_of}
 use Rattle.hp_judge.proofs.Lines.{refused_stays}
 
@@ -22,18 +21,18 @@ not_is : (b : Bool) → not b ≡ true → b ≡ false
 not_is true e = sym e
 not_is false e = refl
 
-cut-line : (line text : List ℕ) → has_none line ≡ true → cut (line ++ 10 ∷ text) ≡ record { lines = line ∷ (cut text).lines; rest = (cut text).rest }
+cut-line : (line text : List ℕ) → has_no_feed line ≡ true → cut (line ++ 10 ∷ text) ≡ record { lines = line ∷ (cut text).lines; rest = (cut text).rest }
 unfolding cut
 cut-line [] text h = refl
 cut-line (c ∷ line) text h =
-    let (here, more) = and_parts (not (c == 10)) (has_none line) h in
+    let (here, more) = and_parts (not (c == 10)) (has_no_feed line) h in
     ap (with_byte c) (cut-line line text more) ∙ rw (not_is (c == 10) here) refl
 
-cut-rest : (rest : List ℕ) → has_none rest ≡ true → cut rest ≡ record { lines = []; rest = rest }
+cut-rest : (rest : List ℕ) → has_no_feed rest ≡ true → cut rest ≡ record { lines = []; rest = rest }
 unfolding cut
 cut-rest [] h = refl
 cut-rest (c ∷ rest) h =
-    let (here, more) = and_parts (not (c == 10)) (has_none rest) h in
+    let (here, more) = and_parts (not (c == 10)) (has_no_feed rest) h in
     ap (with_byte c) (cut-rest rest more) ∙ rw (not_is (c == 10) here) refl
 
 -- the first line, or what is behind the last one where there is none, has so many bytes
@@ -49,11 +48,11 @@ long_none : (ls : List (List ℕ)) (rest : List ℕ) → IsLong 0 ls rest
 long_none [] rest = omega arith
 long_none (l ∷ ls) rest = omega arith
 
-long-cut : (front more : List ℕ) → has_none front ≡ true → IsLong (length front) (cut (front ++ more)).lines (cut (front ++ more)).rest
+long-cut : (front more : List ℕ) → has_no_feed front ≡ true → IsLong (length front) (cut (front ++ more)).lines (cut (front ++ more)).rest
 unfolding cut
 long-cut [] more h = long_none (cut more).lines (cut more).rest
 long-cut (c ∷ front) more h =
-    let (here, free) = and_parts (not (c == 10)) (has_none front) h in
+    let (here, free) = and_parts (not (c == 10)) (has_no_feed front) h in
     rw (not_is (c == 10) here) (subst (λ (n : ℕ). IsLong n (onto c (cut (front ++ more)).lines (cut (front ++ more)).rest).lines (onto c (cut (front ++ more)).lines (cut (front ++ more)).rest).rest) (longer front) (long_onto (length front) c (cut (front ++ more)).lines (cut (front ++ more)).rest (long-cut front more free)))
   where
     longer : (front : List ℕ) → length front + 1 ≡ length (c ∷ front)
@@ -123,7 +122,7 @@ unfolding verdict_behind
 refused_behind f rest more = ap (λ (y : Standing). verdict y (cut (rest ++ more)).rest) (refused_stays (cut (rest ++ more)).lines f)
 
 -- one byte more
-fed_end : (x : Standing) (rest more : List ℕ) → has_none rest ≡ true → verdict_behind (record { standing = x; rest = rest }) (10 ∷ more) ≡ verdict_behind (record { standing = after_line x rest; rest = [] }) more
+fed_end : (x : Standing) (rest more : List ℕ) → has_no_feed rest ≡ true → verdict_behind (record { standing = x; rest = rest }) (10 ∷ more) ≡ verdict_behind (record { standing = after_line x rest; rest = [] }) more
 unfolding verdict_behind after_lines
 fed_end x rest more free = ap (λ (k : Cut). verdict (after_lines x k.lines) k.rest) (cut-line rest more free)
 
@@ -142,14 +141,14 @@ over_behind (going p s n) more = refused_behind (record { line = n + 2; cause = 
 over_behind (ended n) more = refused_behind (record { line = n + 2; cause = End }) [] more
 over_behind (refused f) more = refused_behind f [] more
 
-fed_over : (x : Standing) (rest : List ℕ) (c : ℕ) (more : List ℕ) → has_none rest ≡ true → 12288 ≤ length rest
+fed_over : (x : Standing) (rest : List ℕ) (c : ℕ) (more : List ℕ) → has_no_feed rest ≡ true → 12288 ≤ length rest
     → verdict_behind (record { standing = x; rest = rest }) (c ∷ more) ≡ verdict_behind (record { standing = overlong x; rest = [] }) more
 unfolding verdict_behind
 fed_over x rest c more free long =
     overlong_is x (cut (rest ++ c ∷ more)).lines (cut (rest ++ c ∷ more)).rest (longer 12288 (length rest) _ _ long (long-cut rest (c ∷ more) free))
     ∙ sym (over_behind x more)
 
-fed_byte : (j : Judged) (c : ℕ) (more : List ℕ) → has_none j.rest ≡ true → verdict_behind j (c ∷ more) ≡ verdict_behind (after_byte j c) more
+fed_byte : (j : Judged) (c : ℕ) (more : List ℕ) → has_no_feed j.rest ≡ true → verdict_behind j (c ∷ more) ≡ verdict_behind (after_byte j c) more
 unfolding after_byte
 fed_byte j c more free = by j.standing refl
   where
@@ -174,32 +173,32 @@ fed_byte j c more free = by j.standing refl
         ∙ sym (ap (λ (y : Standing). verdict_behind (record { standing = y; rest = j.rest }) more) is)
 
 -- no byte of a line that hasn't ended is a line feed
-free-append : (a : List ℕ) (c : ℕ) → has_none a ≡ true → (c == 10) ≡ false → has_none (a ++ c ∷ []) ≡ true
+free-append : (a : List ℕ) (c : ℕ) → has_no_feed a ≡ true → (c == 10) ≡ false → has_no_feed (a ++ c ∷ []) ≡ true
 free-append [] c h is = rw is refl
-free-append (b ∷ a) c h is = let (here, more) = and_parts (not (b == 10)) (has_none a) h in and_from (not (b == 10)) (has_none (a ++ c ∷ [])) here (free-append a c more is)
+free-append (b ∷ a) c h is = let (here, more) = and_parts (not (b == 10)) (has_no_feed a) h in and_from (not (b == 10)) (has_no_feed (a ++ c ∷ [])) here (free-append a c more is)
 
-free_byte : (j : Judged) (c : ℕ) → has_none j.rest ≡ true → has_none (after_byte j c).rest ≡ true
+free_byte : (j : Judged) (c : ℕ) → has_no_feed j.rest ≡ true → has_no_feed (after_byte j c).rest ≡ true
 unfolding after_byte
 free_byte j c free = by (is_refused j.standing)
   where
-    short : (t : Bool) → (c == 10) ≡ false → has_none (lengthened j c t).rest ≡ true
+    short : (t : Bool) → (c == 10) ≡ false → has_no_feed (lengthened j c t).rest ≡ true
     short true is = free-append j.rest c free is
     short false is = refl
 
-    open_at : (t : Bool) → (c == 10) ≡ t → has_none (if t then record { standing = after_line j.standing j.rest; rest = [] } else lengthened j c (nat_lt (length j.rest) longest)).rest ≡ true
+    open_at : (t : Bool) → (c == 10) ≡ t → has_no_feed (if t then record { standing = after_line j.standing j.rest; rest = [] } else lengthened j c (nat_lt (length j.rest) longest)).rest ≡ true
     open_at true is = refl
     open_at false is = short (nat_lt (length j.rest) longest) is
 
-    by : (t : Bool) → has_none (if t then j else if c == 10 then record { standing = after_line j.standing j.rest; rest = [] } else lengthened j c (nat_lt (length j.rest) longest)).rest ≡ true
+    by : (t : Bool) → has_no_feed (if t then j else if c == 10 then record { standing = after_line j.standing j.rest; rest = [] } else lengthened j c (nat_lt (length j.rest) longest)).rest ≡ true
     by true = free
     by false = open_at (c == 10) refl
 
-free_bytes : (text : List ℕ) (j : Judged) → has_none j.rest ≡ true → has_none (after_bytes j text).rest ≡ true
+free_bytes : (text : List ℕ) (j : Judged) → has_no_feed j.rest ≡ true → has_no_feed (after_bytes j text).rest ≡ true
 unfolding after_bytes
 free_bytes [] j free = free
 free_bytes (c ∷ text) j free = free_bytes text (after_byte j c) (free_byte j c free)
 
-fed_bytes : (text : List ℕ) (j : Judged) (more : List ℕ) → has_none j.rest ≡ true → verdict_behind j (text ++ more) ≡ verdict_behind (after_bytes j text) more
+fed_bytes : (text : List ℕ) (j : Judged) (more : List ℕ) → has_no_feed j.rest ≡ true → verdict_behind j (text ++ more) ≡ verdict_behind (after_bytes j text) more
 unfolding after_bytes
 fed_bytes [] j more free = refl
 fed_bytes (c ∷ text) j more free = fed_byte j c (text ++ more) free ∙ fed_bytes text (after_byte j c) more (free_byte j c free)
@@ -212,18 +211,12 @@ starts text = refl
 pub begins_so : (text more : List ℕ) → verdict_of (text ++ more) ≡ verdict_behind (after_bytes nothing_judged text) more
 begins_so text more = starts (text ++ more) ∙ fed_bytes text nothing_judged more refl
 
-closed : (j : Judged) → has_none j.rest ≡ true → verdict_behind j [] ≡ verdict j.standing j.rest
+closed : (j : Judged) → has_no_feed j.rest ≡ true → verdict_behind j [] ≡ verdict j.standing j.rest
 unfolding verdict_behind after_lines
 closed j free = ap (λ (k : Cut). verdict (after_lines j.standing k.lines) k.rest) (ap cut (append-nil j.rest) ∙ cut-rest j.rest free)
 
 pub ends_so : (text : List ℕ) → verdict_of text ≡ verdict (after_bytes nothing_judged text).standing (after_bytes nothing_judged text).rest
 ends_so text = ap verdict_of (sym (append-nil text)) ∙ begins_so text [] ∙ closed (after_bytes nothing_judged text) (free_bytes text nothing_judged refl)
-
--- byte by byte is one after the other
-pub after-snoc : (text : List ℕ) (j : Judged) (c : ℕ) → after_bytes j (text ++ c ∷ []) ≡ after_byte (after_bytes j text) c
-unfolding after_bytes
-after-snoc [] j c = refl
-after-snoc (d ∷ text) j c = after-snoc text (after_byte j d) c
 
 -- a refusal stays, byte by byte
 pub byte_stays : (j : Judged) (c : ℕ) → is_refused j.standing ≡ true → j ≡ after_byte j c
@@ -239,7 +232,7 @@ refused_on (c ∷ text) j is = ap (λ (k : Judged). is_refused (after_bytes k te
 abbrev Leads : Judged → ℕ → List ℕ → Judged → Type 0
 Leads j c text k = is_refused (after_bytes k text).standing ≡ false → after_lines j.standing (cut (j.rest ++ c ∷ text)).lines ≡ after_lines k.standing (cut (k.rest ++ text)).lines
 
-over_refuses : (x : Standing) → is_refused (overlong x) ≡ true
+pub over_refuses : (x : Standing) → is_refused (overlong x) ≡ true
 over_refuses heading = refl
 over_refuses (going p s n) = refl
 over_refuses (ended n) = refl
@@ -251,7 +244,7 @@ never j text is other = no (sym (refused_on text j is) ∙ other)
     no : {P : Type 0} → true ≡ false → P
     no e = absurd cc
 
-leads_byte : (j : Judged) (c : ℕ) (text : List ℕ) → has_none j.rest ≡ true → Leads j c text (after_byte j c)
+leads_byte : (j : Judged) (c : ℕ) (text : List ℕ) → has_no_feed j.rest ≡ true → Leads j c text (after_byte j c)
 unfolding after_byte after_lines
 leads_byte j c text free = by (is_refused j.standing) refl
   where
@@ -268,7 +261,7 @@ leads_byte j c text free = by (is_refused j.standing) refl
     by true is open_still = never j text is open_still
     by false is open_still = line (c == 10) refl open_still
 
-lines_so : (text : List ℕ) (j : Judged) → has_none j.rest ≡ true → is_refused (after_bytes j text).standing ≡ false → after_lines j.standing (cut (j.rest ++ text)).lines ≡ (after_bytes j text).standing
+lines_so : (text : List ℕ) (j : Judged) → has_no_feed j.rest ≡ true → is_refused (after_bytes j text).standing ≡ false → after_lines j.standing (cut (j.rest ++ text)).lines ≡ (after_bytes j text).standing
 unfolding after_bytes after_lines
 lines_so [] j free open_still = ap (λ (k : Cut). after_lines j.standing k.lines) (ap cut (append-nil j.rest) ∙ cut-rest j.rest free)
 lines_so (c ∷ text) j free open_still = leads_byte j c text free open_still ∙ lines_so text (after_byte j c) (free_byte j c free) open_still

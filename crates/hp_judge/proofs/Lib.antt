@@ -1,4 +1,6 @@
 mod Lines
 mod Bytes
 mod Telling
+mod Feeds
+mod Taking
 mod Verdicts

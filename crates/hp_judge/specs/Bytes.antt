@@ -1,5 +1,5 @@
 -- How far a text has led, byte by byte (own rules).
-use Rattle.std.specs.Prelude.{ℕ, Bool, true, false, ◌+◌, ◌==◌, nat_lt, List, [], ◌∷◌, ◌++◌, length, Result, if◌then◌else◌}
+use Rattle.std.specs.Prelude.{◌≡◌, ℕ, Bool, true, false, not, ◌&&◌, ◌+◌, ◌==◌, ◌<◌, nat_lt, List, [], ◌∷◌, ◌++◌, length, take, drop, Result, if◌then◌else◌}
 use Rattle.hp_reading.specs.Fault.{Fault, Line, End}
 use Rattle.hp_reading.specs.Trace.{cut}
 use Rattle.hp_judge.specs.Standing.{Standing, heading, going, ended, refused, refusing, is_refused, after_line, after_lines, verdict}
@@ -37,6 +37,17 @@ after_byte j c =
 unfoldable pub after_bytes : Judged → List ℕ → Judged
 after_bytes j [] = j
 after_bytes j (c ∷ text) = after_bytes (after_byte j c) text
+
+-- no line feed is among these bytes
+abbrev pub has_no_feed : List ℕ → Bool
+has_no_feed [] = true
+has_no_feed (c ∷ text) = not (c == 10) && has_no_feed text
+
+-- the first line feed of the text stands there
+pub record IsFeed (text : List ℕ) (at : ℕ) : Type 0 where
+  pub inside : at < length text
+  pub free : has_no_feed (take at text) ≡ true
+  pub feed : drop at text ≡ 10 ∷ drop (at + 1) text
 
 -- what is judged where this text follows
 unfoldable pub verdict_behind : Judged → List ℕ → Result ℕ Fault

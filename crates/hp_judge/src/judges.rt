@@ -1,13 +1,15 @@
 //! A judge of a trace's text, which is given it in pieces.
 
-ghost use Rattle.std.specs.Prelude.{◌≡◌, ℕ, false, List, [], ◌∷◌, ◌++◌, IfOk, IfSome, None, OnErr, Some};
-ghost use Rattle.hp_judge.specs.Judging.{Feeds, Judges, fault_told};
+ghost use Rattle.std.specs.Prelude.{◌≡◌, ℕ, true, false, List, [], ◌∷◌, ◌++◌, IfOk, IfSome, None, OnErr, Some};
+ghost use Rattle.hp_judge.specs.Bytes.{has_no_feed};
+ghost use Rattle.hp_judge.specs.Judging.{Feeds, HasFront, Judges, fault_told};
 ghost use Rattle.hp_judge.specs.Standing.{heading, is_refused, after_lines};
 ghost use Rattle.hp_reading.specs.Fault.{fault_of};
 ghost use Rattle.hp_reading.specs.Trace.{cut};
 
+use crate::pieces::{line_feed, note};
 use crate::refusals::{Refusal, Stop};
-use crate::stages::{Stage, close, take_byte};
+use crate::stages::{LONGEST, Stage, close, end_kept, end_line, keep};
 use hp_exact::runs_are_safe;
 use hp_model::NoMemory;
 use http_server::Log;
@@ -51,14 +53,42 @@ impl Judge {
         }
     }
 
-    /// Takes the next byte. After `NoMemory` it isn't taken.
-    fn take(&mut self, byte: u8) -> Result<(), NoMemory>
-        ensures taken { IfOk result (λ _. self.new ≡ self.old ++ byte ∷ []) }
+    /// Takes bytes of a line that they don't end. After `NoMemory` they aren't taken.
+    fn take_part(&mut self, bytes: &[u8]) -> Result<(), NoMemory>
+        requires { has_no_feed bytes.now ≡ true }
+        ensures taken { IfOk result (λ _. self.new ≡ self.old ++ bytes.now) }
         ensures no_memory { OnErr result (self.new ≡ self.old) }
     {
-        take_byte(self.alloc, &mut self.stage, &mut self.rest, byte)?;
-        self.taken = self.taken.and(&byte, &());
+        keep(&mut self.stage, &mut self.rest, bytes)?;
+        note(&mut self.taken, bytes);
         Ok(())
+    }
+
+    /// Takes the line feed behind the bytes that are kept. After `NoMemory` it isn't taken.
+    fn take_feed(&mut self) -> Result<(), NoMemory>
+        ensures taken { IfOk result (λ _. self.new ≡ self.old ++ 10 ∷ []) }
+        ensures no_memory { OnErr result (self.new ≡ self.old) }
+    {
+        end_kept(self.alloc, &mut self.stage, &mut self.rest)?;
+        self.taken = self.taken.and(&b'\n', &());
+        Ok(())
+    }
+
+    /// Takes the bytes up to a line feed, and it. After `NoMemory` bytes at their front were taken and those behind them weren't.
+    fn take_line(&mut self, line: &[u8]) -> Result<(), NoMemory>
+        requires { has_no_feed line.now ≡ true }
+        ensures taken { IfOk result (λ _. self.new ≡ self.old ++ (line.now ++ 10 ∷ [])) }
+        ensures no_memory { OnErr result (HasFront self.old (line.now ++ 10 ∷ []) self.new) }
+    {
+        if self.rest.as_slice().is_empty() && line.len() <= LONGEST {
+            // The line lies in the piece whole: none of its bytes is copied.
+            end_line(self.alloc, &mut self.stage, line)?;
+            note(&mut self.taken, line);
+            note(&mut self.taken, b"\n");
+            return Ok(());
+        }
+        self.take_part(line)?;
+        self.take_feed()
     }
 
     /// The first line at fault, if it is found already.
@@ -78,11 +108,19 @@ impl Judge {
     pub fn feed(&mut self, bytes: &[u8]) -> Result<(), Stop>
         ensures { Feeds self.old bytes.now self.new result }
     {
-        for byte in bytes {
-            match self.take(*byte) {
+        let mut left = bytes;
+        'lines: while let Some(at) = line_feed(left) {
+            let (line, more) = left.split_at(at);
+            match self.take_line(line) {
                 Ok(()) => {}
                 Err(NoMemory) => return Err(Stop::NoMemory),
             }
+            let (_, more) = more.split_at(1);
+            left = more;
+        }
+        match self.take_part(left) {
+            Ok(()) => {}
+            Err(NoMemory) => return Err(Stop::NoMemory),
         }
         match self.refusal() {
             Some(refusal) => Err(Stop::Refused(refusal)),

@@ -3,6 +3,7 @@
 
 mod judges;
 mod laws;
+mod pieces;
 mod refusals;
 mod stages;
 

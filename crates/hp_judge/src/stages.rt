@@ -1,8 +1,8 @@
 //! How far a text has led.
 
-ghost use Rattle.std.specs.Prelude.{◌≡◌, ◌+◌, false, Err, IfOk, OnErr};
+ghost use Rattle.std.specs.Prelude.{◌≡◌, ◌+◌, true, false, Err, IfOk, OnErr};
 ghost use Rattle.hp_reading.specs.Header.{head_of};
-ghost use Rattle.hp_judge.specs.Bytes.{after_byte, overlong};
+ghost use Rattle.hp_judge.specs.Bytes.{after_byte, after_bytes, has_no_feed, overlong};
 ghost use Rattle.hp_judge.specs.Judging.{cause_of, fault_told};
 ghost use Rattle.hp_judge.specs.Stages.{IsCounted, IsHeld, Tells, end_by, judged, standing, told_by};
 ghost use Rattle.hp_judge.specs.Standing.{after_line, by_end, by_head, is_refused as is_over, refused as refused_at, refusing, verdict, without_end};
@@ -14,7 +14,7 @@ use hp_reading::{end_number, headers_are_read_as_spelled, read_entry, read_head}
 use std::alloc::Global;
 
 /// No line of the grammar has so many bytes.
-const LONGEST: usize = 12288;
+pub(crate) const LONGEST: usize = 12288;
 
 /// How far the lines have led that have ended.
 #[derive(Drop)]
@@ -69,6 +69,18 @@ fn headed(alloc: Global, line: &[u8]) -> Result<Stage, NoMemory>
     }
 }
 
+/// Line 1 has ended. That is once a text, and a function of its own keeps its locals out of what each line goes through.
+#[inline(never)]
+fn begin(alloc: Global, stage: &mut Stage, line: &[u8]) -> Result<(), NoMemory>
+    requires { IsHeld stage.old }
+    ensures held { IsHeld stage.new }
+    ensures led { IfOk result (λ _. standing stage.new ≡ by_head (head_of line.now)) }
+    ensures no_memory { OnErr result (stage.new ≡ stage.old) }
+{
+    *stage = headed(alloc, line)?;
+    Ok(())
+}
+
 /// Why a line that is no entry's isn't the end line of so many entries; None where it is.
 fn end_fault(entries: u64, number: Option<u64>) -> Option<Why>
     ensures { end_by entries result ≡ by_end entries number }
@@ -106,28 +118,46 @@ fn tell(walk: &mut Walk, entries: u64, line: &[u8]) -> Result<Told, NoMemory>
     }
 }
 
+/// The line behind so many entries is the end line, or at fault. That too is once a text.
+#[inline(never)]
+fn settle(stage: &mut Stage, entries: u64, fault: Option<Why>)
+    requires { IsCounted entries }
+    ensures held { IsHeld stage.new }
+    ensures led { standing stage.new ≡ end_by entries fault }
+{
+    *stage = match fault {
+        Some(why) => Stage::Refused(behind(entries, why)),
+        None => Stage::Ended(entries),
+    };
+}
+
 /// A line has ended.
 #[tactic(auto, unfolding(crate::specs::Standing::after_line))]
-fn end_line(alloc: Global, stage: &mut Stage, line: &[u8]) -> Result<(), NoMemory>
+pub(crate) fn end_line(alloc: Global, stage: &mut Stage, line: &[u8]) -> Result<(), NoMemory>
     requires { IsHeld stage.old }
     ensures held { IsHeld stage.new }
     ensures led { IfOk result (λ _. standing stage.new ≡ after_line (standing stage.old) line.now) }
     ensures no_memory { OnErr result (stage.new ≡ stage.old) }
 {
-    let next = match stage {
-        Stage::Heading => headed(alloc, line)?,
+    match stage {
+        Stage::Heading => begin(alloc, stage, line)?,
         Stage::Going(walk, entries) => match tell(walk, *entries, line)? {
-            Told::Step => {
-                *entries += 1;
-                return Ok(());
+            Told::Step => *entries += 1,
+            Told::Last => {
+                let before = *entries;
+                settle(stage, before, None);
             }
-            Told::Last => Stage::Ended(*entries),
-            Told::Fault(why) => Stage::Refused(behind(*entries, why)),
+            Told::Fault(why) => {
+                let before = *entries;
+                settle(stage, before, Some(why));
+            }
         },
-        Stage::Ended(entries) => Stage::Refused(behind(*entries, Why::End)),
-        Stage::Refused(_) => return Ok(()),
-    };
-    *stage = next;
+        Stage::Ended(entries) => {
+            let before = *entries;
+            settle(stage, before, Some(Why::End));
+        }
+        Stage::Refused(_) => {}
+    }
     Ok(())
 }
 
@@ -154,30 +184,38 @@ fn is_refused(stage: &Stage) -> bool
     matches!(stage, Stage::Refused(_))
 }
 
-/// Takes the next byte of the text, behind these bytes of a line that hasn't ended. After `NoMemory` nothing has changed.
-pub(crate) fn take_byte(
-    alloc: Global,
-    stage: &mut Stage,
-    rest: &mut Vec<u8>,
-    byte: u8,
-) -> Result<(), NoMemory>
-    requires { IsHeld stage.old }
+/// Takes bytes of a line that they don't end, behind those that are kept of it. After `NoMemory` nothing has changed.
+pub(crate) fn keep(stage: &mut Stage, rest: &mut Vec<u8>, bytes: &[u8]) -> Result<(), NoMemory>
+    requires held { IsHeld stage.old }
+    requires free { has_no_feed bytes.now ≡ true }
     ensures held { IsHeld stage.new }
-    ensures led { IfOk result (λ _. judged stage.new rest.new.items ≡ after_byte (judged stage.old rest.old.items) byte) }
+    ensures led { IfOk result (λ _. judged stage.new rest.new.items ≡ after_bytes (judged stage.old rest.old.items) bytes.now) }
     ensures no_memory { OnErr result ((stage.new ≡ stage.old) × (rest.new.items ≡ rest.old.items)) }
 {
     if is_refused(stage) {
         return Ok(());
     }
-    if byte == b'\n' {
-        end_line(alloc, stage, rest.as_slice())?;
-        rest.clear();
-    } else if rest.as_slice().len() < LONGEST {
-        rest.push(byte)?;
+    if bytes.len() <= LONGEST.saturating_sub(rest.as_slice().len()) {
+        rest.extend_from_slice(bytes)?;
     } else {
         *stage = over(stage);
         rest.clear();
     }
+    Ok(())
+}
+
+/// Takes the line feed behind the bytes that are kept. After `NoMemory` nothing has changed.
+pub(crate) fn end_kept(alloc: Global, stage: &mut Stage, rest: &mut Vec<u8>) -> Result<(), NoMemory>
+    requires { IsHeld stage.old }
+    ensures held { IsHeld stage.new }
+    ensures led { IfOk result (λ _. judged stage.new rest.new.items ≡ after_byte (judged stage.old rest.old.items) 10) }
+    ensures no_memory { OnErr result ((stage.new ≡ stage.old) × (rest.new.items ≡ rest.old.items)) }
+{
+    if is_refused(stage) {
+        return Ok(());
+    }
+    end_line(alloc, stage, rest.as_slice())?;
+    rest.clear();
     Ok(())
 }
 

@@ -2,6 +2,7 @@ pub mod Digits
 pub mod HexText
 pub mod Decimals
 pub mod Front
+pub mod Words
 pub mod Filled
 pub mod Rows
 pub mod Widths

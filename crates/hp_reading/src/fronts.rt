@@ -3,22 +3,23 @@
 ghost use Rattle.std.specs.Prelude.{◌≡◌, ◌≤◌, ◌<◌, ◌^◌, length, IfSome, option_map};
 ghost use Rattle.hp_reading.specs.Forms.{past as text_past, hex_digit, hex_onto, hex_front, is_decimal as decimal_digit, decimal_onto, decimal_front};
 
-/// What follows a word at the front of the text.
-#[tactic(auto, unfolding(crate::specs::Forms::past))]
+/// What follows a word at the front of the text. It is inlined where the word is written, so that its bytes are compared one after the
+/// other with no loop: most words that a line is tried against differ in their first byte.
+#[inline(always)]
+#[tactic(auto, using(crate::proofs::Words::word_steps))]
 pub fn past<'a>(text: &'a [u8], word: &[u8]) -> Option<&'a [u8]>
     ensures { option_map (λ rest. rest.now) result ≡ text_past word.now text.now }
 {
-    match word {
-        [] => Some(text),
-        [first, others @ ..] => match text {
-            [byte, rest @ ..] => if *first == *byte {
-                past(rest, others)
-            } else {
-                None
-            },
-            [] => None,
-        },
+    if text.len() < word.len() {
+        return None;
     }
+    for at in 0..word.len() {
+        if text[at] != word[at] {
+            return None;
+        }
+    }
+    let (_, rest) = text.split_at(word.len());
+    Some(rest)
 }
 
 fn digit_of(byte: u8) -> Option<u8>
@@ -71,23 +72,26 @@ fn is_decimal(byte: u8) -> bool
 }
 
 /// Further digits, read onto the value of those before them.
+#[tactic(auto, using(crate::proofs::Digits::decimal_steps))]
 fn onto(text: &[u8], most: u64, value: u64) -> Option<(u64, &[u8])>
     requires { value ≤ most }
     ensures value { option_map (λ p. (p.0, p.1.now)) result ≡ decimal_onto most value text.now }
     ensures small { IfSome result (λ p. p.0 ≤ most) }
 {
-    let [first, rest @ ..] = text else {
-        return Some((value, text));
-    };
-    if !is_decimal(*first) {
-        return Some((value, text));
+    let mut made = value;
+    for at in 0..text.len() {
+        if !is_decimal(text[at]) {
+            let (_, rest) = text.split_at(at);
+            return Some((made, rest));
+        }
+        let more = made as u128 * 10 + (text[at] - b'0') as u128;
+        if more > most as u128 {
+            return None;
+        }
+        made = more as u64;
     }
-    let more = value as u128 * 10 + (*first - b'0') as u128;
-    if more <= most as u128 {
-        onto(rest, most, more as u64)
-    } else {
-        None
-    }
+    let (_, rest) = text.split_at(text.len());
+    Some((made, rest))
 }
 
 /// The decimal number without leading zeros at the front, which is at most `most`, and what follows it.

@@ -1,6 +1,10 @@
--- So many bytes were taken.
-use Rattle.std.proofs.Common.{◌≡◌, ◌++◌, take}
+-- So many bytes at the front were taken, and the others are left.
+use Rattle.std.proofs.Common.{length}
+use Rattle.hp_judge.proofs.Taking.{HasTaken}
 use Rattle.hp_judge.proofs.judges.Judge.feed.Given as goal
 
-abbrev pub invariant-loop-byte : goal.invariant-loop-byte
-invariant-loop-byte l = l.self ≡ l.fn.self ++ take l.byte-index l.bytes
+abbrev pub invariant-lines : goal.invariant-lines
+invariant-lines l = HasTaken l.fn.self l.bytes l.self l.left
+
+abbrev pub decreases-lines : goal.decreases-lines
+decreases-lines l = length l.left
